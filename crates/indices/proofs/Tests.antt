@@ -1,0 +1,156 @@
+-- Laws of `any`, `all`, `count` and `lead`, in the forms that a loop asks: no index, one index more, a stop, the end. Assumes nothing.
+use Prim.Native.Nat.{ℕ, zero, suc, _+_, _<_, _≤_}
+use mathlib.Core.Bool.{Bool, true, false, cond, _&&_, _||_, not, true≢false, or-true}
+use mathlib.Core.Path.{_≡_, refl, sym, ap, subst, _∙_}
+use mathlib.Core.Logic.{⊎-elim}
+use native.Mathlib.Nat.{eq-or-lt-of-le, le-of-suc-le-suc, not-suc-le-zero}
+use native.Mathlib.Numerals.{add-one}
+use native.Mathlib.Omega.{arith}
+use Rattle.indices.specs.Tests.{all, any, count, lead}
+
+-- TRUTH VALUES
+pub or-left : (a b : Bool) → a || b ≡ false → a ≡ false
+or-left true b e = e
+or-left false b e = refl
+
+pub or-right : (a b : Bool) → a || b ≡ false → b ≡ false
+or-right true b e = absurd (true≢false e)
+or-right false b e = e
+
+pub or-first : (a b : Bool) → a ≡ true → a || b ≡ true
+or-first a b e = rw e
+
+pub or-second : (a b c : Bool) → a ≡ false → b ≡ c → a || b ≡ c
+or-second a b c e h = rw e h
+
+pub and-left : (a b : Bool) → a && b ≡ true → a ≡ true
+and-left true b e = refl
+and-left false b e = e
+
+pub and-right : (a b : Bool) → a && b ≡ true → b ≡ true
+and-right true b e = e
+and-right false b e = absurd (true≢false (sym e))
+
+-- ANY
+pub any-none : (p : ℕ → Bool) → any p 0 ≡ false
+unfolding any
+any-none p = refl
+
+pub any-more : (p : ℕ → Bool) (i : ℕ) → any p i ≡ false → p i ≡ false → any p (i + 1) ≡ false
+unfolding any
+any-more p i before here = rw (add-one, any, before, here)
+
+pub any-hit : (p : ℕ → Bool) (i n : ℕ) → i < n → p i ≡ true → any p n ≡ true
+unfolding any
+any-hit p i zero l h = absurd (not-suc-le-zero l)
+any-hit p i (suc n) l h = ⊎-elim (λ e. rw (← e, h, or-true)) (λ lt. rw (any-hit p i n lt h)) (eq-or-lt-of-le (le-of-suc-le-suc l))
+
+pub any-end : (p : ℕ → Bool) (i n : ℕ) → i ≡ n → any p i ≡ false → any p n ≡ false
+any-end p i n e h = rw (← e) h
+
+-- what no index passes, a given index does not
+pub any-at : (p : ℕ → Bool) (n i : ℕ) → any p n ≡ false → i < n → p i ≡ false
+unfolding any
+any-at p zero i e l = absurd (not-suc-le-zero l)
+any-at p (suc n) i e l =
+    ⊎-elim (λ q. rw (q) (or-right (any p n) (p n) e)) (λ lt. any-at p n i (or-left (any p n) (p n) e) lt)
+    (eq-or-lt-of-le (le-of-suc-le-suc l))
+
+-- none passes if each does not
+pub any-false : (p : ℕ → Bool) (n : ℕ) → ((i : ℕ) → i < n → p i ≡ false) → any p n ≡ false
+unfolding any
+any-false p zero h = refl
+any-false p (suc n) h = rw (any-false p n (λ i l. h i (omega arith))) (h n (omega arith))
+
+-- ALL
+pub all-at : (p : ℕ → Bool) (n i : ℕ) → all p n ≡ true → i < n → p i ≡ true
+unfolding all
+all-at p zero i e l = absurd (not-suc-le-zero l)
+all-at p (suc n) i e l =
+    ⊎-elim (λ q. rw (q) (and-right (all p n) (p n) e)) (λ lt. all-at p n i (and-left (all p n) (p n) e) lt)
+    (eq-or-lt-of-le (le-of-suc-le-suc l))
+
+pub all-true : (p : ℕ → Bool) (n : ℕ) → ((i : ℕ) → i < n → p i ≡ true) → all p n ≡ true
+unfolding all
+all-true p zero h = refl
+all-true p (suc n) h = rw (all-true p n (λ i l. h i (omega arith))) (h n (omega arith))
+
+-- COUNT
+pub count-none : (p : ℕ → Bool) → count p 0 ≡ 0
+unfolding count
+count-none p = refl
+
+pub count-in : (p : ℕ → Bool) (i : ℕ) → p i ≡ true → count p (i + 1) ≡ count p i + 1
+unfolding count
+count-in p i h = rw (add-one i, count, h)
+
+pub count-out : (p : ℕ → Bool) (i : ℕ) → p i ≡ false → count p (i + 1) ≡ count p i
+unfolding count
+count-out p i h = rw (add-one i, count, h) (omega arith)
+
+pub count-mono : (p : ℕ → Bool) (i n : ℕ) → i ≤ n → count p i ≤ count p n
+unfolding count
+count-mono p i zero l = rw (let e : i ≡ 0 = omega arith in e) (omega arith)
+count-mono p i (suc n) l =
+    ⊎-elim (λ e. rw e (omega arith))
+    (λ lt. let h : count p i ≤ count p n = count-mono p i n (le-of-suc-le-suc lt) in omega arith)
+    (eq-or-lt-of-le l)
+
+pub count-le : (p : ℕ → Bool) (n : ℕ) → count p n ≤ n
+unfolding count
+count-le p zero = omega arith
+count-le p (suc n) = at (p n) (count-le p n)
+  where
+    at : (b : Bool) → count p n ≤ n → count p n + cond b 1 0 ≤ suc n
+    at true l = omega arith
+    at false l = omega arith
+
+-- an index that passes is counted
+pub count-hit : (p : ℕ → Bool) (i n : ℕ) → i < n → p i ≡ true → 0 < count p n
+count-hit p i n l h = omega (arith, count-in p i h, count-mono p (i + 1) n (omega arith))
+
+-- LEAD
+pub lead-none : (p : ℕ → Bool) → lead p 0 ≡ 0
+unfolding lead
+lead-none p = refl
+
+suc≢zero : (n : ℕ) → suc n ≡ 0 → ⊥
+suc≢zero n e = omega arith
+
+head-true : (b : Bool) (k i : ℕ) → cond b (suc k) 0 ≡ suc i → b ≡ true
+head-true true k i e = refl
+head-true false k i e = absurd (suc≢zero i (sym e))
+
+head-rest : (b : Bool) (k i : ℕ) → cond b (suc k) 0 ≡ suc i → k ≡ i
+head-rest true k i e = omega arith
+head-rest false k i e = absurd (suc≢zero i (sym e))
+
+lead-suc : (p : ℕ → Bool) (i : ℕ) → lead p i ≡ i → p i ≡ true → lead p (suc i) ≡ suc i
+unfolding lead
+lead-suc p zero e h = rw h
+lead-suc p (suc i) e h =
+    rw (head-true (p 0) (lead (λ k. p (suc k)) i) i e)
+    (ap suc (lead-suc (λ k. p (suc k)) i (head-rest (p 0) (lead (λ k. p (suc k)) i) i e) h))
+
+pub lead-more : (p : ℕ → Bool) (i : ℕ) → lead p i ≡ i → p i ≡ true → lead p (i + 1) ≡ i + 1
+lead-more p i e h = rw (add-one i) (lead-suc p i e h)
+
+pub lead-stop : (p : ℕ → Bool) (i n : ℕ) → i < n → lead p i ≡ i → p i ≡ false → lead p n ≡ i
+unfolding lead
+lead-stop p i zero l e h = absurd (not-suc-le-zero l)
+lead-stop p zero (suc n) l e h = rw h
+lead-stop p (suc i) (suc n) l e h =
+    rw (head-true (p 0) (lead (λ k. p (suc k)) i) i e)
+    (ap suc (lead-stop (λ k. p (suc k)) i n (le-of-suc-le-suc l) (head-rest (p 0) (lead (λ k. p (suc k)) i) i e) h))
+
+pub lead-end : (p : ℕ → Bool) (i n : ℕ) → i ≡ n → lead p i ≡ i → lead p n ≡ i
+lead-end p i n e h = rw (← e) h
+
+pub lead-le : (p : ℕ → Bool) (n : ℕ) → lead p n ≤ n
+unfolding lead
+lead-le p zero = omega arith
+lead-le p (suc n) = at (p 0) (lead-le (λ k. p (suc k)) n)
+  where
+    at : (b : Bool) → lead (λ k. p (suc k)) n ≤ n → cond b (suc (lead (λ k. p (suc k)) n)) 0 ≤ suc n
+    at true l = omega arith
+    at false l = omega arith

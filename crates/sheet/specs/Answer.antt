@@ -1,0 +1,36 @@
+-- What a call answers, in the paper's terms. Definitions; assumes nothing.
+use Prim.Native.Nat.{ℕ}
+use mathlib.Core.List.{List, [], _∷_}
+use mathlib.Core.Bool.{Bool, cond}
+use Rattle.sheet.specs.declared.Fault.{Fault}
+use Rattle.sheet.specs.declared.Fault.the-variants.{Input, State}
+
+-- "An answer to a call says whether input or state was at fault, and the number alone."
+pub data Refusal : Type 0 where
+  input : ℕ → Refusal
+  state : ℕ → Refusal
+
+-- what each case of a fault says
+abbrev pub refusalOf : Fault → Refusal
+refusalOf (Input n) = input n
+refusalOf (State n) = state n
+
+-- "A good sheet is answered 'accepted' by the judge"
+pub data Answer : Type 0 where
+  accepted : Answer
+  refused : Refusal → Answer
+
+-- a refusal, and whether it applies
+pub record Case : Type 0 where
+  pub refusal : Refusal
+  pub applies : Bool
+
+infix 70 _when_
+abbrev pub _when_ : Refusal → Bool → Case
+r when b = record { refusal = r; applies = b }
+
+-- "The lowest number that applies is given; a later one is looked at only when no earlier one applies."
+-- The cases stand in the order in which they are looked at; where none applies the call is answered.
+abbrev pub lowest : List Case → Answer → Answer
+lowest [] answer = answer
+lowest (c ∷ cs) answer = cond (c .applies) (refused (c .refusal)) (lowest cs answer)

@@ -1,0 +1,33 @@
+-- The limits of a sheet, each a named number. Definitions; assumes nothing.
+use Prim.Native.Nat.{ℕ}
+
+-- "Byte count not a multiple of 4, or above 32,828."
+abbrev pub mostBytes : ℕ
+mostBytes = 32828
+
+-- "the node count n, 1 to 1,024"
+abbrev pub mostNodes : ℕ
+mostNodes = 1024
+
+-- "kind 3, up to 15 times: the span, 1 to 1,000,000"
+abbrev pub mostSpans : ℕ
+mostSpans = 15
+
+abbrev pub mostSpan : ℕ
+mostSpan = 1000000
+
+-- "kinds 4 and 5 in pairs, up to 2,048 pairs, one arc each"
+abbrev pub mostArcs : ℕ
+mostArcs = 2048
+
+-- "Kind 5: the length in hundredths of a second, 0 to 262,143"
+abbrev pub mostLength : ℕ
+mostLength = 262143
+
+-- "A node with more than two outgoing or more than two incoming arcs."
+abbrev pub mostArcsEachWay : ℕ
+mostArcsEachWay = 2
+
+-- "kinds 6 and 7 in any mixture, up to 4,094"
+abbrev pub mostRegionWords : ℕ
+mostRegionWords = 4094

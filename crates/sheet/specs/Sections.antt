@@ -1,0 +1,51 @@
+-- The sections of a sheet, each found where the one before it ends: node count and source, spans, arcs, region words. Definitions; assumes nothing.
+use Prim.Native.Nat.{ℕ, _+_, _-_, _*_, _/_}
+use mathlib.Core.List.{List}
+use mathlib.Core.Bool.{Bool, _&&_}
+use lib.ListN.{drop}
+use lib.Dec.{eqb}
+use Rattle.indices.specs.Tests.{lead}
+use Rattle.sheet.specs.Words.{words, kind, payload}
+
+-- "kind 1, once: the node count n"
+abbrev pub nodeCount : List ℕ → ℕ
+nodeCount b = payload b 0
+
+-- "kind 2, once: the source node"
+abbrev pub source : List ℕ → ℕ
+source b = payload b 1
+
+-- "kind 3, up to 15 times: the span, for heights 1, 2, 3 and so on": the words of kind 3 that stand from word i on
+abbrev pub isSpan : List ℕ → ℕ → ℕ → Bool
+isSpan b i k = eqb (kind b (i + k)) 3
+
+unfoldable pub spansFrom : List ℕ → ℕ → ℕ
+spansFrom b i = lead (isSpan b i) (words b - i)
+
+abbrev pub spanCount : List ℕ → ℕ
+spanCount b = spansFrom b 2
+
+-- the span at place k, which is for height k + 1
+abbrev pub span : List ℕ → ℕ → ℕ
+span b k = payload b (2 + k)
+
+-- "kinds 4 and 5 in pairs, one arc each": the pairs that stand from word i on
+abbrev pub isArc : List ℕ → ℕ → ℕ → Bool
+isArc b i a = eqb (kind b (i + 2 * a)) 4 && eqb (kind b (i + 2 * a + 1)) 5
+
+unfoldable pub arcsFrom : List ℕ → ℕ → ℕ
+arcsFrom b i = lead (isArc b i) ((words b - i) / 2)
+
+-- the word of arc 0, and how many arcs there are
+abbrev pub arcsAt : List ℕ → ℕ
+arcsAt b = 2 + spanCount b
+
+abbrev pub arcCount : List ℕ → ℕ
+arcCount b = arcsFrom b (arcsAt b)
+
+-- "The region words are the part of the sheet after the last arc."
+abbrev pub regionsAt : List ℕ → ℕ
+regionsAt b = arcsAt b + 2 * arcCount b
+
+unfoldable pub regionWords : List ℕ → List ℕ
+regionWords b = drop (4 * regionsAt b) b
