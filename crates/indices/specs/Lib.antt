@@ -1,2 +1,4 @@
 pub mod Tests
 pub mod Tally
+pub mod Steps
+pub mod Columns

@@ -8,14 +8,7 @@ use native.Mathlib.Omega.{arith}
 use lib.Dec.{eqb}
 use Rattle.indices.specs.Tests.{most}
 use Rattle.indices.proofs.Most.{most-ext, most-le, most-ge}
-use Rattle.sheet.specs.Heights.{heightIn, heightOf}
-
--- n regions, of which 0 has no parent among them and every other one a lower parent that is inner
-pub record Nesting (leaf : ℕ → Bool) (parent : ℕ → ℕ) (n : ℕ) : Type 0 where
-  pub root : 0 < n
-  pub alone : n ≤ parent 0
-  pub lower : (r : ℕ) → 0 < r → r < n → parent r < r
-  pub inner : (r : ℕ) → 0 < r → r < n → leaf (parent r) ≡ false
+use Rattle.sheet.specs.Heights.{Nesting, heightIn, heightOf}
 
 -- what is asked of a child only
 if-child : (b : Bool) (x y : ℕ) → (b ≡ true → x ≡ y) → cond b x 0 ≡ cond b y 0

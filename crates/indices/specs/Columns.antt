@@ -1,0 +1,13 @@
+-- Columns: lists of numbers, read by index. Definitions; assumes nothing.
+use Prim.Native.Nat.{ℕ, zero, suc}
+use mathlib.Core.List.{List, [], _∷_}
+use lib.ListN.{getD}
+
+-- the entry at i, as a slice is read
+abbrev pub at : List ℕ → ℕ → ℕ
+at column i = getD column i 0
+
+-- f 0, f 1, and so on up to f (n - 1)
+unfoldable pub column : ℕ → (ℕ → ℕ) → List ℕ
+column zero f = []
+column (suc n) f = f 0 ∷ column n (λ i. f (suc i))

@@ -1,0 +1,9 @@
+pub mod Graph
+pub mod Division
+pub mod OfSheet
+pub mod WellFormed
+pub mod State
+pub mod Queues
+pub mod Procedure
+pub mod Table
+pub mod Routes
