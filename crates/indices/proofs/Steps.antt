@@ -1,0 +1,132 @@
+-- Laws of `if_then_else_`, `upTo` and `times`, case splits on numbers and tests, and an entry after a store. Assumes nothing.
+use Prim.Native.Nat.{ℕ, zero, suc, _+_, _≤_, _<_}
+use native.Mathlib.Nat.{le-refl, le-suc, le-trans, lt-suc-self, zero-add, suc-add}
+use native.Mathlib.Omega.{arith}
+use mathlib.Core.Bool.{Bool, true, false, not, _&&_}
+use mathlib.Core.Path.{_≡_, refl, sym, ap, _∙_, subst}
+use mathlib.Core.Logic.{_≢_, _⊎_, inl, inr, ⊎-elim}
+use mathlib.Core.List.{List, [], _∷_}
+use lib.ListN.{length, getD, set}
+use lib.Seq.{getD-set-same, getD-set-other}
+use lib.Dec.{T, T-not, ltb, eqb, ltb→lt, nltb→le, eqb→eq, eqb-refl, lt→ltb}
+use Rattle.indices.specs.Steps.{if_then_else_, upTo, times}
+
+-- to prove P of an if, prove it of both branches, with the test's outcome in hand
+pub if-elim {ℓ κ} : {A : Type ℓ} (P : A → Type κ) (b : Bool) {x y : A} → (T b → P x) → (T (not b) → P y) → P (if b then x else y)
+if-elim P true f g = f tt
+if-elim P false f g = g tt
+
+-- the same where two tests are joined
+pub if-and-elim {ℓ κ} : {A : Type ℓ} (P : A → Type κ) (a b : Bool) {x y : A} → (T a → T b → P x) → (T a → T (not b) → P y) → (T (not a) → P y) → P (if a && b then x else y)
+if-and-elim P true true f g k = f tt tt
+if-and-elim P true false f g k = g tt tt
+if-and-elim P false b f g k = k tt
+
+pub if-true {ℓ} : {A : Type ℓ} (b : Bool) (x y : A) → T b → (if b then x else y) ≡ x
+if-true true x y t = refl
+if-true false x y t = absurd t
+
+pub if-false {ℓ} : {A : Type ℓ} (b : Bool) (x y : A) → T (not b) → (if b then x else y) ≡ y
+if-false true x y t = absurd t
+if-false false x y t = refl
+
+pub if-cong {ℓ} : {A : Type ℓ} (b : Bool) (x x′ y : A) → (T b → x ≡ x′) → (if b then x else y) ≡ (if b then x′ else y)
+if-cong true x x′ y e = e tt
+if-cong false x x′ y e = refl
+
+pub T-or : (b : Bool) → T b ⊎ T (not b)
+T-or true = inl tt
+T-or false = inr tt
+
+pub T-of : (b : Bool) → b ≡ true → T b
+T-of b e = subst T (sym e) tt
+
+pub neqb→ne : (m n : ℕ) → T (not (eqb m n)) → m ≢ n
+neqb→ne m n t e = go (eqb m n) t (subst (λ (x : ℕ). T (eqb m x)) e (eqb-refl m))
+  where
+    go : (b : Bool) → T (not b) → T b → ⊥
+    go true t u = t
+    go false t u = u
+
+pub ruleset tests = (ltb→lt, nltb→le, eqb→eq, neqb→ne)
+
+-- either way round of a test, for a case split in a proof
+pub eq-or-ne : (m n : ℕ) → (m ≡ n) ⊎ (m ≢ n)
+eq-or-ne m n = go (eqb m n) (λ t. eqb→eq m n t) (λ t. neqb→ne m n t)
+  where
+    go : (b : Bool) → (T b → m ≡ n) → (T (not b) → m ≢ n) → (m ≡ n) ⊎ (m ≢ n)
+    go true f g = inl (f tt)
+    go false f g = inr (g tt)
+
+pub lt-or-le : (m n : ℕ) → (m < n) ⊎ (n ≤ m)
+lt-or-le m n = ⊎-elim (λ (t : T (ltb m n)). inl (ltb→lt m n t)) (λ (t : T (not (ltb m n))). inr (nltb→le m n t)) (T-or (ltb m n))
+
+module _ {ℓ κ} {S : Type ℓ} where
+  pub upTo-keeps : (P : ℕ → S → Type κ) (f : ℕ → S → S) (s : S) (n : ℕ) → P zero s → ((i : ℕ) (t : S) → i < n → P i t → P (suc i) (f i t)) → P n (upTo n f s)
+  unfolding upTo
+  upTo-keeps P f s zero base step = base
+  upTo-keeps P f s (suc n) base step = step n (upTo n f s) (lt-suc-self n) (upTo-keeps P f s n base (λ i t l p. step i t (omega arith) p))
+
+  pub times-keeps : (P : S → Type κ) (test : S → Bool) (f : S → S) → ((s : S) → T (test s) → P s → P (f s)) → (n : ℕ) (s : S) → P s → P (times n test f s)
+  unfolding times
+  times-keeps P test f step zero s p = p
+  times-keeps P test f step (suc n) s p = if-elim P (test s) (λ t. times-keeps P test f step n (f s) (step s t p)) (λ t. p)
+
+  -- where the test holds at first, and f makes J of I or of J, the whole makes J
+  pub times-reach : (I J : S → Type κ) (test : S → Bool) (f : S → S) → ((s : S) → T (test s) → I s → J (f s)) → ((s : S) → J s → I s)
+      → (n : ℕ) (s : S) → zero < n → T (test s) → I s → J (times n test f s)
+  unfolding times
+  times-reach I J test f step weak zero s pos t p = absurd (omega arith)
+  times-reach I J test f step weak (suc n) s pos t p =
+      if-elim J (test s) (λ _. times-keeps J test f (λ s t j. step s t (weak s j)) n (f s) (step s t p)) (λ u. absurd (T-not (test s) u t))
+
+  -- Where f raises m by one or more, and the test still holds at the end, m was raised n times.
+  pub times-rise : (P : S → Type κ) (m : S → ℕ) (test : S → Bool) (f : S → S) → ((s : S) → T (test s) → P s → P (f s)) → ((s : S) → T (test s) → P s → m s < m (f s))
+      → (n : ℕ) (s : S) → P s → T (test (times n test f s)) → m s + n ≤ m (times n test f s)
+  unfolding times
+  times-rise P m test f keep rise zero s p = λ t. omega arith
+  times-rise P m test f keep rise (suc n) s p =
+      if-elim (λ (r : S). T (test r) → m s + suc n ≤ m r) (test s)
+      (λ go t. omega (arith, rise s go p, times-rise P m test f keep rise n (f s) (keep s go p) t)) (λ stop t. absurd (T-not (test s) stop t))
+
+module _ {ℓ} {S : Type ℓ} where
+  pub upTo-cong : (f g : ℕ → S → S) (s : S) (n : ℕ) → ((i : ℕ) (t : S) → i < n → f i t ≡ g i t) → upTo n f s ≡ upTo n g s
+  unfolding upTo
+  upTo-cong f g s zero e = refl
+  upTo-cong f g s (suc n) e = e n (upTo n f s) (lt-suc-self n) ∙ ap (g n) (upTo-cong f g s n (λ i t l. e i t (omega arith)))
+
+  -- once the test fails, more times change nothing
+  pub times-stop : (test : S → Bool) (f : S → S) (n : ℕ) (s : S) → T (not (test (times n test f s))) → (m : ℕ) → n ≤ m → times m test f s ≡ times n test f s
+  unfolding times
+  times-stop test f zero s t zero l = refl
+  times-stop test f zero s t (suc m) l = if-false (test s) _ _ t
+  times-stop test f (suc n) s t zero l = absurd (omega arith)
+  times-stop test f (suc n) s t (suc m) l = go (test s) (λ t. times-stop test f n (f s) t m (omega arith)) t
+    where
+      go : (b : Bool) → (T (not (test (times n test f (f s)))) → times m test f (f s) ≡ times n test f (f s))
+          → T (not (test (if b then times n test f (f s) else s))) → (if b then times m test f (f s) else s) ≡ (if b then times n test f (f s) else s)
+      go true ih t = ih t
+      go false ih t = refl
+
+  -- n times, and then m times more
+  pub times-add : (test : S → Bool) (f : S → S) (n m : ℕ) (s : S) → times (n + m) test f s ≡ times m test f (times n test f s)
+  unfolding times
+  times-add test f zero m s = rw (zero-add m)
+  times-add test f (suc n) m s = rw (suc-add n m) (go (times-add test f n m (f s)) (test s) refl)
+    where
+      stopped : (m : ℕ) → test s ≡ false → times m test f s ≡ s
+      stopped zero e = refl
+      stopped (suc m) e = rw e
+
+      go : times (n + m) test f (f s) ≡ times m test f (times n test f (f s)) → (b : Bool) → test s ≡ b
+          → (if b then times (n + m) test f (f s) else s) ≡ times m test f (if b then times n test f (f s) else s)
+      go ih true e = ih
+      go ih false e = sym (stopped m e)
+
+-- to prove P of an entry after a store, prove it of the value stored and of the entries that stay
+pub set-elim {κ} : (P : ℕ → Type κ) (l : List ℕ) (i j a d : ℕ) → i < length l → (j ≡ i → P a) → (j ≢ i → P (getD l j d)) → P (getD (set l i a) j d)
+set-elim P l i j a d li f g = go (eq-or-ne j i)
+  where
+    go : (j ≡ i) ⊎ (j ≢ i) → P (getD (set l i a) j d)
+    go (inl e) = rw (e, getD-set-same l i a d li) (f e)
+    go (inr n) = rw (getD-set-other l i j a d n) (g n)
