@@ -1,1 +1,3 @@
 pub mod Heights
+pub mod Bounds
+pub mod Regions

@@ -1,0 +1,44 @@
+-- `length_at` meets its contract: one read, inside the sheet. Assumes nothing.
+use Prim.Native.Nat.{ℕ, _+_, _*_}
+use mathlib.Core.Path.{ap, _∙_}
+use borrow.Author.Needs.{needs}
+use native.Mathlib.Omega.{arith}
+use Rattle.sheet.specs.Words.{payload}
+use Rattle.sheet.specs.Arcs.{arcLength}
+use Rattle.sheet.proofs.Bounds.{arc-inside}
+use Rattle.sheet.proofs.length_at.Statement.{statement}
+use Rattle.sheet.proofs.length_at.Tie as tie
+
+cast-i : tie.Need-cast-i
+cast-i c = search needs
+
+add-payload-at : tie.Need-add-payload-at
+add-payload-at c = omega (arith, arc-inside (c .before .before .before .args .s .now) (c .before .before .before .args .a .0) (c .before .before .before .pre .0 .front) (c .before .before .before .pre .1), c .before .before .before .pre .0 .spans-all)
+
+mul-payload-at : tie.Need-mul-payload-at
+mul-payload-at c = search needs
+
+add-payload-at-2 : tie.Need-add-payload-at-2
+add-payload-at-2 c = omega (arith, arc-inside (c .before .before .before .args .s .now) (c .before .before .before .args .a .0) (c .before .before .before .pre .0 .front) (c .before .before .before .pre .1), c .before .before .before .pre .0 .spans-all)
+
+add-payload-at-3 : tie.Need-add-payload-at-3
+add-payload-at-3 c = omega (arith, arc-inside (c .before .before .before .args .s .now) (c .before .before .before .args .a .0) (c .before .before .before .pre .0 .front) (c .before .before .before .pre .1), c .before .before .before .pre .0 .spans-all)
+
+payload-at-requires : tie.Need-payload-at-requires
+payload-at-requires c κs = omega (arith, arc-inside (c .before .before .before .args .s .now) (c .before .before .before .args .a .0) (c .before .before .before .pre .0 .front) (c .before .before .before .pre .1), c .before .before .before .pre .0 .spans-all)
+
+returns : tie.Need-returns
+unfolding arcLength
+returns c = c .payload-at .ensures ∙ ap (λ (n : ℕ). payload (c .before .before .before .before .args .s .now) (2 + n + 2 * (c .before .before .before .before .args .a .0) + 1)) (c .before .before .before .before .pre .0 .spans-all)
+
+pub length-at-spec : {M : Type 1} → statement M
+length-at-spec =
+    tie.close
+    (tie.spec
+    cast-i
+    add-payload-at
+    mul-payload-at
+    add-payload-at-2
+    add-payload-at-3
+    payload-at-requires
+    returns)
