@@ -12,19 +12,31 @@ cast-i : tie.Need-cast-i
 cast-i c = search needs
 
 add-payload-at : tie.Need-add-payload-at
-add-payload-at c = omega (arith, arc-inside (c .before .before .before .args .s .now) (c .before .before .before .args .a .0) (c .before .before .before .pre .0 .front) (c .before .before .before .pre .1), c .before .before .before .pre .0 .spans-all)
+add-payload-at c =
+    let args = c .before .before .before .args in
+    let pre = c .before .before .before .pre in
+    omega (arith, arc-inside (args .s .now) (args .a .0) (pre .0 .front) (pre .1), pre .0 .spans-all)
 
 mul-payload-at : tie.Need-mul-payload-at
 mul-payload-at c = search needs
 
 add-payload-at-2 : tie.Need-add-payload-at-2
-add-payload-at-2 c = omega (arith, arc-inside (c .before .before .before .args .s .now) (c .before .before .before .args .a .0) (c .before .before .before .pre .0 .front) (c .before .before .before .pre .1), c .before .before .before .pre .0 .spans-all)
+add-payload-at-2 c =
+    let args = c .before .before .before .args in
+    let pre = c .before .before .before .pre in
+    omega (arith, arc-inside (args .s .now) (args .a .0) (pre .0 .front) (pre .1), pre .0 .spans-all)
 
 payload-at-requires : tie.Need-payload-at-requires
-payload-at-requires c κs = omega (arith, arc-inside (c .before .before .before .args .s .now) (c .before .before .before .args .a .0) (c .before .before .before .pre .0 .front) (c .before .before .before .pre .1), c .before .before .before .pre .0 .spans-all)
+payload-at-requires c κs =
+    let args = c .before .before .before .args in
+    let pre = c .before .before .before .pre in
+    omega (arith, arc-inside (args .s .now) (args .a .0) (pre .0 .front) (pre .1), pre .0 .spans-all)
 
 returns : tie.Need-returns
-returns c = c .payload-at .ensures ∙ ap (λ (n : ℕ). payload (c .before .before .before .before .args .s .now) (2 + n + 2 * (c .before .before .before .before .args .a .0))) (c .before .before .before .before .pre .0 .spans-all)
+returns c =
+    let args = c .before .before .before .before .args in
+    let pre = c .before .before .before .before .pre in
+    c .payload-at .ensures ∙ ap (λ (n : ℕ). payload (args .s .now) (2 + n + 2 * (args .a .0))) (pre .0 .spans-all)
 
 pub ends-at-spec : {M : Type 1} → statement M
 ends-at-spec =

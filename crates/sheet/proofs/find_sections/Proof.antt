@@ -17,15 +17,22 @@ sub-t5 : tie.Need-sub-t5
 sub-t5 c = search needs
 
 sub-t6 : tie.Need-sub-t6
-sub-t6 c = omega (arith, c .before .before .before .before .past-spans .ensures)
+sub-t6 c =
+    let past-spans = c .before .before .before .before .past-spans in
+    omega (arith, past-spans .ensures)
 
 returns : tie.Need-returns
 returns c =
-    let s = c .before .before .before .before .before .before .args .s .now in
+    let earlier = c .before .before .before .before in
+    let args = earlier .before .before .args in
+    let pre = earlier .before .before .pre in
+    let past-spans = earlier .past-spans in
+    let past-arcs = c .before .before .before .past-arcs in
+    let s = args .s .now in
     record {
-      front = c .before .before .before .before .before .before .pre;
-      spans-all = omega (arith, c .before .before .before .before .past-spans .ensures);
-      arcs-all = omega (arith, c .before .before .before .past-arcs .ensures, ap (arcsFrom s) (c .before .before .before .before .past-spans .ensures));
+      front = pre;
+      spans-all = omega (arith, past-spans .ensures);
+      arcs-all = omega (arith, past-arcs .ensures, ap (arcsFrom s) (past-spans .ensures));
     }
 
 pub find-sections-spec : {M : Type 1} → statement M

@@ -40,7 +40,11 @@ add-t14 c = search needs
 
 returns : tie.Need-returns Inv-loop μ-loop
 unfolding arcsFrom
-returns c = ap (λ (n : ℕ). c .before .before .before .before .before .args .c .at + 2 * n) (sym (lead-stop _ _ _ (omega arith) (c .before .before .before .loop .inv .1) (sym (c .before .arc-here .ensures) ∙ not-true _ (c .if1 .taken))))
+returns c =
+    let earlier = c .before .before .before .before in
+    let args = earlier .before .args in
+    let loop = c .before .before .before .loop in
+    ap (λ (n : ℕ). args .c .at + 2 * n) (sym (lead-stop _ _ _ (omega arith) (loop .inv .1) (sym (c .before .arc-here .ensures) ∙ not-true _ (c .if1 .taken))))
 
 add-a : tie.Need-add-a Inv-loop μ-loop
 add-a c = search needs
@@ -49,7 +53,9 @@ loop-less : tie.Need-loop-less Inv-loop μ-loop
 loop-less c = search needs
 
 loop-again : tie.Need-loop-again Inv-loop μ-loop
-loop-again c = (omega arith, lead-more _ _ (c .before .before .before .loop .inv .1) (sym (c .before .arc-here .ensures) ∙ not-false _ (c .if1 .left)))
+loop-again c =
+    let loop = c .before .before .before .loop in
+    (omega arith, lead-more _ _ (loop .inv .1) (sym (c .before .arc-here .ensures) ∙ not-false _ (c .if1 .left)))
 
 mul-t6 : tie.Need-mul-t6 Inv-loop μ-loop
 mul-t6 c = search needs
@@ -59,7 +65,9 @@ add-t7 c = search needs
 
 returns-2 : tie.Need-returns-2 Inv-loop μ-loop
 unfolding arcsFrom
-returns-2 c = ap (λ (n : ℕ). c .before .before .before .args .c .at + 2 * n) (sym (lead-end _ _ _ (omega arith) (c .before .loop .inv .1)))
+returns-2 c =
+    let args = c .before .before .before .args in
+    ap (λ (n : ℕ). args .c .at + 2 * n) (sym (lead-end _ _ _ (omega arith) (c .before .loop .inv .1)))
 
 pub past-arcs-spec : {M : Type 1} → statement M
 past-arcs-spec =

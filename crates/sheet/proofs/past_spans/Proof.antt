@@ -34,7 +34,11 @@ add-t10 c = search needs
 
 returns : tie.Need-returns Inv-loop μ-loop
 unfolding spansFrom
-returns c = ap (λ (n : ℕ). c .before .before .before .before .before .args .c .at + n) (sym (lead-stop _ _ _ (omega arith) (c .before .before .before .loop .inv .1) (rw (← c .before .kind-at .ensures) (ne-eqb _ _ (c .if1 .taken)))))
+returns c =
+    let earlier = c .before .before .before .before in
+    let args = earlier .before .args in
+    let loop = c .before .before .before .loop in
+    ap (λ (n : ℕ). args .c .at + n) (sym (lead-stop _ _ _ (omega arith) (loop .inv .1) (rw (← c .before .kind-at .ensures) (ne-eqb _ _ (c .if1 .taken)))))
 
 add-k : tie.Need-add-k Inv-loop μ-loop
 add-k c = search needs
@@ -43,14 +47,18 @@ loop-less : tie.Need-loop-less Inv-loop μ-loop
 loop-less c = search needs
 
 loop-again : tie.Need-loop-again Inv-loop μ-loop
-loop-again c = (omega arith, lead-more _ _ (c .before .before .before .loop .inv .1) (rw (← c .before .kind-at .ensures) (eq-eqb _ _ (c .if1 .left))))
+loop-again c =
+    let loop = c .before .before .before .loop in
+    (omega arith, lead-more _ _ (loop .inv .1) (rw (← c .before .kind-at .ensures) (eq-eqb _ _ (c .if1 .left))))
 
 add-t6 : tie.Need-add-t6 Inv-loop μ-loop
 add-t6 c = search needs
 
 returns-2 : tie.Need-returns-2 Inv-loop μ-loop
 unfolding spansFrom
-returns-2 c = ap (λ (n : ℕ). c .before .before .before .args .c .at + n) (sym (lead-end _ _ _ (omega arith) (c .before .loop .inv .1)))
+returns-2 c =
+    let args = c .before .before .before .args in
+    ap (λ (n : ℕ). args .c .at + n) (sym (lead-end _ _ _ (omega arith) (c .before .loop .inv .1)))
 
 pub past-spans-spec : {M : Type 1} → statement M
 past-spans-spec =

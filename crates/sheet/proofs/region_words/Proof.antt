@@ -33,9 +33,11 @@ part-result-end c = search needs
 returns : tie.Need-returns
 unfolding regionWords
 returns c =
-    let s = c .before .before .before .args .s .now in
-    let e : 4 * (2 + c .before .before .before .args .at .spans + 2 * c .before .before .before .args .at .arcs) ≡ 4 * regionsAt s = omega (arith, c .before .before .before .pre .spans-all, c .before .before .before .pre .arcs-all) in
-    to-end s (4 * (2 + c .before .before .before .args .at .spans + 2 * c .before .before .before .args .at .arcs)) ∙ ap (λ (i : ℕ). drop i s) e
+    let args = c .before .before .before .args in
+    let pre = c .before .before .before .pre in
+    let s = args .s .now in
+    let e : 4 * (2 + args .at .spans + 2 * args .at .arcs) ≡ 4 * regionsAt s = omega (arith, pre .spans-all, pre .arcs-all) in
+    to-end s (4 * (2 + args .at .spans + 2 * args .at .arcs)) ∙ ap (λ (i : ℕ). drop i s) e
 
 pub region-words-spec : {M : Type 1} → statement M
 region-words-spec =
