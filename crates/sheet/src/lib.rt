@@ -5,8 +5,8 @@ ghost use Prim.Native.Nat.{ℕ, _+_, _-_, _*_, _≤_, _<_};
 ghost use lib.ListN.{length};
 ghost use lib.Dec.{eqb};
 ghost use Rattle.sheet.specs.Words.{words, word, kindOf, payloadOf, kind, payload};
-ghost use Rattle.sheet.specs.Sections.{Located, stepAt, spansFrom, arcsFrom, span, arcsAt, arcCount, regionWords};
-ghost use Rattle.sheet.specs.Arcs.{arcLength, endOf};
+ghost use Rattle.sheet.specs.Sections.{Located, stepAt, spansFrom, arcsFrom, span, arcCount, regionWords};
+ghost use Rattle.sheet.specs.Arcs.{endsWord, arcLength, endOf};
 ghost use Rattle.sheet.specs.Regions.{leafWord, parentWord, arcWord, isLeaf};
 
 // "Nodes, arcs and regions are counted separately, each from 0."
@@ -179,7 +179,7 @@ pub fn span_at(s: &[u8], k: usize) -> u32
 // The payload of the first word of an arc: its two ends.
 pub fn ends_at(s: &[u8], at: Sections, a: Arc) -> u32
     requires { ⌜ Located (now s) at × (a .0 < arcCount (now s)) ⌝ }
-    ensures { λ r. ⌜ r ≡ payload (now (s .entry)) (arcsAt (now (s .entry)) + 2 * (a .0)) ⌝ }
+    ensures { λ r. ⌜ r ≡ payload (now (s .entry)) (endsWord (now (s .entry)) (a .0)) ⌝ }
 {
     let i = a.0 as usize;
     payload_at(s, 2 + at.spans + 2 * i)
