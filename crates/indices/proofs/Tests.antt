@@ -105,6 +105,12 @@ count-le p (suc n) = at (p n) (count-le p n)
     at true l = omega arith
     at false l = omega arith
 
+-- tests that agree count alike
+pub count-ext : (p q : ℕ → Bool) (n : ℕ) → ((i : ℕ) → i < n → p i ≡ q i) → count p n ≡ count q n
+unfolding count
+count-ext p q zero h = refl
+count-ext p q (suc n) h = rw (count-ext p q n (λ i l. h i (omega arith)), h n (omega arith))
+
 -- where no index passes, none is counted
 pub count-out-all : (p : ℕ → Bool) (n : ℕ) → ((i : ℕ) → i < n → p i ≡ false) → count p n ≡ 0
 unfolding count

@@ -1,4 +1,5 @@
 pub mod Heights
+pub mod Highest
 pub mod Bounds
 pub mod Regions
 pub mod Lowest

@@ -1,5 +1,5 @@
 -- What a call answers, in the paper's terms. Definitions; assumes nothing.
-use Prim.Native.Nat.{ℕ}
+use Prim.Native.Nat.{ℕ, zero, suc}
 use mathlib.Core.List.{List, [], _∷_}
 use mathlib.Core.Bool.{Bool, cond}
 use Rattle.sheet.specs.declared.Fault.{Fault}
@@ -34,3 +34,8 @@ r when b = record { refusal = r; applies = b }
 abbrev pub lowest : List Case → Answer → Answer
 lowest [] answer = answer
 lowest (c ∷ cs) answer = cond (c .applies) (refused (c .refusal)) (lowest cs answer)
+
+-- the answer for the number of a refusal from the input, 0 standing for none
+abbrev pub numbered : ℕ → Answer
+numbered zero = accepted
+numbered (suc n) = refused (input (suc n))

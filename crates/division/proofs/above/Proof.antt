@@ -1,0 +1,17 @@
+-- `above` meets its contract: by the two cases. Assumes nothing.
+use borrow.Author.Needs.{needs}
+use native.Mathlib.Numerals.{add-one}
+use Rattle.division.proofs.above.Statement.{statement}
+use Rattle.division.proofs.above.Tie as tie
+
+returns : tie.Need-returns
+returns c = rw (c .if1 .taken)
+
+add-result : tie.Need-add-result
+add-result c = search needs
+
+returns-2 : tie.Need-returns-2
+returns-2 c = rw (c .if1 .left, add-one)
+
+pub above-spec : {M : Type 1} → statement M
+above-spec = tie.close (tie.spec returns add-result returns-2)
