@@ -62,6 +62,26 @@ unfolding any
 any-false p zero h = refl
 any-false p (suc n) h = rw (any-false p n (λ i l. h i (omega arith))) (h n (omega arith))
 
+-- tests that agree
+pub any-ext : (p q : ℕ → Bool) (n : ℕ) → ((i : ℕ) → i < n → p i ≡ q i) → any p n ≡ any q n
+unfolding any
+any-ext p q zero h = refl
+any-ext p q (suc n) h = rw (any-ext p q n (λ i l. h i (omega arith)), h n (omega arith))
+
+or-assoc : (a b c : Bool) → (a || b) || c ≡ a || (b || c)
+or-assoc true b c = refl
+or-assoc false b c = refl
+
+-- the first index, and then the others
+pub any-front : (p : ℕ → Bool) (n : ℕ) → any p (suc n) ≡ p 0 || any (λ i. p (suc i)) n
+unfolding any
+any-front p zero = or-false (p 0)
+  where
+    or-false : (a : Bool) → false || a ≡ a || false
+    or-false true = refl
+    or-false false = refl
+any-front p (suc n) = ap (λ (b : Bool). b || p (suc n)) (any-front p n) ∙ or-assoc (p 0) (any (λ i. p (suc i)) n) (p (suc n))
+
 -- ALL
 pub all-at : (p : ℕ → Bool) (n i : ℕ) → all p n ≡ true → i < n → p i ≡ true
 unfolding all
@@ -157,6 +177,13 @@ lead-stop p (suc i) (suc n) l e h =
 
 pub lead-end : (p : ℕ → Bool) (i n : ℕ) → i ≡ n → lead p i ≡ i → lead p n ≡ i
 lead-end p i n e h = rw (← e) h
+
+-- tests that agree
+pub lead-ext : (p q : ℕ → Bool) (n : ℕ) → ((i : ℕ) → i < n → p i ≡ q i) → lead p n ≡ lead q n
+unfolding lead
+lead-ext p q zero h = refl
+lead-ext p q (suc n) h =
+    rw (h 0 (omega arith)) (ap (λ (k : ℕ). cond (q 0) (suc k) 0) (lead-ext (λ k. p (suc k)) (λ k. q (suc k)) n (λ i l. h (suc i) (omega arith))))
 
 pub lead-le : (p : ℕ → Bool) (n : ℕ) → lead p n ≤ n
 unfolding lead

@@ -1,12 +1,13 @@
 -- The sections lie within the sheet, and the region words are what is left of it. Assumes nothing.
 use Prim.Native.Nat.{ℕ, _+_, _-_, _*_, _/_, _<_, _≤_}
 use mathlib.Core.List.{List}
-use mathlib.Core.Path.{_≡_, sym, ap, _∙_}
+use mathlib.Core.Path.{_≡_, refl, ap, _∙_}
+use native.Mathlib.Nat.{add-zero}
 use native.Mathlib.Omega.{arith}
-use lib.ListN.{length, take, drop, length-drop}
-use lib.Seq.{take-all}
+use lib.ListN.{length, getD, take, drop, length-drop}
+use lib.Seq.{take-all, getD-drop}
 use Rattle.indices.proofs.Tests.{lead-le}
-use Rattle.sheet.specs.Words.{words}
+use Rattle.sheet.specs.Words.{words, word, kindOf, kind}
 use Rattle.sheet.specs.Sections.{isSpan, isArc, spansFrom, arcsFrom, spanCount, arcsAt, arcCount, regionsAt, regionWords}
 
 pub spans-le : (b : List ℕ) (i : ℕ) → spansFrom b i ≤ words b - i
@@ -30,6 +31,27 @@ pub region-words : (b : List ℕ) → 2 ≤ words b → words (regionWords b) �
 unfolding regionWords
 region-words b two = omega (arith, length-drop (4 * regionsAt b) b, regions-inside b two)
 
+-- there are no more arcs than words, and no more region words
+pub arcs-few : (b : List ℕ) → arcCount b ≤ words b
+arcs-few b = omega (arith, arcs-le b (arcsAt b))
+
+pub regions-few : (b : List ℕ) → words (regionWords b) ≤ words b
+unfolding regionWords
+regions-few b = omega (arith, length-drop (4 * regionsAt b) b)
+
 -- a part to the end
 pub to-end : (b : List ℕ) (i : ℕ) → take (length b - i) (drop i b) ≡ drop i b
 to-end b i = take-all (length b - i) (drop i b) (omega (arith, length-drop i b))
+
+-- a word of the part from word e on
+pub word-drop : (b : List ℕ) (e k : ℕ) → word (drop (4 * e) b) k ≡ word b (e + k)
+unfolding word
+word-drop b e k = rw (byte 0 (4 * k) (omega arith), byte 1 (4 * k + 1) refl, byte 2 (4 * k + 2) refl, byte 3 (4 * k + 3) refl, add-zero (4 * (e + k)))
+  where
+    byte : (j i : ℕ) → i ≡ 4 * k + j → getD (drop (4 * e) b) i 0 ≡ getD b (4 * (e + k) + j) 0
+    byte j i h = getD-drop (4 * e) b i 0 ∙ ap (λ (n : ℕ). getD b n 0) (omega arith)
+
+-- the kind of a region word is that of the sheet's word
+pub region-kind : (b : List ℕ) (k : ℕ) → kind (regionWords b) k ≡ kind b (regionsAt b + k)
+unfolding kind regionWords
+region-kind b k = ap kindOf (word-drop b (regionsAt b) k)

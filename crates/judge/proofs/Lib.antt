@@ -1,0 +1,4 @@
+pub mod Order
+pub mod Pass
+pub mod Degrees
+pub mod Stages

@@ -1,0 +1,3 @@
+pub mod Said
+pub mod Kinds
+pub mod Checks
