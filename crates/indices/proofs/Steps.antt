@@ -38,6 +38,11 @@ pub T-or : (b : Bool) → T b ⊎ T (not b)
 T-or true = inl tt
 T-or false = inr tt
 
+-- the same as equations
+pub true-or-false : (b : Bool) → (b ≡ true) ⊎ (b ≡ false)
+true-or-false true = inl refl
+true-or-false false = inr refl
+
 pub T-of : (b : Bool) → b ≡ true → T b
 T-of b e = subst T (sym e) tt
 
@@ -60,6 +65,10 @@ eq-or-ne m n = go (eqb m n) (λ t. eqb→eq m n t) (λ t. neqb→ne m n t)
 
 pub lt-or-le : (m n : ℕ) → (m < n) ⊎ (n ≤ m)
 lt-or-le m n = ⊎-elim (λ (t : T (ltb m n)). inl (ltb→lt m n t)) (λ (t : T (not (ltb m n))). inr (nltb→le m n t)) (T-or (ltb m n))
+
+-- what holds below n and of n holds below suc n
+pub below-suc {κ} : (P : ℕ → Type κ) (n : ℕ) → ((i : ℕ) → i < n → P i) → P n → (i : ℕ) → i < suc n → P i
+below-suc P n f p i l = ⊎-elim (λ (e : i ≡ n). rw e p) (λ (ne : i ≢ n). f i (omega arith)) (eq-or-ne i n)
 
 module _ {ℓ κ} {S : Type ℓ} where
   pub upTo-keeps : (P : ℕ → S → Type κ) (f : ℕ → S → S) (s : S) (n : ℕ) → P zero s → ((i : ℕ) (t : S) → i < n → P i t → P (suc i) (f i t)) → P n (upTo n f s)
@@ -94,6 +103,13 @@ module _ {ℓ} {S : Type ℓ} where
   unfolding upTo
   upTo-cong f g s zero e = refl
   upTo-cong f g s (suc n) e = e n (upTo n f s) (lt-suc-self n) ∙ ap (g n) (upTo-cong f g s n (λ i t l. e i t (omega arith)))
+
+  -- steps that agree where the test holds
+  pub times-cong : (test : S → Bool) (f g : S → S) → ((s : S) → T (test s) → f s ≡ g s) → (n : ℕ) (s : S) → times n test f s ≡ times n test g s
+  unfolding times
+  times-cong test f g e zero s = refl
+  times-cong test f g e (suc n) s =
+      if-cong (test s) (times n test f (f s)) (times n test g (g s)) s (λ t. rw (e s t) (times-cong test f g e n (g s)))
 
   -- once the test fails, more times change nothing
   pub times-stop : (test : S → Bool) (f : S → S) (n : ℕ) (s : S) → T (not (test (times n test f s))) → (m : ℕ) → n ≤ m → times m test f s ≡ times n test f s
