@@ -1,0 +1,176 @@
+-- Laws of processing: its two rules without fuel, and that no step lowers a count. Assumes nothing.
+use Prim.Native.Nat.{ℕ, zero, suc, _+_, _≤_, _<_}
+use mathlib.Core.Bool.{Bool, true, false, not}
+use mathlib.Core.Path.{_≡_, refl, sym, ap, _∙_}
+use mathlib.Core.Logic.{⊎-elim}
+use mathlib.Core.List.{List}
+use native.Mathlib.Nat.{le-refl}
+use native.Mathlib.Omega.{arith}
+use lib.Dec.{T, ltb, ltb→lt}
+use Rattle.indices.specs.Steps.{if_then_else_, times}
+use Rattle.indices.proofs.Steps.{if-elim, true-or-false, times-keeps, times-cong}
+use Rattle.sheet.specs.Words.{top}
+use Rattle.sheet.proofs.Heights.{inner-height, child-lower}
+use Rattle.procedure.specs.Graph.{Graph, tail, head, len}
+use Rattle.procedure.specs.Division.{Division, regions, parent, arcOf, isLeaf, height, spanOf}
+use Rattle.procedure.specs.State.{State, label}
+use Rattle.procedure.specs.Queues.{minItem, minKey}
+use Rattle.procedure.specs.Procedure.{relax, clearKey, processLeaf, rewriteKey, countInner, countRound, processChild, alive, processFor, ended, process, round}
+use Rattle.procedure.specs.WellFormed.{DivisionOk}
+use Rattle.theory.specs.Counts.{Grows}
+use Rattle.theory.proofs.Chosen.{Chosen, chosen-of-key}
+use Rattle.theory.proofs.Update.{outgoing-grows}
+
+-- WITHOUT FUEL
+-- a region is alive where its smallest key isn't none
+pub alive-key : (g : Graph) (d : Division) (r : ℕ) (s : State) → T (alive g d r s) → minKey d (s .queues) r < top
+unfolding alive
+alive-key g d r s t = ltb→lt _ _ t
+
+module _ {m : ℕ} {d : Division} (ok : DivisionOk m d) where
+  -- an inner region's height is above 0
+  pub inner-high : (r : ℕ) → r < regions d → isLeaf d r ≡ false → 0 < height d r
+  inner-high r lr inner = inner-height (isLeaf d) (parent d) (regions d) (ok .nesting) r lr inner
+
+  -- the first-chosen child of a region is lower than it
+  pub chosen-lower : (s : State) (r : ℕ) → Chosen d (s .queues) r → height d (minItem d (s .queues .keys) r) < height d r
+  chosen-lower s r x =
+      rw (x .child .under) at
+      (child-lower (isLeaf d) (parent d) (regions d) (ok .nesting) (minItem d (s .queues .keys) r) (x .child .positive) (x .child .in-range))
+
+module _ (g : Graph) (d : Division) (spans : List ℕ) where
+  by-height : (r : ℕ) (s : State) → process g d spans r s ≡ processFor g d spans (height d r) r s
+  unfolding process
+  by-height r s = refl
+
+  -- a leaf is worked whatever the fuel
+  processFor-leaf : (n r : ℕ) (s : State) → isLeaf d r ≡ true → processFor g d spans n r s ≡ processLeaf g d r s
+  unfolding processFor
+  processFor-leaf zero r s leaf = refl
+  processFor-leaf (suc n) r s leaf = rw leaf
+
+  processFor-inner : (n r : ℕ) (s : State) → isLeaf d r ≡ false
+      → processFor g d spans (suc n) r s ≡ times (spanOf d spans r) (alive g d r) (processChild g d (processFor g d spans n) r) (countInner g d s)
+  unfolding processFor
+  processFor-inner n r s inner = rw inner
+
+  -- the rule of a leaf: "Working a leaf with arc u to v"
+  pub process-leaf : (r : ℕ) (s : State) → isLeaf d r ≡ true → process g d spans r s ≡ processLeaf g d r s
+  process-leaf r s leaf = by-height r s ∙ processFor-leaf (height d r) r s leaf
+
+  module _ {m : ℕ} (ok : DivisionOk m d) where
+    -- two ways of processing that agree on the first-chosen child agree on all turns of a region
+    turns-agree : (go go′ : ℕ → State → State) (r : ℕ) → r < regions d → isLeaf d r ≡ false
+        → ((c : ℕ) (s : State) → c < regions d → height d c < height d r → go c s ≡ go′ c s) → (n : ℕ) (s : State)
+        → times n (alive g d r) (processChild g d go r) s ≡ times n (alive g d r) (processChild g d go′ r) s
+    unfolding processChild
+    turns-agree go go′ r lr inner agree n s =
+        times-cong (alive g d r) _ _
+        (λ s t.
+        let x = chosen-of-key d (s .queues) r inner (alive-key g d r s t) in
+        ap (rewriteKey g d (minItem d (s .queues .keys) r)) (agree (minItem d (s .queues .keys) r) s (x .child .in-range) (chosen-lower ok s r x))) n s
+
+    -- a region's height is enough fuel
+    inner-agrees : (n n′ r : ℕ) (s : State) → (isLeaf d r ≡ false → processFor g d spans n r s ≡ processFor g d spans n′ r s)
+        → processFor g d spans n r s ≡ processFor g d spans n′ r s
+    inner-agrees n n′ r s same =
+        ⊎-elim (λ (leaf : isLeaf d r ≡ true). processFor-leaf n r s leaf ∙ sym (processFor-leaf n′ r s leaf)) same (true-or-false (isLeaf d r))
+
+    enough : (n n′ r : ℕ) (s : State) → r < regions d → height d r ≤ n → height d r ≤ n′ → processFor g d spans n r s ≡ processFor g d spans n′ r s
+    enough zero n′ r s lr l l′ = inner-agrees zero n′ r s (λ inner. absurd (omega (arith, inner-high ok r lr inner)))
+    enough (suc n) zero r s lr l l′ = inner-agrees (suc n) zero r s (λ inner. absurd (omega (arith, inner-high ok r lr inner)))
+    enough (suc n) (suc n′) r s lr l l′ =
+        inner-agrees (suc n) (suc n′) r s
+        (λ inner.
+        processFor-inner n r s inner
+        ∙ turns-agree (processFor g d spans n) (processFor g d spans n′) r lr inner (λ c s lc lower. enough n n′ c s lc (omega arith) (omega arith)) _ _
+        ∙ sym (processFor-inner n′ r s inner))
+
+    -- the rule of an inner region: "up to span times, while its smallest key isn't none, an inner region hands the turn to its child"
+    pub process-inner : (r : ℕ) (s : State) → r < regions d → isLeaf d r ≡ false
+        → process g d spans r s ≡ times (spanOf d spans r) (alive g d r) (processChild g d (process g d spans) r) (countInner g d s)
+    process-inner r s lr inner = go (height d r) refl
+      where
+        go : (n : ℕ) → height d r ≡ n → process g d spans r s ≡ times (spanOf d spans r) (alive g d r) (processChild g d (process g d spans) r) (countInner g d s)
+        go zero e = absurd (omega (arith, inner-high ok r lr inner))
+        go (suc n) e =
+            by-height r s
+            ∙ ap (λ (n : ℕ). processFor g d spans n r s) e
+            ∙ processFor-inner n r s inner
+            ∙ turns-agree (processFor g d spans n) (process g d spans) r lr inner
+            (λ c s lc lower. enough n (height d c) c s lc (omega arith) (le-refl _) ∙ sym (by-height c s)) _ _
+
+-- COUNTS ONLY GROW
+pub grows-refl : (s : State) → Grows s s
+grows-refl s = record { rounds = le-refl _; leaves = le-refl _; inner = le-refl _; updates = le-refl _ }
+
+pub grows-trans : {s t u : State} → Grows s t → Grows t u → Grows s u
+grows-trans p q = record {
+  rounds = omega (arith, p .rounds, q .rounds);
+  leaves = omega (arith, p .leaves, q .leaves);
+  inner = omega (arith, p .inner, q .inner);
+  updates = omega (arith, p .updates, q .updates);
+}
+
+module _ (g : Graph) (d : Division) where
+  pub relax-grows : (a : ℕ) (s : State) → Grows s (relax g d a s)
+  unfolding relax
+  relax-grows a s =
+      let v = head g a in
+      let sum = label s (tail g a) + len g a in
+      if-elim (λ (t : State). Grows s t) (ltb sum (label s v))
+      (λ _. record { rounds = le-refl _; leaves = le-refl _; inner = le-refl _; updates = outgoing-grows d (g .tails) v sum (s .queues) }) (λ _. grows-refl s)
+
+  pub clearKey-grows : (a : ℕ) (s : State) → Grows s (clearKey g d a s)
+  unfolding clearKey
+  clearKey-grows a s = record { rounds = le-refl _; leaves = omega arith; inner = le-refl _; updates = le-refl _ }
+
+  pub processLeaf-grows : (r : ℕ) (s : State) → Grows s (processLeaf g d r s)
+  unfolding processLeaf
+  processLeaf-grows r s = grows-trans (relax-grows (arcOf d r) s) (clearKey-grows (arcOf d r) (relax g d (arcOf d r) s))
+
+  pub rewriteKey-grows : (c : ℕ) (s : State) → Grows s (rewriteKey g d c s)
+  unfolding rewriteKey
+  rewriteKey-grows c s = record { rounds = le-refl _; leaves = le-refl _; inner = le-refl _; updates = le-refl _ }
+
+  pub countInner-grows : (s : State) → Grows s (countInner g d s)
+  unfolding countInner
+  countInner-grows s = record { rounds = le-refl _; leaves = le-refl _; inner = omega arith; updates = le-refl _ }
+
+  pub countRound-grows : (s : State) → Grows s (countRound g d s)
+  unfolding countRound
+  countRound-grows s = record { rounds = omega arith; leaves = le-refl _; inner = le-refl _; updates = le-refl _ }
+
+  -- whatever processes the children, if it lowers no count, neither do the turns of a region
+  module _ (go : ℕ → State → State) (grows : (c : ℕ) (s : State) → Grows s (go c s)) where
+    pub processChild-grows : (r : ℕ) (s : State) → Grows s (processChild g d go r s)
+    unfolding processChild
+    processChild-grows r s =
+        let c = minItem d (s .queues .keys) r in
+        grows-trans (grows c s) (rewriteKey-grows c (go c s))
+
+    pub turns-grow : (n r : ℕ) (s : State) → Grows s (times n (alive g d r) (processChild g d go r) s)
+    turns-grow n r s =
+        times-keeps (λ t. Grows s t) (alive g d r) (processChild g d go r) (λ t _ p. grows-trans p (processChild-grows r t)) n s (grows-refl s)
+
+  module _ (spans : List ℕ) where
+    processFor-grows : (n r : ℕ) (s : State) → Grows s (processFor g d spans n r s)
+    unfolding processFor
+    processFor-grows zero r s = processLeaf-grows r s
+    processFor-grows (suc n) r s =
+        if-elim (λ (t : State). Grows s t) (isLeaf d r) (λ _. processLeaf-grows r s)
+        (λ _. grows-trans (countInner-grows s)
+        (turns-grow (processFor g d spans n) (λ c s. processFor-grows n c s) (spanOf d spans r) r (countInner g d s)))
+
+    pub process-grows : (r : ℕ) (s : State) → Grows s (process g d spans r s)
+    unfolding process
+    process-grows r s = processFor-grows (height d r) r s
+
+    pub round-grows : (s : State) → Grows s (round g d spans s)
+    unfolding round
+    round-grows s = grows-trans (countRound-grows s) (process-grows 0 (countRound g d s))
+
+    -- up to n rounds lower no count
+    pub rounds-grow : (n : ℕ) (s : State) → Grows s (times n (λ s. not (ended g d s)) (round g d spans) s)
+    rounds-grow n s =
+        times-keeps (λ t. Grows s t) (λ s. not (ended g d s)) (round g d spans) (λ t _ p. grows-trans p (round-grows t)) n s (grows-refl s)
