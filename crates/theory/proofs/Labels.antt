@@ -216,3 +216,83 @@ module _ {most : ℕ} {g : Graph} {d : Division} {spans : List ℕ} (ok : WellFo
             },
             rw (new, same (tail g a) tail-other′) (le-refl sum),
           )
+
+  clearKey-shape : (a : ℕ) (s : State) → a < arcs g → Shape g d s → Shape g d (clearKey g d a s)
+  unfolding clearKey
+  clearKey-shape a s la z = record {
+    labelled = z .labelled;
+    fed = z .fed;
+    queued = record {
+      own = length-set (s .queues .own) a top ∙ z .queued .own;
+      keys = z .queued .keys;
+      capped = λ b lb. set-elim (λ (x : ℕ). x ≤ top) (s .queues .own) a b top 0 (rw (z .queued .own) la) (λ _. le-refl top) (λ _. z .queued .capped b lb);
+    };
+    capped = z .capped;
+  }
+
+  -- step 2: the key of the leaf r, which is at work, becomes none once its arc is relaxed
+  clearKey-sound : (X : ℕ → Type 0) (r : ℕ) (s : State) → X r → r < regions d → isLeaf d r ≡ true → Shape g d s → Relaxed (arcOf d r) s → Sound g d X s
+      → Sound g d X (clearKey g d (arcOf d r) s)
+  unfolding clearKey
+  clearKey-sound X r s xr lr leaf z done p =
+      let a = arcOf d r in
+      let own = s .queues .own in
+      let inside : a < length own = rw (z .queued .own) (ok .division .leaf-arc r lr leaf .0) in
+      record {
+        source-label = p .source-label;
+        source-unfed = p .source-unfed;
+        led = p .led;
+        unfed = p .unfed;
+        unkeyed = λ b lb l. set-elim (λ (x : ℕ). x ≡ top) own a b top 0 inside (λ _. refl) (λ _. p .unkeyed b lb l);
+        relaxed = λ b lb l k. ⊎-elim (λ (e : b ≡ a). rw e done) (λ (n : b ≢ a). p .relaxed b lb l (rw (getD-set-other own a b top 0 n) at k)) (eq-or-ne b a);
+        bounded = p .bounded;
+        keyed = λ b lb. set-elim (λ (x : ℕ). x < top → x ≡ label s (tail g b)) own a b top 0 inside (λ _ l. absurd (omega arith)) (λ _ l. p .keyed b lb l);
+        valued = λ y py ly out. own-valued (ok .division) X r top (s .queues .updates) (s .queues) lr leaf (p .valued) y py ly
+            (λ (w : (y ≡ r) ⊎ X y). ⊎-elim (λ (e : y ≡ r). out (rw e xr)) out w);
+      }
+
+  -- a keyed arc has a reached tail
+  pub keyed-reached : {X : ℕ → Type 0} (a : ℕ) (s : State) → a < arcs g → at (s .queues .own) a < top → Shape g d s → Sound g d X s → label s (tail g a) < top
+  keyed-reached a s la k z p =
+      let cap = z .capped (tail g a) (ok .graph .tail-in a la) in
+      ⊎-elim (λ (l : label s (tail g a) < top). l)
+      (λ (l : top ≤ label s (tail g a)). let none = p .unkeyed a la (omega arith) in absurd (omega arith)) (lt-or-le (label s (tail g a)) top)
+
+  -- THE WORKING OF A LEAF keeps shape and invariant
+  pub leaf-shape : (r : ℕ) (s : State) → r < regions d → isLeaf d r ≡ true → Shape g d s → Shape g d (processLeaf g d r s)
+  unfolding processLeaf
+  leaf-shape r s lr leaf z =
+      let la = ok .division .leaf-arc r lr leaf .0 in
+      clearKey-shape (arcOf d r) (relax g d (arcOf d r) s) la (relax-shape (arcOf d r) s la z)
+
+  pub leaf-sound : (X : ℕ → Type 0) (r : ℕ) (s : State) → Closed d X → X r → r < regions d → isLeaf d r ≡ true → at (s .queues .own) (arcOf d r) < top
+      → Shape g d s → Sound g d X s → Sound g d X (processLeaf g d r s)
+  unfolding processLeaf
+  leaf-sound X r s up xr lr leaf keyed z p =
+      let a = arcOf d r in
+      let la = ok .division .leaf-arc r lr leaf .0 in
+      let q = relax-sound X up a s la (keyed-reached a s la keyed z p) z p in
+      clearKey-sound X r (relax g d a s) xr lr leaf (relax-shape a s la z) (q .1) (q .0)
+
+  -- THE REWRITING OF A CHILD'S KEY keeps them, and the child is no longer at work
+  pub rewriteKey-shape : (c : ℕ) (s : State) → Shape g d s → Shape g d (rewriteKey g d c s)
+  unfolding rewriteKey
+  rewriteKey-shape c s z = record {
+    labelled = z .labelled;
+    fed = z .fed;
+    queued = record {
+      own = z .queued .own;
+      keys = length-set (s .queues .keys) c (minKey d (s .queues) c) ∙ z .queued .keys;
+      capped = z .queued .capped;
+    };
+    capped = z .capped;
+  }
+
+  pub rewriteKey-sound : (X : ℕ → Type 0) (c : ℕ) (s : State) → X (parent d c) → 0 < c → c < regions d → Shape g d s → Sound g d (_with_ X c) s
+      → Sound g d X (rewriteKey g d c s)
+  unfolding rewriteKey
+  rewriteKey-sound X c s xp pc lc z p =
+      let q = s .queues in
+      sound-with p X _ refl
+      (λ y py ly out. key-valued (ok .division) X (parent d c) c (minKey d q c) (q .updates) q (z .queued .keys) (parent-child (ok .division) c pc lc) refl (p .valued)
+      y py ly (λ (w : (y ≡ parent d c) ⊎ X y). ⊎-elim (λ (e : y ≡ parent d c). out (rw e xp)) out w))
