@@ -1,0 +1,165 @@
+-- What holds after any number of rounds, and of the run to its end: the invariant, small counts, that it ends, and settled labels. Assumes nothing.
+use Prim.Native.Nat.{ℕ, zero, suc, _+_, _-_, _*_, _^_, _≤_, _<_}
+use mathlib.Core.Bool.{Bool, true, false, not}
+use mathlib.Core.Path.{_≡_, refl, sym, ap, _∙_}
+use mathlib.Core.Logic.{_≢_, _⊎_, inl, inr, ⊎-elim}
+use mathlib.Core.List.{List}
+use native.Mathlib.Nat.{le-refl, mul-le-mul, mul-le-mul-right}
+use native.Mathlib.Omega.{arith}
+use borrow.Author.Tests.{ltb-false, not-true, lt-ltb}
+use lib.Dec.{T, ltb}
+use Rattle.indices.specs.Columns.{at}
+use Rattle.indices.specs.Steps.{if_then_else_, times}
+use Rattle.indices.proofs.Tests.{count-le}
+use Rattle.indices.proofs.Steps.{lt-or-le, times-stop, times-add}
+use Rattle.sheet.specs.Limits.{mostLength}
+use Rattle.sheet.specs.Words.{top}
+use Rattle.procedure.specs.Graph.{Graph, arcs, tail, head, len}
+use Rattle.procedure.specs.Division.{Division, regions, parent, arcOf, isLeaf, leafOf, height}
+use Rattle.procedure.specs.State.{Queues, State, label, predecessor}
+use Rattle.procedure.specs.Queues.{minKey}
+use Rattle.procedure.specs.Procedure.{alive, ended, start, round, after, final}
+use Rattle.procedure.specs.Settled.{LeadsBack, home, back, Settled}
+use Rattle.procedure.specs.WellFormed.{WellFormed}
+use Rattle.theory.specs.Sound.{Shape, reached, Valued, Sound, Root}
+use Rattle.theory.specs.Counts.{Small}
+use Rattle.theory.proofs.Chosen.{minKey-leaf, minKey-least}
+use Rattle.theory.proofs.Update.{parent-child}
+use Rattle.theory.proofs.Labels.{few-arcs}
+use Rattle.theory.proofs.Lift.{Held, Kept, after-keeps}
+use Rattle.theory.proofs.Counts.{potential, Counted, after-counted, ends, start-small}
+
+-- ROUNDS, of any graph and division
+module _ (g : Graph) (d : Division) (spans : List ℕ) where
+  -- k rounds and then m more are k + m rounds
+  pub rounds-in-parts : (k m : ℕ) → after g d spans (k + m) ≡ times m (λ s. not (ended g d s)) (round g d spans) (after g d spans k)
+  unfolding after
+  rounds-in-parts k m = times-add (λ s. not (ended g d s)) (round g d spans) k m (start g d spans)
+
+  -- one round more, unless the run has ended
+  pub one-more-round : (k : ℕ) → after g d spans (k + 1) ≡ (if not (ended g d (after g d spans k)) then round g d spans (after g d spans k) else after g d spans k)
+  unfolding times
+  one-more-round k = rounds-in-parts k 1
+
+  -- an ended run stays as it is
+  pub ended-stays : (k m : ℕ) → ended g d (after g d spans k) ≡ true → k ≤ m → after g d spans m ≡ after g d spans k
+  unfolding after
+  ended-stays k m e l = times-stop (λ s. not (ended g d s)) (round g d spans) k (start g d spans) (rw e tt) m l
+
+-- with one more length the largest label stays below 'unreached'
+below-top : (x : ℕ) → x ≤ 268172289 → x + mostLength < top
+unfolding top
+below-top x l = omega arith
+
+module _ {most : ℕ} {g : Graph} {d : Division} {spans : List ℕ} (ok : WellFormed most g d spans) where
+  -- every column of `after k` is as long as it should be, and no label is above 'unreached'
+  pub after-shape : (k : ℕ) → Shape g d (after g d spans k)
+  after-shape k = after-counted ok k .shape
+
+  -- the invariant holds of `after k`, with region 0 alone at work
+  pub after-sound : (k : ℕ) → Sound g d Root (after g d spans k)
+  after-sound k = after-counted ok k .sound
+
+  -- a reached label is at most 1,023 times the longest length
+  reached-small : (k v : ℕ) → v < g .nodes → label (after g d spans k) v < top → label (after g d spans k) v ≤ 268172289
+  reached-small k v lv r =
+      let L = after g d spans k .labels in
+      omega (arith, ok .graph .few-nodes, count-le (λ v. ltb (at L v) top) (g .nodes), after-sound k .bounded v lv r)
+
+  -- every label is 'unreached' or at most 1,023 × 262,143
+  pub label-fits : (k v : ℕ) → v < g .nodes → (label (after g d spans k) v ≡ top) ⊎ (label (after g d spans k) v ≤ 268172289)
+  label-fits k v lv =
+      ⊎-elim (λ (l : label (after g d spans k) v < top). inr (reached-small k v lv l))
+      (λ (l : top ≤ label (after g d spans k) v). inl (omega (arith, after-shape k .capped v lv))) (lt-or-le (label (after g d spans k) v) top)
+
+  -- every predecessor is 'no arc' or an arc
+  pub predecessor-fits : (k v : ℕ) → v < g .nodes → (predecessor (after g d spans k) v ≡ top) ⊎ (predecessor (after g d spans k) v < arcs g)
+  predecessor-fits k v lv =
+      let p = after-sound k in
+      ⊎-elim (λ (l : label (after g d spans k) v < top). of-led (p .source-unfed) (p .led v lv l))
+      (λ (l : top ≤ label (after g d spans k) v). inl (p .unfed v lv (omega (arith, after-shape k .capped v lv)))) (lt-or-le (label (after g d spans k) v) top)
+    where
+      of-led : {L P : List ℕ} {v : ℕ} → at P (g .source) ≡ top → LeadsBack g L P v → (at P v ≡ top) ⊎ (at P v < arcs g)
+      of-led {P = P} e (home w) = inl (ap (at P) w ∙ e)
+      of-led e (back a la f _ _ _) = inr (rw f la)
+
+  -- THE END
+  ended-none : (s : State) → ended g d s ≡ true → top ≤ minKey d (s .queues) 0
+  unfolding ended alive
+  ended-none s e = ltb-false _ _ (not-true _ e)
+
+  -- where region 0 has no key, no region has one
+  quiet : (q : Queues) → Valued d Root q → top ≤ minKey d q 0 → (n r : ℕ) → r < n → r < regions d → top ≤ minKey d q r
+  quiet q v none zero r ln lr = absurd (omega arith)
+  quiet q v none (suc n) zero ln lr = none
+  quiet q v none (suc n) (suc r) ln lr =
+      let pos : 0 < suc r = omega arith in
+      let down = ok .division .nesting .lower (suc r) pos lr in
+      let up = quiet q v none n (parent d (suc r)) (omega arith) (omega arith) in
+      omega (
+        arith,
+        minKey-least d q (parent d (suc r)) (ok .division .nesting .inner (suc r) pos lr) (suc r) (parent-child (ok .division) (suc r) pos lr),
+        v (suc r) pos lr (λ (e : suc r ≡ 0). omega arith),
+      )
+
+  -- where a run has ended, no arc has a key
+  pub ended-unkeyed : (k : ℕ) → ended g d (after g d spans k) ≡ true → (a : ℕ) → a < arcs g → at (after g d spans k .queues .own) a ≡ top
+  ended-unkeyed k e a la =
+      let q = after g d spans k .queues in
+      let p = ok .division .arc-leaf a la in
+      let leaf : isLeaf d (leafOf d a) ≡ true = lt-ltb (arcOf d (leafOf d a)) top (omega (arith, few-arcs ok, p .1)) in
+      omega (
+        arith,
+        quiet q (after-sound k .valued) (ended-none (after g d spans k) e) (regions d) (leafOf d a) (p .0) (p .0),
+        minKey-leaf d q (leafOf d a) leaf ∙ ap (at (q .own)) (p .1),
+        after-shape k .queued .capped a la,
+      )
+
+  -- where a run has ended, every arc from a reached node is relaxed and every reached node is led back to the source
+  pub ended-settled : (k : ℕ) → ended g d (after g d spans k) ≡ true → Settled g (after g d spans k .labels) (after g d spans k .predecessors)
+  ended-settled k e =
+      let p = after-sound k in
+      record {
+        source-label = p .source-label;
+        source-unfed = p .source-unfed;
+        capped = after-shape k .capped;
+        room = λ v lv r. below-top _ (reached-small k v lv r);
+        led = p .led;
+        unfed = p .unfed;
+        relaxed = λ a la r. p .relaxed a la r (ended-unkeyed k e a la);
+      }
+
+  module _ (few : most ≤ 4) where
+    start-low : potential most g (start g d spans) ≤ 4 * (1024 * 268435455) + 4
+    unfolding top
+    start-low = omega (arith, start-small ok, mul-le-mul-right (1024 * top) few)
+
+    -- every count is below 2^54, whatever the number of rounds
+    pub after-small : (k : ℕ) → Small (after g d spans k)
+    after-small k =
+        let c = after-counted ok k .kept in
+        let s = after g d spans k in
+        let leaves : s .leaves ≤ 4 * (1024 * 268435455) + 4 = omega (arith, c .spent, start-low) in
+        let levels : height d 0 ≤ 15 = omega (arith, ok .attention .few, ok .attention .each-height) in
+        record {
+          rounds = omega (arith, c .rounds);
+          leaves = omega arith;
+          inner = omega (arith, c .inner, mul-le-mul-right (s .leaves) levels);
+          updates = omega (arith, c .updates, mul-le-mul-right (suc (s .leaves)) (mul-le-mul few (ok .division .few-regions)));
+        }
+
+    -- the run to its end has ended
+    pub final-ended : ended g d (final g d spans) ≡ true
+    unfolding final
+    final-ended = true-of _ (ends ok 72057594037927936 (omega (arith, start-low)))
+      where
+        true-of : (b : Bool) → T b → b ≡ true
+        true-of true t = refl
+        true-of false t = absurd t
+
+    -- a run that has ended is the run to its end
+    pub ended-final : (k : ℕ) → ended g d (after g d spans k) ≡ true → final g d spans ≡ after g d spans k
+    unfolding final
+    ended-final k e =
+        ⊎-elim (λ (l : 72057594037927936 < k). sym (ended-stays g d spans 72057594037927936 k final-ended (omega arith)))
+        (λ (l : k ≤ 72057594037927936). ended-stays g d spans k 72057594037927936 e l) (lt-or-le 72057594037927936 k)
