@@ -1,14 +1,14 @@
 -- Laws of `if_then_else_`, `upTo` and `times`, case splits on numbers and tests, and an entry after a store. Assumes nothing.
 use Prim.Native.Nat.{ℕ, zero, suc, _+_, _≤_, _<_}
-use native.Mathlib.Nat.{le-refl, le-suc, le-trans, lt-suc-self, zero-add, suc-add}
+use native.Mathlib.Nat.{lt-suc-self, zero-add, suc-add}
 use native.Mathlib.Omega.{arith}
 use mathlib.Core.Bool.{Bool, true, false, not, _&&_}
 use mathlib.Core.Path.{_≡_, refl, sym, ap, _∙_, subst}
 use mathlib.Core.Logic.{_≢_, _⊎_, inl, inr, ⊎-elim}
-use mathlib.Core.List.{List, [], _∷_}
+use mathlib.Core.List.{List}
 use lib.ListN.{length, getD, set}
 use lib.Seq.{getD-set-same, getD-set-other}
-use lib.Dec.{T, T-not, ltb, eqb, ltb→lt, nltb→le, eqb→eq, eqb-refl, lt→ltb}
+use lib.Dec.{T, T-not, ltb, eqb, ltb→lt, nltb→le, eqb→eq, eqb-refl}
 use Rattle.indices.specs.Steps.{if_then_else_, upTo, times}
 
 -- to prove P of an if, prove it of both branches, with the test's outcome in hand

@@ -1,8 +1,8 @@
 -- The first-chosen child and the smallest key of a region: what they are, what they depend on, and what a write does to them. Assumes nothing.
-use Prim.Native.Nat.{ℕ, zero, suc, _≤_, _<_}
+use Prim.Native.Nat.{ℕ, suc, _≤_, _<_}
 use mathlib.Core.Bool.{Bool, true, false, _&&_, _||_, false≢true}
 use mathlib.Core.Path.{_≡_, refl, sym, ap, _∙_}
-use mathlib.Core.Logic.{_≢_, _⊎_, inl, inr, ⊎-elim}
+use mathlib.Core.Logic.{_≢_, ⊎-elim}
 use mathlib.Core.List.{List}
 use native.Mathlib.Nat.{le-refl}
 use native.Mathlib.Omega.{arith}
@@ -11,7 +11,7 @@ use lib.ListN.{length, set}
 use lib.Seq.{getD-set-same, getD-set-other}
 use lib.Dec.{ltb, eqb}
 use Rattle.indices.specs.Columns.{at}
-use Rattle.indices.specs.Steps.{if_then_else_, upTo}
+use Rattle.indices.specs.Steps.{if_then_else_}
 use Rattle.indices.proofs.Tests.{and-left, and-right}
 use Rattle.indices.proofs.Steps.{eq-or-ne, true-or-false, below-suc, upTo-keeps, set-elim}
 use Rattle.sheet.specs.Words.{top}

@@ -1,31 +1,30 @@
 -- The potential argument: every leaf worked lowers a number that is bounded at the start, so the counts are bounded and a run ends. Assumes nothing.
-use Prim.Native.Nat.{ℕ, zero, suc, _+_, _*_, _≤_, _<_}
-use mathlib.Core.Bool.{Bool, true, false, not, cond}
-use mathlib.Core.Path.{_≡_, refl, sym, ap, _∙_}
-use mathlib.Core.Logic.{_≢_, _⊎_, inl, inr, ⊎-elim}
+use Prim.Native.Nat.{ℕ, suc, _+_, _*_, _≤_, _<_}
+use mathlib.Core.Bool.{true, not}
+use mathlib.Core.Path.{_≡_, refl, ap}
+use mathlib.Core.Logic.{_≢_, inl, inr, ⊎-elim}
 use mathlib.Core.List.{List}
 use native.Mathlib.Nat.{le-refl, mul-le-mul-left, mul-le-mul-right}
 use native.Mathlib.Omega.{arith}
-use borrow.Author.Tests.{lt-ltb, le-ltb, eq-eqb, ltb-true}
+use borrow.Author.Tests.{lt-ltb, le-ltb, eq-eqb}
 use lib.ListN.{length, set, getD-replicate}
 use lib.Seq.{getD-set-same, getD-set-other}
 use lib.Dec.{T, ltb, eqb}
 use Rattle.indices.specs.Columns.{at}
 use Rattle.indices.specs.Tests.{count}
-use Rattle.indices.specs.Steps.{times}
 use Rattle.indices.proofs.Steps.{eq-or-ne, T-or, times-rise}
 use Rattle.sheet.specs.Words.{top}
-use Rattle.procedure.specs.Graph.{Graph, arcs, tail, head, len}
+use Rattle.procedure.specs.Graph.{Graph, arcs, tail, head}
 use Rattle.procedure.specs.Division.{Division, regions, arcOf, isLeaf, height}
 use Rattle.procedure.specs.State.{Queues, State, label}
 use Rattle.procedure.specs.Procedure.{relax, clearKey, processLeaf, rewriteKey, countInner, countRound, ended, start, round, after}
 use Rattle.procedure.specs.WellFormed.{outDegree, WellFormed}
-use Rattle.theory.specs.Sound.{Shape, Sound, Root}
+use Rattle.theory.specs.Sound.{Shape, Root}
 use Rattle.theory.proofs.Totals.{total, total-one, total-le, count-one, count-zero, count-join}
 use Rattle.theory.proofs.Update.{Outgoing, outgoing-changes}
 use Rattle.theory.proofs.Process.{process-grows}
 use Rattle.theory.proofs.Labels.{sumBy, lowered, relax-elim, relax-shape, few-arcs}
-use Rattle.theory.proofs.Start.{noKeys, noKeys-sized, firstLabels, first-capped, start-changes}
+use Rattle.theory.proofs.Start.{noKeys, firstLabels, first-capped, start-changes}
 use Rattle.theory.proofs.Lift.{Held, Kept, after-keeps}
 
 -- how many arcs have a key
@@ -44,7 +43,7 @@ keys-more g d v k q q′ o =
 
 -- The bounds, for a run that starts with the potential B: behind j inner regions that have worked no leaf yet, and late is 1 in a round that has worked none.
 pub record Counted (most : ℕ) (g : Graph) (d : Division) (B late j : ℕ) (s : State) : Type 0 where
-  pub spent : potential most g s + s .leaves ≤ B
+  pub leaves : potential most g s + s .leaves ≤ B
   pub inner : s .inner ≤ height d 0 * s .leaves + j
   pub updates : s .queues .updates ≤ most * regions d * suc (s .leaves)
   pub rounds : s .rounds ≤ s .leaves + late
@@ -110,7 +109,7 @@ module _ {most : ℕ} {g : Graph} {d : Division} {spans : List ℕ} (ok : WellFo
       let t = relax g d a s in
       let q = relax-counts a s la keyed z in
       record {
-        spent = omega (arith, p .spent, q .lower, q .leaves, cleared a t la (q .still) (relax-shape ok a s la z));
+        leaves = omega (arith, p .leaves, q .lower, q .leaves, cleared a t la (q .still) (relax-shape ok a s la z));
         inner = omega (arith, p .inner, ap (λ (n : ℕ). height d 0 * n) (q .leaves), q .inner);
         updates = omega (arith, p .updates, q .updates, ap (λ (n : ℕ). most * regions d * n) (q .leaves));
         rounds = omega (arith, p .rounds, q .leaves, q .rounds);
@@ -120,10 +119,10 @@ module _ {most : ℕ} {g : Graph} {d : Division} {spans : List ℕ} (ok : WellFo
   unfolding countInner rewriteKey potential
   counted-kept B = record {
     leaf = λ X r j s w lj leaf keyed z _ p. leaf-counted B j r s lj (w .in-range) leaf keyed z p;
-    inner = λ X r j s _ _ _ _ _ p. record { spent = p .spent; inner = omega (arith, p .inner); updates = p .updates; rounds = p .rounds };
+    inner = λ X r j s _ _ _ _ _ p. record { leaves = p .leaves; inner = omega (arith, p .inner); updates = p .updates; rounds = p .rounds };
     enter = λ X r j s _ _ _ _ _ p. p;
-    rewritten = λ X r c s _ _ _ _ p. record { spent = p .spent; inner = p .inner; updates = p .updates; rounds = p .rounds };
-    weak = λ X r j s p. record { spent = p .spent; inner = omega (arith, p .inner); updates = p .updates; rounds = omega (arith, p .rounds) };
+    rewritten = λ X r c s _ _ _ _ p. record { leaves = p .leaves; inner = p .inner; updates = p .updates; rounds = p .rounds };
+    weak = λ X r j s p. record { leaves = p .leaves; inner = omega (arith, p .inner); updates = p .updates; rounds = omega (arith, p .rounds) };
   }
 
   start-counted : Counted most g d (potential most g (start g d spans)) 0 0 (start g d spans)
@@ -131,7 +130,7 @@ module _ {most : ℕ} {g : Graph} {d : Division} {spans : List ℕ} (ok : WellFo
   start-counted =
       let few = start-changes ok .few in
       record {
-        spent = omega arith;
+        leaves = omega arith;
         inner = omega arith;
         updates = omega (arith, few, mul-le-mul-right (regions d) (ok .graph .few-out (g .source)));
         rounds = omega arith;
@@ -143,11 +142,11 @@ module _ {most : ℕ} {g : Graph} {d : Division} {spans : List ℕ} (ok : WellFo
   after-counted k =
       let B = potential most g (start g d spans) in
       after-keeps ok (λ s. Counted most g d B 0 0 s) (counted-kept B)
-      (λ s p. record { spent = p .spent; inner = p .inner; updates = p .updates; rounds = omega (arith, p .rounds) }) (λ s p. p) start-counted k
+      (λ s p. record { leaves = p .leaves; inner = p .inner; updates = p .updates; rounds = omega (arith, p .rounds) }) (λ s p. p) start-counted k
 
   round-more : (s : State) → s .rounds < round g d spans s .rounds
   unfolding round countRound
-  round-more s = process-grows g d spans 0 (countRound g d s) .rounds
+  round-more s = process-grows g d (ok .division) spans 0 (countRound g d s) (ok .division .nesting .root) .rounds
 
   -- a run that has not ended after k rounds has made k rounds
   still-running : (k : ℕ) → T (not (ended g d (after g d spans k))) → k ≤ after g d spans k .rounds
@@ -163,7 +162,7 @@ module _ {most : ℕ} {g : Graph} {d : Division} {spans : List ℕ} (ok : WellFo
   ends k l =
       let c = after-counted k .kept in
       ⊎-elim (λ (t : T (ended g d (after g d spans k))). t)
-      (λ (t : T (not (ended g d (after g d spans k)))). absurd (omega (arith, still-running k t, c .spent, c .rounds))) (T-or (ended g d (after g d spans k)))
+      (λ (t : T (not (ended g d (after g d spans k)))). absurd (omega (arith, still-running k t, c .leaves, c .rounds))) (T-or (ended g d (after g d spans k)))
 
   -- the potential at the start
   pub start-small : potential most g (start g d spans) ≤ most * (1024 * top) + most

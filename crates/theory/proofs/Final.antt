@@ -1,10 +1,10 @@
 -- What holds after any number of rounds, and of the run to its end: the invariant, small counts, that it ends, and settled labels. Assumes nothing.
-use Prim.Native.Nat.{ℕ, zero, suc, _+_, _-_, _*_, _^_, _≤_, _<_}
+use Prim.Native.Nat.{ℕ, zero, suc, _+_, _*_, _≤_, _<_}
 use mathlib.Core.Bool.{Bool, true, false, not}
 use mathlib.Core.Path.{_≡_, refl, sym, ap, _∙_}
-use mathlib.Core.Logic.{_≢_, _⊎_, inl, inr, ⊎-elim}
+use mathlib.Core.Logic.{_⊎_, inl, inr, ⊎-elim}
 use mathlib.Core.List.{List}
-use native.Mathlib.Nat.{le-refl, mul-le-mul, mul-le-mul-right}
+use native.Mathlib.Nat.{mul-le-mul, mul-le-mul-right}
 use native.Mathlib.Omega.{arith}
 use borrow.Author.Tests.{ltb-false, not-true, lt-ltb}
 use lib.Dec.{T, ltb}
@@ -14,20 +14,19 @@ use Rattle.indices.proofs.Tests.{count-le}
 use Rattle.indices.proofs.Steps.{lt-or-le, times-stop, times-add}
 use Rattle.sheet.specs.Limits.{mostLength}
 use Rattle.sheet.specs.Words.{top}
-use Rattle.procedure.specs.Graph.{Graph, arcs, tail, head, len}
+use Rattle.procedure.specs.Graph.{Graph, arcs}
 use Rattle.procedure.specs.Division.{Division, regions, parent, arcOf, isLeaf, leafOf, height}
 use Rattle.procedure.specs.State.{Queues, State, label, predecessor}
 use Rattle.procedure.specs.Queues.{minKey}
 use Rattle.procedure.specs.Procedure.{alive, ended, start, round, after, final}
 use Rattle.procedure.specs.Settled.{LeadsBack, home, back, Settled}
 use Rattle.procedure.specs.WellFormed.{WellFormed}
-use Rattle.theory.specs.Sound.{Shape, reached, Valued, Sound, Root}
+use Rattle.theory.specs.Sound.{Shape, Valued, Sound, Root}
 use Rattle.theory.specs.Counts.{Small}
 use Rattle.theory.proofs.Chosen.{minKey-leaf, minKey-least}
 use Rattle.theory.proofs.Update.{parent-child}
 use Rattle.theory.proofs.Labels.{few-arcs}
-use Rattle.theory.proofs.Lift.{Held, Kept, after-keeps}
-use Rattle.theory.proofs.Counts.{potential, Counted, after-counted, ends, start-small}
+use Rattle.theory.proofs.Counts.{potential, after-counted, ends, start-small}
 
 -- ROUNDS, of any graph and division
 module _ (g : Graph) (d : Division) (spans : List ℕ) where
@@ -83,19 +82,30 @@ module _ {most : ℕ} {g : Graph} {d : Division} {spans : List ℕ} (ok : WellFo
       of-led {P = P} e (home w) = inl (ap (at P) w ∙ e)
       of-led e (back a la f _ _ _) = inr (rw f la)
 
+  -- so a label and a predecessor fit the 28 bits of a table word
+  pub label-word : (k v : ℕ) → v < g .nodes → label (after g d spans k) v < 268435456
+  unfolding top
+  label-word k v lv = omega (arith, after-shape k .capped v lv)
+
+  pub predecessor-word : (k v : ℕ) → v < g .nodes → predecessor (after g d spans k) v < 268435456
+  unfolding top
+  predecessor-word k v lv =
+      ⊎-elim (λ (e : predecessor (after g d spans k) v ≡ top). omega arith)
+      (λ (l : predecessor (after g d spans k) v < arcs g). omega (arith, ok .graph .few-arcs)) (predecessor-fits k v lv)
+
   -- THE END
   ended-none : (s : State) → ended g d s ≡ true → top ≤ minKey d (s .queues) 0
   unfolding ended alive
   ended-none s e = ltb-false _ _ (not-true _ e)
 
   -- where region 0 has no key, no region has one
-  quiet : (q : Queues) → Valued d Root q → top ≤ minKey d q 0 → (n r : ℕ) → r < n → r < regions d → top ≤ minKey d q r
-  quiet q v none zero r ln lr = absurd (omega arith)
-  quiet q v none (suc n) zero ln lr = none
-  quiet q v none (suc n) (suc r) ln lr =
+  no-region-keyed : (q : Queues) → Valued d Root q → top ≤ minKey d q 0 → (n r : ℕ) → r < n → r < regions d → top ≤ minKey d q r
+  no-region-keyed q v none zero r ln lr = absurd (omega arith)
+  no-region-keyed q v none (suc n) zero ln lr = none
+  no-region-keyed q v none (suc n) (suc r) ln lr =
       let pos : 0 < suc r = omega arith in
       let down = ok .division .nesting .lower (suc r) pos lr in
-      let up = quiet q v none n (parent d (suc r)) (omega arith) (omega arith) in
+      let up = no-region-keyed q v none n (parent d (suc r)) (omega arith) (omega arith) in
       omega (
         arith,
         minKey-least d q (parent d (suc r)) (ok .division .nesting .inner (suc r) pos lr) (suc r) (parent-child (ok .division) (suc r) pos lr),
@@ -110,7 +120,7 @@ module _ {most : ℕ} {g : Graph} {d : Division} {spans : List ℕ} (ok : WellFo
       let leaf : isLeaf d (leafOf d a) ≡ true = lt-ltb (arcOf d (leafOf d a)) top (omega (arith, few-arcs ok, p .1)) in
       omega (
         arith,
-        quiet q (after-sound k .valued) (ended-none (after g d spans k) e) (regions d) (leafOf d a) (p .0) (p .0),
+        no-region-keyed q (after-sound k .valued) (ended-none (after g d spans k) e) (regions d) (leafOf d a) (p .0) (p .0),
         minKey-leaf d q (leafOf d a) leaf ∙ ap (at (q .own)) (p .1),
         after-shape k .queued .capped a la,
       )
@@ -139,7 +149,7 @@ module _ {most : ℕ} {g : Graph} {d : Division} {spans : List ℕ} (ok : WellFo
     after-small k =
         let c = after-counted ok k .kept in
         let s = after g d spans k in
-        let leaves : s .leaves ≤ 4 * (1024 * 268435455) + 4 = omega (arith, c .spent, start-low) in
+        let leaves : s .leaves ≤ 4 * (1024 * 268435455) + 4 = omega (arith, c .leaves, start-low) in
         let levels : height d 0 ≤ 15 = omega (arith, ok .attention .few, ok .attention .each-height) in
         record {
           rounds = omega (arith, c .rounds);
@@ -163,3 +173,12 @@ module _ {most : ℕ} {g : Graph} {d : Division} {spans : List ℕ} (ok : WellFo
     ended-final k e =
         ⊎-elim (λ (l : 72057594037927936 < k). sym (ended-stays g d spans 72057594037927936 k final-ended (omega arith)))
         (λ (l : k ≤ 72057594037927936). ended-stays g d spans k 72057594037927936 e l) (lt-or-le 72057594037927936 k)
+
+    -- a round of a run that has not ended has small counts, so all counts within it are small
+    pub round-small : (k : ℕ) → ended g d (after g d spans k) ≡ false → Small (round g d spans (after g d spans k))
+    round-small k e = rw (one-more-round g d spans k, e) at (after-small (k + 1))
+
+    -- the run to its end is settled
+    pub final-settled : Settled g (final g d spans .labels) (final g d spans .predecessors)
+    unfolding final
+    final-settled = ended-settled 72057594037927936 final-ended

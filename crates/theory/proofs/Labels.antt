@@ -1,32 +1,32 @@
 -- The invariant through the working of a leaf, in two steps: its arc is relaxed, and its key becomes none. Assumes nothing.
-use Prim.Native.Nat.{ℕ, zero, suc, _+_, _-_, _*_, _≤_, _<_}
+use Prim.Native.Nat.{ℕ, _+_, _-_, _*_, _≤_, _<_}
 use mathlib.Core.Bool.{Bool, true, false, cond}
 use mathlib.Core.Path.{_≡_, refl, sym, ap, _∙_}
 use mathlib.Core.Logic.{_≢_, _⊎_, inl, inr, ⊎-elim}
 use mathlib.Core.List.{List}
 use native.Mathlib.Nat.{le-refl}
 use native.Mathlib.Omega.{arith}
-use borrow.Author.Tests.{lt-ltb, ltb-true, ltb-false}
+use borrow.Author.Tests.{lt-ltb, ltb-true}
 use lib.ListN.{length, set, length-set}
 use lib.Seq.{getD-set-same, getD-set-other}
 use lib.Dec.{ltb, ltb→lt, nltb→le}
 use Rattle.indices.specs.Columns.{at}
-use Rattle.indices.specs.Tests.{count}
-use Rattle.indices.specs.Steps.{if_then_else_}
+use Rattle.indices.specs.Steps.{times}
 use Rattle.indices.proofs.Tests.{count-hit}
 use Rattle.indices.proofs.Steps.{if-elim, eq-or-ne, lt-or-le, true-or-false, set-elim}
 use Rattle.sheet.specs.Limits.{mostLength}
 use Rattle.sheet.specs.Words.{top}
 use Rattle.procedure.specs.Graph.{Graph, arcs, tail, head, len}
-use Rattle.procedure.specs.Division.{Division, regions, parent, arcOf, isLeaf, leafOf}
+use Rattle.procedure.specs.Division.{Division, regions, parent, arcOf, isLeaf}
 use Rattle.procedure.specs.State.{Queues, State, label}
 use Rattle.procedure.specs.Queues.{minKey, updateOutgoing}
-use Rattle.procedure.specs.Procedure.{relax, clearKey, processLeaf, rewriteKey}
+use Rattle.procedure.specs.Procedure.{relax, clearKey, processLeaf, rewriteKey, countInner, processChild, alive, process}
 use Rattle.procedure.specs.Settled.{LeadsBack, home, back}
-use Rattle.procedure.specs.WellFormed.{GraphOk, DivisionOk, WellFormed}
-use Rattle.theory.specs.Sound.{Sized, ShapeOf, Shape, reached, Valued, SoundOf, Sound}
+use Rattle.procedure.specs.WellFormed.{WellFormed}
+use Rattle.theory.specs.Sound.{Shape, reached, Valued, SoundOf, Sound}
 use Rattle.theory.proofs.Totals.{count-one}
-use Rattle.theory.proofs.Update.{Closed, _with_, own-valued, key-valued, parent-child, Outgoing, outgoing-changes, outgoing-sized, outgoing-valued}
+use Rattle.theory.proofs.Process.{Invariant, process-invariant, processChild-invariant, children-invariant}
+use Rattle.theory.proofs.Update.{Closed, _with_, own-valued, key-valued, parent-child, outgoing-changes, outgoing-sized, outgoing-valued}
 
 -- the label that arc a gives its head
 abbrev pub sumBy : Graph → ℕ → State → ℕ
@@ -296,3 +296,17 @@ module _ {most : ℕ} {g : Graph} {d : Division} {spans : List ℕ} (ok : WellFo
       sound-with p X _ refl
       (λ y py ly out. key-valued (ok .division) X (parent d c) c (minKey d q c) (q .updates) q (z .queued .keys) (parent-child (ok .division) c pc lc) refl (p .valued)
       y py ly (λ (w : (y ≡ parent d c) ⊎ X y). ⊎-elim (λ (e : y ≡ parent d c). out (rw e xp)) out w))
+
+  -- so every column keeps its length, and no label or key rises above `top`, through all processing (whether or not the invariant holds)
+  shape-invariant : Invariant g d (λ s. Shape g d s)
+  unfolding countInner
+  shape-invariant = record { leaf = λ r s lr leaf z. leaf-shape r s lr leaf z; inner = λ s z. z; rewritten = λ c s lc z. rewriteKey-shape c s z }
+
+  pub process-shape : (r : ℕ) (s : State) → r < regions d → Shape g d s → Shape g d (process g d spans r s)
+  process-shape r s lr z = process-invariant g d spans (ok .division) shape-invariant r s lr z
+
+  pub processChild-shape : (r : ℕ) (s : State) → isLeaf d r ≡ false → minKey d (s .queues) r < top → Shape g d s → Shape g d (processChild g d (process g d spans) r s)
+  processChild-shape r s inner live z = processChild-invariant g d spans (ok .division) shape-invariant r s inner live z
+
+  pub children-shape : (n r : ℕ) (s : State) → isLeaf d r ≡ false → Shape g d s → Shape g d (times n (alive g d r) (processChild g d (process g d spans) r) s)
+  children-shape n r s inner z = children-invariant g d spans (ok .division) shape-invariant n r s inner z

@@ -1,19 +1,17 @@
 -- One induction over processing and one over rounds: what every working of a leaf keeps, every run keeps. Assumes nothing.
 use Prim.Native.Nat.{ℕ, zero, suc, pred, _+_, _≤_, _<_}
 use mathlib.Core.Bool.{Bool, true, false, not}
-use mathlib.Core.Path.{_≡_, refl, sym, ap, _∙_}
-use mathlib.Core.Logic.{_≢_, _⊎_, inl, inr, ⊎-elim}
+use mathlib.Core.Path.{_≡_, refl}
+use mathlib.Core.Logic.{inl, inr, ⊎-elim}
 use mathlib.Core.List.{List}
-use native.Mathlib.Nat.{le-refl}
 use native.Mathlib.Omega.{arith}
-use lib.ListN.{length}
-use lib.Dec.{T, ltb, ltb→lt, lt→ltb}
+use lib.Dec.{T, lt→ltb}
 use Rattle.indices.specs.Columns.{at}
 use Rattle.indices.specs.Steps.{times}
 use Rattle.indices.proofs.Steps.{true-or-false, times-keeps, times-reach}
 use Rattle.sheet.specs.Words.{top}
 use Rattle.sheet.proofs.Heights.{root-highest}
-use Rattle.procedure.specs.Graph.{Graph, arcs}
+use Rattle.procedure.specs.Graph.{Graph}
 use Rattle.procedure.specs.Division.{Division, regions, parent, arcOf, isLeaf, height, spanOf}
 use Rattle.procedure.specs.State.{State}
 use Rattle.procedure.specs.Queues.{minItem, minKey}
@@ -109,10 +107,10 @@ module _ {most : ℕ} {g : Graph} {d : Division} {spans : List ℕ} (ok : WellFo
     still-alive r s l = lt→ltb _ _ l
 
     -- all turns of the inner region r
-    turns-keep : (X : ℕ → Type 0) (r j : ℕ) (s : State) (go : ℕ → State → State) → Within d X r → isLeaf d r ≡ false → minKey d (s .queues) r < top
+    children-keep : (X : ℕ → Type 0) (r j : ℕ) (s : State) (go : ℕ → State → State) → Within d X r → isLeaf d r ≡ false → minKey d (s .queues) r < top
         → ((X : ℕ → Type 0) (c : ℕ) (s : State) → Within d X c → height d c < height d r → minKey d (s .queues) c < top → Held g d X (I X c (suc j)) s → Held g d X (J X c) (go c s))
         → Held g d X (I X r j) s → Held g d X (J X r) (times (spanOf d spans r) (alive g d r) (processChild g d go r) (countInner g d s))
-    turns-keep X r j s go w inner live ih p =
+    children-keep X r j s go w inner live ih p =
         times-reach (λ t. Held g d X (I X r (suc j)) t) (λ t. Held g d X (J X r) t) (alive g d r) (processChild g d go r)
         (λ t a q. child-keeps X r (suc j) t go w inner (alive-key g d r t a) (λ X c. ih X c t) q)
         (λ t q. record { shape = q .shape; sound = q .sound; kept = k .weak X r (suc j) t (q .kept) })
@@ -125,7 +123,7 @@ module _ {most : ℕ} {g : Graph} {d : Division} {spans : List ℕ} (ok : WellFo
     process-keeps (suc n) X r j s w ln lj live p =
         ⊎-elim (λ (leaf : isLeaf d r ≡ true). rw (process-leaf g d spans r s leaf) (leaf-keeps X r j s w (omega arith) leaf live p))
         (λ (inner : isLeaf d r ≡ false). rw (process-inner g d spans (ok .division) r s (w .in-range) inner)
-        (turns-keep X r j s (process g d spans) w inner live
+        (children-keep X r j s (process g d spans) w inner live
         (λ X c s w lower live p. process-keeps n X c (suc j) s w (omega arith) (omega arith) live p) p))
         (true-or-false (isLeaf d r))
 

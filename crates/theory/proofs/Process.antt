@@ -1,13 +1,13 @@
 -- Laws of processing: its two rules without fuel, and that no step lowers a count. Assumes nothing.
 use Prim.Native.Nat.{ℕ, zero, suc, _+_, _≤_, _<_}
-use mathlib.Core.Bool.{Bool, true, false, not}
+use mathlib.Core.Bool.{true, false, not}
 use mathlib.Core.Path.{_≡_, refl, sym, ap, _∙_}
 use mathlib.Core.Logic.{⊎-elim}
 use mathlib.Core.List.{List}
 use native.Mathlib.Nat.{le-refl}
 use native.Mathlib.Omega.{arith}
 use lib.Dec.{T, ltb, ltb→lt}
-use Rattle.indices.specs.Steps.{if_then_else_, times}
+use Rattle.indices.specs.Steps.{times}
 use Rattle.indices.proofs.Steps.{if-elim, true-or-false, times-keeps, times-cong}
 use Rattle.sheet.specs.Words.{top}
 use Rattle.sheet.proofs.Heights.{inner-height, child-lower}
@@ -17,7 +17,7 @@ use Rattle.procedure.specs.State.{State, label}
 use Rattle.procedure.specs.Queues.{minItem, minKey}
 use Rattle.procedure.specs.Procedure.{relax, clearKey, processLeaf, rewriteKey, countInner, countRound, processChild, alive, processFor, ended, process, round}
 use Rattle.procedure.specs.WellFormed.{DivisionOk}
-use Rattle.theory.specs.Counts.{Grows}
+use Rattle.theory.specs.Counts.{Grows, Small}
 use Rattle.theory.proofs.Chosen.{Chosen, chosen-of-key}
 use Rattle.theory.proofs.Update.{outgoing-grows}
 
@@ -60,11 +60,11 @@ module _ (g : Graph) (d : Division) (spans : List ℕ) where
 
   module _ {m : ℕ} (ok : DivisionOk m d) where
     -- two ways of processing that agree on the first-chosen child agree on all turns of a region
-    turns-agree : (go go′ : ℕ → State → State) (r : ℕ) → r < regions d → isLeaf d r ≡ false
+    children-agree : (go go′ : ℕ → State → State) (r : ℕ) → r < regions d → isLeaf d r ≡ false
         → ((c : ℕ) (s : State) → c < regions d → height d c < height d r → go c s ≡ go′ c s) → (n : ℕ) (s : State)
         → times n (alive g d r) (processChild g d go r) s ≡ times n (alive g d r) (processChild g d go′ r) s
     unfolding processChild
-    turns-agree go go′ r lr inner agree n s =
+    children-agree go go′ r lr inner agree n s =
         times-cong (alive g d r) _ _
         (λ s t.
         let x = chosen-of-key d (s .queues) r inner (alive-key g d r s t) in
@@ -83,7 +83,7 @@ module _ (g : Graph) (d : Division) (spans : List ℕ) where
         inner-agrees (suc n) (suc n′) r s
         (λ inner.
         processFor-inner n r s inner
-        ∙ turns-agree (processFor g d spans n) (processFor g d spans n′) r lr inner (λ c s lc lower. enough n n′ c s lc (omega arith) (omega arith)) _ _
+        ∙ children-agree (processFor g d spans n) (processFor g d spans n′) r lr inner (λ c s lc lower. enough n n′ c s lc (omega arith) (omega arith)) _ _
         ∙ sym (processFor-inner n′ r s inner))
 
     -- the rule of an inner region: "up to span times, while its smallest key isn't none, an inner region hands the turn to its child"
@@ -97,8 +97,46 @@ module _ (g : Graph) (d : Division) (spans : List ℕ) where
             by-height r s
             ∙ ap (λ (n : ℕ). processFor g d spans n r s) e
             ∙ processFor-inner n r s inner
-            ∙ turns-agree (processFor g d spans n) (process g d spans) r lr inner
+            ∙ children-agree (processFor g d spans n) (process g d spans) r lr inner
             (λ c s lc lower. enough n (height d c) c s lc (omega arith) (le-refl _) ∙ sym (by-height c s)) _ _
+
+-- WHAT EVERY STEP KEEPS
+-- P is kept by the working of every leaf, by counting, and by the rewriting of every key.
+pub record Invariant (g : Graph) (d : Division) (P : State → Type 0) : Type 0 where
+  pub leaf : (r : ℕ) (s : State) → r < regions d → isLeaf d r ≡ true → P s → P (processLeaf g d r s)
+  pub inner : (s : State) → P s → P (countInner g d s)
+  pub rewritten : (c : ℕ) (s : State) → c < regions d → P s → P (rewriteKey g d c s)
+
+module _ (g : Graph) (d : Division) (spans : List ℕ) {m : ℕ} (ok : DivisionOk m d) {P : State → Type 0} (kept : Invariant g d P) where
+  -- a turn of region r, where `go` is known to keep P at lower regions
+  child-invariant : (go : ℕ → State → State) (r : ℕ) (s : State) → isLeaf d r ≡ false → minKey d (s .queues) r < top
+      → ((c : ℕ) (s : State) → c < regions d → height d c < height d r → P s → P (go c s)) → P s → P (processChild g d go r s)
+  unfolding processChild
+  child-invariant go r s inner live ih p =
+      let c = minItem d (s .queues .keys) r in
+      let x = chosen-of-key d (s .queues) r inner live in
+      kept .rewritten c (go c s) (x .child .in-range) (ih c s (x .child .in-range) (chosen-lower ok s r x) p)
+
+  lower-invariant : (n r : ℕ) (s : State) → r < regions d → height d r < n → P s → P (process g d spans r s)
+  lower-invariant zero r s lr l p = absurd (omega arith)
+  lower-invariant (suc n) r s lr l p =
+      ⊎-elim (λ (leaf : isLeaf d r ≡ true). rw (process-leaf g d spans r s leaf) (kept .leaf r s lr leaf p))
+      (λ (inner : isLeaf d r ≡ false). rw (process-inner g d spans ok r s lr inner)
+      (times-keeps P (alive g d r) (processChild g d (process g d spans) r)
+      (λ t live q. child-invariant (process g d spans) r t inner (alive-key g d r t live) (λ c u lc lower v. lower-invariant n c u lc (omega arith) v) q)
+      (spanOf d spans r) (countInner g d s) (kept .inner s p)))
+      (true-or-false (isLeaf d r))
+
+  -- then processing keeps P, and so does each turn of an inner region that has a key, and any number of turns
+  pub process-invariant : (r : ℕ) (s : State) → r < regions d → P s → P (process g d spans r s)
+  process-invariant r s lr p = lower-invariant (suc (height d r)) r s lr (omega arith) p
+
+  pub processChild-invariant : (r : ℕ) (s : State) → isLeaf d r ≡ false → minKey d (s .queues) r < top → P s → P (processChild g d (process g d spans) r s)
+  processChild-invariant r s inner live p = child-invariant (process g d spans) r s inner live (λ c t lc _ q. process-invariant c t lc q) p
+
+  pub children-invariant : (n r : ℕ) (s : State) → isLeaf d r ≡ false → P s → P (times n (alive g d r) (processChild g d (process g d spans) r) s)
+  children-invariant n r s inner p =
+      times-keeps P (alive g d r) (processChild g d (process g d spans) r) (λ t live q. processChild-invariant r t inner (alive-key g d r t live) q) n s p
 
 -- COUNTS ONLY GROW
 pub grows-refl : (s : State) → Grows s s
@@ -106,6 +144,15 @@ grows-refl s = record { rounds = le-refl _; leaves = le-refl _; inner = le-refl 
 
 pub grows-trans : {s t u : State} → Grows s t → Grows t u → Grows s u
 grows-trans p q = record {
+  rounds = omega (arith, p .rounds, q .rounds);
+  leaves = omega (arith, p .leaves, q .leaves);
+  inner = omega (arith, p .inner, q .inner);
+  updates = omega (arith, p .updates, q .updates);
+}
+
+-- what is small at the end was small on the way
+pub grows-small : {s t : State} → Grows s t → Small t → Small s
+grows-small p q = record {
   rounds = omega (arith, p .rounds, q .rounds);
   leaves = omega (arith, p .leaves, q .leaves);
   inner = omega (arith, p .inner, q .inner);
@@ -141,36 +188,29 @@ module _ (g : Graph) (d : Division) where
   unfolding countRound
   countRound-grows s = record { rounds = omega arith; leaves = le-refl _; inner = le-refl _; updates = le-refl _ }
 
-  -- whatever processes the children, if it lowers no count, neither do the turns of a region
-  module _ (go : ℕ → State → State) (grows : (c : ℕ) (s : State) → Grows s (go c s)) where
-    pub processChild-grows : (r : ℕ) (s : State) → Grows s (processChild g d go r s)
-    unfolding processChild
-    processChild-grows r s =
-        let c = minItem d (s .queues .keys) r in
-        grows-trans (grows c s) (rewriteKey-grows c (go c s))
+  grows-invariant : (s : State) → Invariant g d (λ t. Grows s t)
+  grows-invariant s = record {
+    leaf = λ r t lr leaf p. grows-trans p (processLeaf-grows r t);
+    inner = λ t p. grows-trans p (countInner-grows t);
+    rewritten = λ c t lc p. grows-trans p (rewriteKey-grows c t);
+  }
 
-    pub turns-grow : (n r : ℕ) (s : State) → Grows s (times n (alive g d r) (processChild g d go r) s)
-    turns-grow n r s =
-        times-keeps (λ t. Grows s t) (alive g d r) (processChild g d go r) (λ t _ p. grows-trans p (processChild-grows r t)) n s (grows-refl s)
+  module _ {m : ℕ} (ok : DivisionOk m d) (spans : List ℕ) where
+    pub process-grows : (r : ℕ) (s : State) → r < regions d → Grows s (process g d spans r s)
+    process-grows r s lr = process-invariant g d spans ok (grows-invariant s) r s lr (grows-refl s)
 
-  module _ (spans : List ℕ) where
-    processFor-grows : (n r : ℕ) (s : State) → Grows s (processFor g d spans n r s)
-    unfolding processFor
-    processFor-grows zero r s = processLeaf-grows r s
-    processFor-grows (suc n) r s =
-        if-elim (λ (t : State). Grows s t) (isLeaf d r) (λ _. processLeaf-grows r s)
-        (λ _. grows-trans (countInner-grows s)
-        (turns-grow (processFor g d spans n) (λ c s. processFor-grows n c s) (spanOf d spans r) r (countInner g d s)))
+    -- one turn of a region that has a key, and up to n of them
+    pub processChild-grows : (r : ℕ) (s : State) → isLeaf d r ≡ false → minKey d (s .queues) r < top → Grows s (processChild g d (process g d spans) r s)
+    processChild-grows r s inner live = processChild-invariant g d spans ok (grows-invariant s) r s inner live (grows-refl s)
 
-    pub process-grows : (r : ℕ) (s : State) → Grows s (process g d spans r s)
-    unfolding process
-    process-grows r s = processFor-grows (height d r) r s
+    pub children-grow : (n r : ℕ) (s : State) → isLeaf d r ≡ false → Grows s (times n (alive g d r) (processChild g d (process g d spans) r) s)
+    children-grow n r s inner = children-invariant g d spans ok (grows-invariant s) n r s inner (grows-refl s)
 
     pub round-grows : (s : State) → Grows s (round g d spans s)
     unfolding round
-    round-grows s = grows-trans (countRound-grows s) (process-grows 0 (countRound g d s))
+    round-grows s = grows-trans (countRound-grows s) (process-grows 0 (countRound g d s) (ok .nesting .root))
 
-    -- up to n rounds lower no count
+    -- up to n rounds
     pub rounds-grow : (n : ℕ) (s : State) → Grows s (times n (λ s. not (ended g d s)) (round g d spans) s)
     rounds-grow n s =
         times-keeps (λ t. Grows s t) (λ s. not (ended g d s)) (round g d spans) (λ t _ p. grows-trans p (round-grows t)) n s (grows-refl s)

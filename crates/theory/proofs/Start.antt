@@ -1,20 +1,19 @@
 -- The start of a run: its columns, and the invariant. Assumes nothing.
-use Prim.Native.Nat.{ℕ, _*_, _≤_, _<_}
+use Prim.Native.Nat.{ℕ, _≤_, _<_}
 use mathlib.Core.Bool.{true, false}
-use mathlib.Core.Path.{_≡_, refl, sym, ap, _∙_}
-use mathlib.Core.Logic.{_≢_, _⊎_, ⊎-elim}
+use mathlib.Core.Path.{_≡_, sym, ap, _∙_}
+use mathlib.Core.Logic.{_≢_, ⊎-elim}
 use mathlib.Core.List.{List}
 use native.Mathlib.Nat.{le-refl}
 use native.Mathlib.Omega.{arith}
-use lib.ListN.{length, set, replicate, length-set, length-replicate, getD-replicate}
+use lib.ListN.{set, replicate, length-set, length-replicate, getD-replicate}
 use lib.Seq.{getD-set-same, getD-set-other}
 use Rattle.indices.specs.Columns.{at}
 use Rattle.indices.proofs.Steps.{eq-or-ne, true-or-false, set-elim}
 use Rattle.sheet.specs.Words.{top}
 use Rattle.procedure.specs.Graph.{Graph, arcs, tail}
 use Rattle.procedure.specs.Division.{Division, regions, arcOf, isLeaf}
-use Rattle.procedure.specs.State.{Queues, State}
-use Rattle.procedure.specs.Queues.{minKey}
+use Rattle.procedure.specs.State.{Queues}
 use Rattle.procedure.specs.Procedure.{start}
 use Rattle.procedure.specs.Settled.{home}
 use Rattle.procedure.specs.WellFormed.{WellFormed}

@@ -13,8 +13,8 @@ use lib.Seq.{getD-set-same, getD-set-other}
 use lib.Dec.{ltb, eqb, ltb→lt, nltb→le, eqb→eq}
 use Rattle.indices.specs.Columns.{at}
 use Rattle.indices.specs.Tests.{count}
-use Rattle.indices.specs.Steps.{if_then_else_, upTo}
-use Rattle.indices.proofs.Tests.{count-none, count-in, count-out}
+use Rattle.indices.specs.Steps.{if_then_else_}
+use Rattle.indices.proofs.Tests.{count-in, count-out}
 use Rattle.indices.proofs.Steps.{if-elim, if-and-elim, if-cong, neqb→ne, eq-or-ne, lt-or-le, upTo-keeps, set-elim}
 use Rattle.sheet.specs.Words.{top}
 use Rattle.procedure.specs.Division.{Division, regions, parent, arcOf, isLeaf, leafOf}

@@ -9,7 +9,7 @@ use Rattle.indices.specs.Tests.{count}
 use Rattle.sheet.specs.Limits.{mostLength}
 use Rattle.sheet.specs.Words.{top}
 use Rattle.procedure.specs.Graph.{Graph, arcs, tail, head, len}
-use Rattle.procedure.specs.Division.{Division, regions, parent}
+use Rattle.procedure.specs.Division.{Division, regions}
 use Rattle.procedure.specs.State.{Queues, State}
 use Rattle.procedure.specs.Queues.{minKey}
 use Rattle.procedure.specs.Settled.{LeadsBack}
