@@ -17,7 +17,8 @@ if-elim P true f g = f tt
 if-elim P false f g = g tt
 
 -- the same where two tests are joined
-pub if-and-elim {ℓ κ} : {A : Type ℓ} (P : A → Type κ) (a b : Bool) {x y : A} → (T a → T b → P x) → (T a → T (not b) → P y) → (T (not a) → P y) → P (if a && b then x else y)
+pub if-and-elim {ℓ κ} : {A : Type ℓ} (P : A → Type κ) (a b : Bool) {x y : A}
+    → (T a → T b → P x) → (T a → T (not b) → P y) → (T (not a) → P y) → P (if a && b then x else y)
 if-and-elim P true true f g k = f tt tt
 if-and-elim P true false f g k = g tt tt
 if-and-elim P false b f g k = k tt
@@ -90,7 +91,8 @@ module _ {ℓ κ} {S : Type ℓ} where
       if-elim J (test s) (λ _. times-keeps J test f (λ s t j. step s t (weak s j)) n (f s) (step s t p)) (λ u. absurd (T-not (test s) u t))
 
   -- Where f raises m by one or more, and the test still holds at the end, m was raised n times.
-  pub times-rise : (P : S → Type κ) (m : S → ℕ) (test : S → Bool) (f : S → S) → ((s : S) → T (test s) → P s → P (f s)) → ((s : S) → T (test s) → P s → m s < m (f s))
+  pub times-rise : (P : S → Type κ) (m : S → ℕ) (test : S → Bool) (f : S → S)
+      → ((s : S) → T (test s) → P s → P (f s)) → ((s : S) → T (test s) → P s → m s < m (f s))
       → (n : ℕ) (s : S) → P s → T (test (times n test f s)) → m s + n ≤ m (times n test f s)
   unfolding times
   times-rise P m test f keep rise zero s p = λ t. omega arith

@@ -36,7 +36,8 @@ module _ (g : Graph) (d : Division) (spans : List ℕ) where
   rounds-in-parts k m = times-add (λ s. not (ended g d s)) (round g d spans) k m (start g d spans)
 
   -- one round more, unless the run has ended
-  pub one-more-round : (k : ℕ) → after g d spans (k + 1) ≡ (if not (ended g d (after g d spans k)) then round g d spans (after g d spans k) else after g d spans k)
+  pub one-more-round : (k : ℕ)
+      → after g d spans (k + 1) ≡ (if not (ended g d (after g d spans k)) then round g d spans (after g d spans k) else after g d spans k)
   unfolding times
   one-more-round k = rounds-in-parts k 1
 

@@ -294,8 +294,9 @@ module _ {most : ℕ} {g : Graph} {d : Division} {spans : List ℕ} (ok : WellFo
   rewriteKey-sound X c s xp pc lc z p =
       let q = s .queues in
       sound-with p X _ refl
-      (λ y py ly out. key-valued (ok .division) X (parent d c) c (minKey d q c) (q .updates) q (z .queued .keys) (parent-child (ok .division) c pc lc) refl (p .valued)
-      y py ly (λ (w : (y ≡ parent d c) ⊎ X y). ⊎-elim (λ (e : y ≡ parent d c). out (rw e xp)) out w))
+      (λ y py ly out.
+      key-valued (ok .division) X (parent d c) c (minKey d q c) (q .updates) q (z .queued .keys) (parent-child (ok .division) c pc lc) refl (p .valued) y py ly
+      (λ (w : (y ≡ parent d c) ⊎ X y). ⊎-elim (λ (e : y ≡ parent d c). out (rw e xp)) out w))
 
   -- so every column keeps its length, and no label or key rises above `top`, through all processing (whether or not the invariant holds)
   shape-invariant : Invariant g d (λ s. Shape g d s)
@@ -305,7 +306,8 @@ module _ {most : ℕ} {g : Graph} {d : Division} {spans : List ℕ} (ok : WellFo
   pub process-shape : (r : ℕ) (s : State) → r < regions d → Shape g d s → Shape g d (process g d spans r s)
   process-shape r s lr z = process-invariant g d spans (ok .division) shape-invariant r s lr z
 
-  pub processChild-shape : (r : ℕ) (s : State) → isLeaf d r ≡ false → minKey d (s .queues) r < top → Shape g d s → Shape g d (processChild g d (process g d spans) r s)
+  pub processChild-shape : (r : ℕ) (s : State) → isLeaf d r ≡ false → minKey d (s .queues) r < top → Shape g d s
+      → Shape g d (processChild g d (process g d spans) r s)
   processChild-shape r s inner live z = processChild-invariant g d spans (ok .division) shape-invariant r s inner live z
 
   pub children-shape : (n r : ℕ) (s : State) → isLeaf d r ≡ false → Shape g d s → Shape g d (times n (alive g d r) (processChild g d (process g d spans) r) s)

@@ -37,8 +37,8 @@ pub record Held (g : Graph) (d : Division) (X : ℕ → Type 0) (K : State → T
   pub sound : Sound g d X s
   pub kept : K s
 
--- What is shown of each step to have it of all processing, where X is at work and r is the region that has the turn. `I X r j` is had on the way down,
--- behind j inner regions that are counted and have worked no leaf yet; `J X r` is had once a leaf was worked. Where I and J are one, it is an invariant.
+-- What is shown of each step to have it of all processing, where X is at work and r is the region being processed. `I X r j` holds on the way down,
+-- behind j inner regions that are counted and have worked no leaf yet; `J X r` holds once a leaf was worked. Where I and J are one, it is an invariant.
 pub record Kept (g : Graph) (d : Division) (I : (ℕ → Type 0) → ℕ → ℕ → State → Type 0) (J : (ℕ → Type 0) → ℕ → State → Type 0) : Type 1 where
   pub leaf : (X : ℕ → Type 0) (r j : ℕ) (s : State) → Within d X r → j ≤ height d 0 → isLeaf d r ≡ true → at (s .queues .own) (arcOf d r) < top
       → Shape g d s → Sound g d X s → I X r j s → J X r (processLeaf g d r s)
@@ -51,7 +51,7 @@ pub record Kept (g : Graph) (d : Division) (I : (ℕ → Type 0) → ℕ → ℕ
   pub weak : (X : ℕ → Type 0) (r j : ℕ) (s : State) → J X r s → I X r j s
 
 module _ {most : ℕ} {g : Graph} {d : Division} {spans : List ℕ} (ok : WellFormed most g d spans) where
-  -- every inner region may take a turn
+  -- every inner region has a span above 0
   span-positive : (r : ℕ) → r < regions d → isLeaf d r ≡ false → 0 < spanOf d spans r
   span-positive r lr inner =
       let high = inner-high (ok .division) r lr inner in
@@ -69,10 +69,14 @@ module _ {most : ℕ} {g : Graph} {d : Division} {spans : List ℕ} (ok : WellFo
           kept = k .leaf X r j s w lj leaf keyed (p .shape) (p .sound) (p .kept);
         }
 
-    -- a turn of the inner region r, where `go` is known to keep things at r's children
+    -- `go` keeps things at the regions lower than r
+    abbrev KeepsBelow : ℕ → ℕ → (ℕ → State → State) → Type 1
+    KeepsBelow r j go = (X : ℕ → Type 0) (c : ℕ) (s : State) → Within d X c → height d c < height d r → minKey d (s .queues) c < top
+        → Held g d X (I X c j) s → Held g d X (J X c) (go c s)
+
+    -- the processing of r's first-chosen child, and the rewriting of its key
     child-keeps : (X : ℕ → Type 0) (r j : ℕ) (s : State) (go : ℕ → State → State) → Within d X r → isLeaf d r ≡ false → minKey d (s .queues) r < top
-        → ((X : ℕ → Type 0) (c : ℕ) → Within d X c → height d c < height d r → minKey d (s .queues) c < top → Held g d X (I X c j) s → Held g d X (J X c) (go c s))
-        → Held g d X (I X r j) s → Held g d X (J X r) (processChild g d go r s)
+        → KeepsBelow r j go → Held g d X (I X r j) s → Held g d X (J X r) (processChild g d go r s)
     unfolding processChild
     child-keeps X r j s go w inner live ih p =
         let c = minItem d (s .queues .keys) r in
@@ -81,7 +85,7 @@ module _ {most : ℕ} {g : Graph} {d : Division} {spans : List ℕ} (ok : WellFo
         let below : parent d c < c = ok .division .nesting .lower c (h .positive) (h .in-range) in
         let fresh : ¬ X c = λ y. omega (arith, w .above c y, h .under) in
         let own-parent : X (parent d c) = rw (h .under) (w .itself) in
-        let q = ih (_with_ X c) c
+        let q = ih (_with_ X c) c s
         (record {
           in-range = h .in-range;
           itself = inl refl;
@@ -106,13 +110,13 @@ module _ {most : ℕ} {g : Graph} {d : Division} {spans : List ℕ} (ok : WellFo
     unfolding alive countInner
     still-alive r s l = lt→ltb _ _ l
 
-    -- all turns of the inner region r
+    -- the whole loop of the inner region r
     children-keep : (X : ℕ → Type 0) (r j : ℕ) (s : State) (go : ℕ → State → State) → Within d X r → isLeaf d r ≡ false → minKey d (s .queues) r < top
-        → ((X : ℕ → Type 0) (c : ℕ) (s : State) → Within d X c → height d c < height d r → minKey d (s .queues) c < top → Held g d X (I X c (suc j)) s → Held g d X (J X c) (go c s))
-        → Held g d X (I X r j) s → Held g d X (J X r) (times (spanOf d spans r) (alive g d r) (processChild g d go r) (countInner g d s))
+        → KeepsBelow r (suc j) go → Held g d X (I X r j) s
+        → Held g d X (J X r) (times (spanOf d spans r) (alive g d r) (processChild g d go r) (countInner g d s))
     children-keep X r j s go w inner live ih p =
         times-reach (λ t. Held g d X (I X r (suc j)) t) (λ t. Held g d X (J X r) t) (alive g d r) (processChild g d go r)
-        (λ t a q. child-keeps X r (suc j) t go w inner (alive-key g d r t a) (λ X c. ih X c t) q)
+        (λ t a q. child-keeps X r (suc j) t go w inner (alive-key g d r t a) ih q)
         (λ t q. record { shape = q .shape; sound = q .sound; kept = k .weak X r (suc j) t (q .kept) })
         (spanOf d spans r) (countInner g d s) (span-positive r (w .in-range) inner) (still-alive r s live) (inner-keeps X r j s w inner live p)
 
@@ -128,7 +132,8 @@ module _ {most : ℕ} {g : Graph} {d : Division} {spans : List ℕ} (ok : WellFo
         (true-or-false (isLeaf d r))
 
     -- a round keeps what processing keeps
-    pub round-keeps : (s : State) → minKey d (s .queues) 0 < top → Shape g d s → Sound g d Root s → I Root 0 0 (countRound g d s) → Held g d Root (J Root 0) (round g d spans s)
+    pub round-keeps : (s : State) → minKey d (s .queues) 0 < top → Shape g d s → Sound g d Root s → I Root 0 0 (countRound g d s)
+        → Held g d Root (J Root 0) (round g d spans s)
     unfolding round countRound
     round-keeps s live z p i =
         process-keeps (suc (height d 0)) Root 0 0 (countRound g d s)
@@ -146,7 +151,8 @@ module _ {most : ℕ} {g : Graph} {d : Division} {spans : List ℕ} (ok : WellFo
 
   -- THE INDUCTION OVER ROUNDS: what holds at the start, and is kept by processing, holds after any number of rounds.
   pub after-keeps : {I : (ℕ → Type 0) → ℕ → ℕ → State → Type 0} {J : (ℕ → Type 0) → ℕ → State → Type 0} (K : State → Type 0) → Kept g d I J
-      → ((s : State) → K s → I Root 0 0 (countRound g d s)) → ((s : State) → J Root 0 s → K s) → K (start g d spans) → (k : ℕ) → Held g d Root K (after g d spans k)
+      → ((s : State) → K s → I Root 0 0 (countRound g d s)) → ((s : State) → J Root 0 s → K s) → K (start g d spans)
+      → (k : ℕ) → Held g d Root K (after g d spans k)
   unfolding after
   after-keeps K kept enter leave base k =
       times-keeps (λ s. Held g d Root K s) (λ s. not (ended g d s)) (round g d spans)

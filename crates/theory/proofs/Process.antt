@@ -59,7 +59,7 @@ module _ (g : Graph) (d : Division) (spans : List ℕ) where
   process-leaf r s leaf = by-height r s ∙ processFor-leaf (height d r) r s leaf
 
   module _ {m : ℕ} (ok : DivisionOk m d) where
-    -- two ways of processing that agree on the first-chosen child agree on all turns of a region
+    -- two ways of processing that agree on the first-chosen child agree on the loop of a region
     children-agree : (go go′ : ℕ → State → State) (r : ℕ) → r < regions d → isLeaf d r ≡ false
         → ((c : ℕ) (s : State) → c < regions d → height d c < height d r → go c s ≡ go′ c s) → (n : ℕ) (s : State)
         → times n (alive g d r) (processChild g d go r) s ≡ times n (alive g d r) (processChild g d go′ r) s
@@ -91,7 +91,8 @@ module _ (g : Graph) (d : Division) (spans : List ℕ) where
         → process g d spans r s ≡ times (spanOf d spans r) (alive g d r) (processChild g d (process g d spans) r) (countInner g d s)
     process-inner r s lr inner = go (height d r) refl
       where
-        go : (n : ℕ) → height d r ≡ n → process g d spans r s ≡ times (spanOf d spans r) (alive g d r) (processChild g d (process g d spans) r) (countInner g d s)
+        go : (n : ℕ) → height d r ≡ n
+            → process g d spans r s ≡ times (spanOf d spans r) (alive g d r) (processChild g d (process g d spans) r) (countInner g d s)
         go zero e = absurd (omega (arith, inner-high ok r lr inner))
         go (suc n) e =
             by-height r s
@@ -108,7 +109,7 @@ pub record Invariant (g : Graph) (d : Division) (P : State → Type 0) : Type 0 
   pub rewritten : (c : ℕ) (s : State) → c < regions d → P s → P (rewriteKey g d c s)
 
 module _ (g : Graph) (d : Division) (spans : List ℕ) {m : ℕ} (ok : DivisionOk m d) {P : State → Type 0} (kept : Invariant g d P) where
-  -- a turn of region r, where `go` is known to keep P at lower regions
+  -- the processing of r's first-chosen child, where `go` keeps P at lower regions
   child-invariant : (go : ℕ → State → State) (r : ℕ) (s : State) → isLeaf d r ≡ false → minKey d (s .queues) r < top
       → ((c : ℕ) (s : State) → c < regions d → height d c < height d r → P s → P (go c s)) → P s → P (processChild g d go r s)
   unfolding processChild
@@ -127,7 +128,7 @@ module _ (g : Graph) (d : Division) (spans : List ℕ) {m : ℕ} (ok : DivisionO
       (spanOf d spans r) (countInner g d s) (kept .inner s p)))
       (true-or-false (isLeaf d r))
 
-  -- then processing keeps P, and so does each turn of an inner region that has a key, and any number of turns
+  -- then processing keeps P, and so does the processing of a first-chosen child, once or up to n times
   pub process-invariant : (r : ℕ) (s : State) → r < regions d → P s → P (process g d spans r s)
   process-invariant r s lr p = lower-invariant (suc (height d r)) r s lr (omega arith) p
 
@@ -199,7 +200,7 @@ module _ (g : Graph) (d : Division) where
     pub process-grows : (r : ℕ) (s : State) → r < regions d → Grows s (process g d spans r s)
     process-grows r s lr = process-invariant g d spans ok (grows-invariant s) r s lr (grows-refl s)
 
-    -- one turn of a region that has a key, and up to n of them
+    -- the processing of a first-chosen child, once or up to n times
     pub processChild-grows : (r : ℕ) (s : State) → isLeaf d r ≡ false → minKey d (s .queues) r < top → Grows s (processChild g d (process g d spans) r s)
     processChild-grows r s inner live = processChild-invariant g d spans ok (grows-invariant s) r s inner live (grows-refl s)
 

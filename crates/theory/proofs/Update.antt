@@ -1,4 +1,4 @@
--- Laws of an update: it climbs without fuel; what it does to own keys, to lengths and to the count; and that keys stay smallest keys through it. Assumes nothing.
+-- Laws of an update: it climbs without fuel; what it changes and counts; and that keys stay smallest keys through it. Assumes nothing.
 use Prim.Native.Nat.{ℕ, zero, suc, _+_, _*_, _≤_, _<_}
 use mathlib.Core.Bool.{Bool, true, false, _&&_, false≢true}
 use mathlib.Core.Path.{_≡_, refl, sym, ap, _∙_}
@@ -93,7 +93,8 @@ module _ {m : ℕ} {d : Division} (ok : DivisionOk m d) where
   enough (suc n) (suc n′) zero x k q l l′ lr = refl
   enough (suc n) (suc n′) (suc r) x k q l l′ lr =
       let down = ok .nesting .lower (suc r) (omega arith) lr in
-      if-cong (climbs d (suc r) x k q) _ _ (write d (suc r) x k q) (λ _. enough n n′ (parent d (suc r)) (suc r) k (write d (suc r) x k q) (omega arith) (omega arith) (omega arith))
+      if-cong (climbs d (suc r) x k q) _ _ (write d (suc r) x k q)
+      (λ _. enough n n′ (parent d (suc r)) (suc r) k (write d (suc r) x k q) (omega arith) (omega arith) (omega arith))
 
   -- "write the key. If the region's smallest key fell, the update climbs to the parent [..] At region 0 it stops."
   pub update-climbs : (r x k : ℕ) (q : Queues) → r < regions d
@@ -102,7 +103,8 @@ module _ {m : ℕ} {d : Division} (ok : DivisionOk m d) where
   update-climbs zero x k q lr = refl
   update-climbs (suc r) x k q lr =
       let down = ok .nesting .lower (suc r) (omega arith) lr in
-      if-cong (climbs d (suc r) x k q) _ _ (write d (suc r) x k q) (λ _. enough r (parent d (suc r)) (parent d (suc r)) (suc r) k (write d (suc r) x k q) (omega arith) (le-refl _) (omega arith))
+      if-cong (climbs d (suc r) x k q) _ _ (write d (suc r) x k q)
+      (λ _. enough r (parent d (suc r)) (parent d (suc r)) (suc r) k (write d (suc r) x k q) (omega arith) (le-refl _) (omega arith))
 
   -- to prove P of an update, prove it where the update climbs, where the smallest key did not fall, and at region 0
   pub update-elim : (P : Queues → Type 0) (r x k : ℕ) (q : Queues) → r < regions d
@@ -179,13 +181,13 @@ module _ {m : ℕ} {d : Division} (ok : DivisionOk m d) where
       update-elim (λ q′. Valued d X q′) r x k q lr
       (λ pos fell.
       let is′ : minKey d q′ r ≡ k = rw wrote (minKey-fell d q r x k _ inner h inside (rw wrote at fell)) in
-      climb-valued X up n (parent d r) r k q′ (omega (arith, ok .nesting .lower r pos lr)) (rw wrote (length-set (q .keys) x k ∙ all)) (ok .nesting .inner r pos lr)
-      (parent-child r pos lr) is′ (λ out. omega (arith, same, was pos out)) rest)
+      climb-valued X up n (parent d r) r k q′ (omega (arith, ok .nesting .lower r pos lr)) (rw wrote (length-set (q .keys) x k ∙ all))
+      (ok .nesting .inner r pos lr) (parent-child r pos lr) is′ (λ out. omega (arith, same, was pos out)) rest)
       (λ pos stay y py ly out. ⊎-elim
       (λ (w : y ≡ r).
       let out′ : ¬ X r = rw w at out in
-      let le : minKey d q′ r ≤ minKey d q r =
-      rw wrote (minKey-no-higher d q r x k _ inner h inside (omega (arith, low (λ (xx : X x). out′ (rw (h .under) at (up x (h .positive) (h .in-range) xx)))))) in
+      let free : ¬ X x = λ xx. out′ (rw (h .under) at (up x (h .positive) (h .in-range) xx)) in
+      let le : minKey d q′ r ≤ minKey d q r = rw wrote (minKey-no-higher d q r x k _ inner h inside (omega (arith, low free))) in
       rw w (omega (arith, same, was pos out′)))
       (λ (w : y ≢ r). rest y py ly (λ (z : (y ≡ r) ⊎ X y). ⊎-elim w out z)) (eq-or-ne y r))
       (λ root y py ly out. rest y py ly (λ (z : (y ≡ r) ⊎ X y). ⊎-elim (λ (w : y ≡ r). omega arith) out z))
