@@ -23,8 +23,7 @@ use Rattle.procedure.specs.Settled.{LeadsBack, home, back, Settled}
 use Rattle.procedure.specs.WellFormed.{WellFormed}
 use Rattle.theory.specs.Sound.{Shape, Valued, Sound, Root}
 use Rattle.theory.specs.Counts.{Small}
-use Rattle.theory.proofs.Chosen.{minKey-leaf, minKey-least}
-use Rattle.theory.proofs.Update.{parent-child}
+use Rattle.theory.proofs.Chosen.{parent-child, minKey-leaf, minKey-least}
 use Rattle.theory.proofs.Labels.{few-arcs}
 use Rattle.theory.proofs.Counts.{potential, after-counted, ends, start-small}
 
@@ -109,7 +108,7 @@ module _ {most : ℕ} {g : Graph} {d : Division} {spans : List ℕ} (ok : WellFo
       let up = no-region-keyed q v none n (parent d (suc r)) (omega arith) (omega arith) in
       omega (
         arith,
-        minKey-least d q (parent d (suc r)) (ok .division .nesting .inner (suc r) pos lr) (suc r) (parent-child (ok .division) (suc r) pos lr),
+        minKey-least d q (parent d (suc r)) (ok .division .nesting .inner (suc r) pos lr) (suc r) (parent-child d (suc r) pos lr),
         v (suc r) pos lr (λ (e : suc r ≡ 0). omega arith),
       )
 

@@ -26,7 +26,9 @@ use Rattle.procedure.specs.WellFormed.{WellFormed}
 use Rattle.theory.specs.Sound.{Shape, reached, Valued, SoundOf, Sound}
 use Rattle.theory.proofs.Totals.{count-one}
 use Rattle.theory.proofs.Process.{Invariant, process-invariant, processChild-invariant, children-invariant}
-use Rattle.theory.proofs.Update.{Closed, _with_, own-valued, key-valued, parent-child, outgoing-changes, outgoing-sized, outgoing-valued}
+use Rattle.theory.proofs.Chosen.{parent-child}
+use Rattle.theory.proofs.Smallest.{Closed, _with_, own-valued, key-valued}
+use Rattle.theory.proofs.Outgoing.{outgoing-changes, outgoing-sized, outgoing-valued}
 
 -- the label that arc a gives its head
 abbrev pub sumBy : Graph → ℕ → State → ℕ
@@ -295,7 +297,7 @@ module _ {most : ℕ} {g : Graph} {d : Division} {spans : List ℕ} (ok : WellFo
       let q = s .queues in
       sound-with p X _ refl
       (λ y py ly out.
-      key-valued (ok .division) X (parent d c) c (minKey d q c) (q .updates) q (z .queued .keys) (parent-child (ok .division) c pc lc) refl (p .valued) y py ly
+      key-valued (ok .division) X (parent d c) c (minKey d q c) (q .updates) q (z .queued .keys) (parent-child d c pc lc) refl (p .valued) y py ly
       (λ (w : (y ≡ parent d c) ⊎ X y). ⊎-elim (λ (e : y ≡ parent d c). out (rw e xp)) out w))
 
   -- so every column keeps its length, and no label or key rises above `top`, through all processing (whether or not the invariant holds)

@@ -19,7 +19,7 @@ use Rattle.procedure.specs.Procedure.{processLeaf, rewriteKey, countInner, coun
 use Rattle.procedure.specs.WellFormed.{WellFormed}
 use Rattle.theory.specs.Sound.{Shape, Sound, Root}
 use Rattle.theory.proofs.Chosen.{Child, Chosen, chosen-of-key, minKey-leaf}
-use Rattle.theory.proofs.Update.{Closed, _with_}
+use Rattle.theory.proofs.Smallest.{Closed, _with_}
 use Rattle.theory.proofs.Process.{alive-key, inner-high, chosen-lower, process-leaf, process-inner}
 use Rattle.theory.proofs.Labels.{sound-enter, leaf-shape, leaf-sound, rewriteKey-shape, rewriteKey-sound}
 use Rattle.theory.proofs.Start.{root-closed, start-shape, start-sound}

@@ -19,7 +19,7 @@ use Rattle.procedure.specs.Procedure.{relax, clearKey, processLeaf, rewriteKey,
 use Rattle.procedure.specs.WellFormed.{DivisionOk}
 use Rattle.theory.specs.Counts.{Grows, Small}
 use Rattle.theory.proofs.Chosen.{Chosen, chosen-of-key}
-use Rattle.theory.proofs.Update.{outgoing-grows}
+use Rattle.theory.proofs.Outgoing.{outgoing-grows}
 
 -- WITHOUT FUEL
 -- a region is alive where its smallest key isn't none

@@ -19,7 +19,8 @@ use Rattle.procedure.specs.Settled.{home}
 use Rattle.procedure.specs.WellFormed.{WellFormed}
 use Rattle.theory.specs.Sound.{Sized, Shape, Valued, Sound, Root}
 use Rattle.theory.proofs.Chosen.{minKey-leaf, minKey-all-none}
-use Rattle.theory.proofs.Update.{Closed, Outgoing, outgoing-changes, outgoing-sized, outgoing-valued}
+use Rattle.theory.proofs.Smallest.{Closed}
+use Rattle.theory.proofs.Outgoing.{Outgoing, outgoing-changes, outgoing-sized, outgoing-valued}
 use Rattle.theory.proofs.Labels.{few-arcs, top-positive}
 
 -- the queues before the first update: no key
