@@ -106,6 +106,20 @@ module _ {ℓ} {S : Type ℓ} where
   upTo-cong f g s zero e = refl
   upTo-cong f g s (suc n) e = e n (upTo n f s) (lt-suc-self n) ∙ ap (g n) (upTo-cong f g s n (λ i t l. e i t (omega arith)))
 
+  -- one step, where the test holds, and none where it fails
+  pub times-on : (test : S → Bool) (f : S → S) (n : ℕ) (s : S) → test s ≡ true → times (suc n) test f s ≡ times n test f (f s)
+  unfolding times
+  times-on test f n s e = rw e
+
+  pub times-off : (test : S → Bool) (f : S → S) (n : ℕ) (s : S) → test s ≡ false → times n test f s ≡ s
+  unfolding times
+  times-off test f zero s e = refl
+  times-off test f (suc n) s e = rw e
+
+  pub times-none : (test : S → Bool) (f : S → S) (s : S) → times 0 test f s ≡ s
+  unfolding times
+  times-none test f s = refl
+
   -- steps that agree where the test holds
   pub times-cong : (test : S → Bool) (f g : S → S) → ((s : S) → T (test s) → f s ≡ g s) → (n : ℕ) (s : S) → times n test f s ≡ times n test g s
   unfolding times
@@ -132,14 +146,10 @@ module _ {ℓ} {S : Type ℓ} where
   times-add test f zero m s = rw (zero-add m)
   times-add test f (suc n) m s = rw (suc-add n m) (go (times-add test f n m (f s)) (test s) refl)
     where
-      stopped : (m : ℕ) → test s ≡ false → times m test f s ≡ s
-      stopped zero e = refl
-      stopped (suc m) e = rw e
-
       go : times (n + m) test f (f s) ≡ times m test f (times n test f (f s)) → (b : Bool) → test s ≡ b
           → (if b then times (n + m) test f (f s) else s) ≡ times m test f (if b then times n test f (f s) else s)
       go ih true e = ih
-      go ih false e = sym (stopped m e)
+      go ih false e = sym (times-off test f m s e)
 
 -- to prove P of an entry after a store, prove it of the value stored and of the entries that stay
 pub set-elim {κ} : (P : ℕ → Type κ) (l : List ℕ) (i j a d : ℕ) → i < length l → (j ≡ i → P a) → (j ≢ i → P (getD l j d)) → P (getD (set l i a) j d)

@@ -6,24 +6,25 @@ use mathlib.Core.Logic.{_⊎_, inl, inr, ⊎-elim}
 use mathlib.Core.List.{List}
 use native.Mathlib.Nat.{mul-le-mul, mul-le-mul-right}
 use native.Mathlib.Omega.{arith}
-use borrow.Author.Tests.{ltb-false, not-true, lt-ltb}
+use borrow.Author.Tests.{lt-ltb}
 use lib.Dec.{T, ltb}
 use Rattle.indices.specs.Columns.{at}
-use Rattle.indices.specs.Steps.{if_then_else_, times}
+use Rattle.indices.specs.Steps.{times}
 use Rattle.indices.proofs.Tests.{count-le}
-use Rattle.indices.proofs.Steps.{lt-or-le, times-stop, times-add}
+use Rattle.indices.proofs.Steps.{lt-or-le, times-on, times-none, times-stop, times-add}
 use Rattle.sheet.specs.Limits.{mostLength}
 use Rattle.sheet.specs.Words.{top}
 use Rattle.procedure.specs.Graph.{Graph, arcs}
 use Rattle.procedure.specs.Division.{Division, regions, parent, arcOf, isLeaf, leafOf, height}
-use Rattle.procedure.specs.State.{Queues, State, label, predecessor}
+use Rattle.procedure.specs.State.{Queues, label, predecessor}
 use Rattle.procedure.specs.Queues.{minKey}
-use Rattle.procedure.specs.Procedure.{alive, ended, start, round, after, final}
+use Rattle.procedure.specs.Procedure.{ended, start, round, after, final}
 use Rattle.procedure.specs.Settled.{LeadsBack, home, back, Settled}
 use Rattle.procedure.specs.WellFormed.{WellFormed}
 use Rattle.theory.specs.Sound.{Shape, Valued, Sound, Root}
 use Rattle.theory.specs.Counts.{Small}
 use Rattle.theory.proofs.Chosen.{parent-child, minKey-leaf, minKey-least}
+use Rattle.theory.proofs.Process.{ended-none}
 use Rattle.theory.proofs.Labels.{few-arcs}
 use Rattle.theory.proofs.Counts.{potential, after-counted, ends, start-small}
 
@@ -34,11 +35,10 @@ module _ (g : Graph) (d : Division) (spans : List ℕ) where
   unfolding after
   rounds-in-parts k m = times-add (λ s. not (ended g d s)) (round g d spans) k m (start g d spans)
 
-  -- one round more, unless the run has ended
-  pub one-more-round : (k : ℕ)
-      → after g d spans (k + 1) ≡ (if not (ended g d (after g d spans k)) then round g d spans (after g d spans k) else after g d spans k)
-  unfolding times
-  one-more-round k = rounds-in-parts k 1
+  -- a run that has not ended after k rounds makes one more
+  pub next-round : (k : ℕ) → ended g d (after g d spans k) ≡ false → after g d spans (k + 1) ≡ round g d spans (after g d spans k)
+  next-round k e =
+      rounds-in-parts k 1 ∙ times-on (λ s. not (ended g d s)) (round g d spans) 0 (after g d spans k) (rw e) ∙ times-none (λ s. not (ended g d s)) (round g d spans) _
 
   -- an ended run stays as it is
   pub ended-stays : (k m : ℕ) → ended g d (after g d spans k) ≡ true → k ≤ m → after g d spans m ≡ after g d spans k
@@ -94,10 +94,6 @@ module _ {most : ℕ} {g : Graph} {d : Division} {spans : List ℕ} (ok : WellFo
       (λ (l : predecessor (after g d spans k) v < arcs g). omega (arith, ok .graph .few-arcs)) (predecessor-fits k v lv)
 
   -- THE END
-  ended-none : (s : State) → ended g d s ≡ true → top ≤ minKey d (s .queues) 0
-  unfolding ended alive
-  ended-none s e = ltb-false _ _ (not-true _ e)
-
   -- where region 0 has no key, no region has one
   no-region-keyed : (q : Queues) → Valued d Root q → top ≤ minKey d q 0 → (n r : ℕ) → r < n → r < regions d → top ≤ minKey d q r
   no-region-keyed q v none zero r ln lr = absurd (omega arith)
@@ -120,7 +116,7 @@ module _ {most : ℕ} {g : Graph} {d : Division} {spans : List ℕ} (ok : WellFo
       let leaf : isLeaf d (leafOf d a) ≡ true = lt-ltb (arcOf d (leafOf d a)) top (omega (arith, few-arcs ok, p .1)) in
       omega (
         arith,
-        no-region-keyed q (after-sound k .valued) (ended-none (after g d spans k) e) (regions d) (leafOf d a) (p .0) (p .0),
+        no-region-keyed q (after-sound k .valued) (ended-none g d (after g d spans k) e) (regions d) (leafOf d a) (p .0) (p .0),
         minKey-leaf d q (leafOf d a) leaf ∙ ap (at (q .own)) (p .1),
         after-shape k .queued .capped a la,
       )
@@ -176,7 +172,7 @@ module _ {most : ℕ} {g : Graph} {d : Division} {spans : List ℕ} (ok : WellFo
 
     -- a round of a run that has not ended has small counts, so all counts within it are small
     pub round-small : (k : ℕ) → ended g d (after g d spans k) ≡ false → Small (round g d spans (after g d spans k))
-    round-small k e = rw (one-more-round g d spans k, e) at (after-small (k + 1))
+    round-small k e = rw (next-round g d spans k e) at (after-small (k + 1))
 
     -- the run to its end is settled
     pub final-settled : Settled g (final g d spans .labels) (final g d spans .predecessors)

@@ -9,47 +9,26 @@ use native.Mathlib.Omega.{arith}
 use borrow.Author.Tests.{lt-ltb, ltb-true}
 use lib.ListN.{length, set, length-set}
 use lib.Seq.{getD-set-same, getD-set-other}
-use lib.Dec.{ltb, ltb→lt, nltb→le}
+use lib.Dec.{ltb}
 use Rattle.indices.specs.Columns.{at}
 use Rattle.indices.specs.Steps.{times}
 use Rattle.indices.proofs.Tests.{count-hit}
-use Rattle.indices.proofs.Steps.{if-elim, eq-or-ne, lt-or-le, true-or-false, set-elim}
+use Rattle.indices.proofs.Steps.{eq-or-ne, lt-or-le, true-or-false, set-elim}
 use Rattle.sheet.specs.Limits.{mostLength}
 use Rattle.sheet.specs.Words.{top}
 use Rattle.procedure.specs.Graph.{Graph, arcs, tail, head, len}
 use Rattle.procedure.specs.Division.{Division, regions, parent, arcOf, isLeaf}
 use Rattle.procedure.specs.State.{Queues, State, label}
-use Rattle.procedure.specs.Queues.{minKey, updateOutgoing}
+use Rattle.procedure.specs.Queues.{minKey}
 use Rattle.procedure.specs.Procedure.{relax, clearKey, processLeaf, rewriteKey, countInner, processChild, alive, process}
 use Rattle.procedure.specs.Settled.{LeadsBack, home, back}
 use Rattle.procedure.specs.WellFormed.{WellFormed}
 use Rattle.theory.specs.Sound.{Shape, reached, Valued, SoundOf, Sound}
 use Rattle.theory.proofs.Totals.{count-one}
-use Rattle.theory.proofs.Process.{Invariant, process-invariant, processChild-invariant, children-invariant}
+use Rattle.theory.proofs.Process.{sumBy, lowered, relax-elim, Invariant, process-invariant, processChild-invariant, children-invariant}
 use Rattle.theory.proofs.Chosen.{parent-child}
 use Rattle.theory.proofs.Smallest.{Closed, _with_, own-valued, key-valued}
 use Rattle.theory.proofs.Outgoing.{outgoing-changes, outgoing-sized, outgoing-valued}
-
--- the label that arc a gives its head
-abbrev pub sumBy : Graph → ℕ → State → ℕ
-sumBy g a s = label s (tail g a) + len g a
-
--- the state once arc a has lowered the label of its head
-abbrev pub lowered : Graph → Division → ℕ → State → State
-lowered g d a s = record {
-  labels = set (s .labels) (head g a) (sumBy g a s);
-  predecessors = set (s .predecessors) (head g a) a;
-  queues = updateOutgoing d (g .tails) (head g a) (sumBy g a s) (s .queues);
-  rounds = s .rounds;
-  leaves = s .leaves;
-  inner = s .inner;
-}
-
--- to prove P of a relaxed state, prove it where the label falls and where it stays
-pub relax-elim : (P : State → Type 0) (g : Graph) (d : Division) (a : ℕ) (s : State)
-    → (sumBy g a s < label s (head g a) → P (lowered g d a s)) → (label s (head g a) ≤ sumBy g a s → P s) → P (relax g d a s)
-unfolding relax
-relax-elim P g d a s falls stays = if-elim P (ltb (sumBy g a s) (label s (head g a))) (λ t. falls (ltb→lt _ _ t)) (λ t. stays (nltb→le _ _ t))
 
 -- A LABEL FALLS: arc a₀ leads to v, whose label was above the sum
 module _ (g : Graph) (L P : List ℕ) (a₀ : ℕ) (la : a₀ < arcs g) (fell : at L (tail g a₀) + len g a₀ < at L (head g a₀))

@@ -1,14 +1,14 @@
 -- One induction over processing and one over rounds: what every working of a leaf keeps, every run keeps. Assumes nothing.
 use Prim.Native.Nat.{ℕ, zero, suc, pred, _+_, _≤_, _<_}
-use mathlib.Core.Bool.{Bool, true, false, not}
+use mathlib.Core.Bool.{true, false, not}
 use mathlib.Core.Path.{_≡_, refl}
 use mathlib.Core.Logic.{inl, inr, ⊎-elim}
 use mathlib.Core.List.{List}
 use native.Mathlib.Omega.{arith}
-use lib.Dec.{T, lt→ltb}
+use lib.Dec.{T}
 use Rattle.indices.specs.Columns.{at}
 use Rattle.indices.specs.Steps.{times}
-use Rattle.indices.proofs.Steps.{true-or-false, times-keeps, times-reach}
+use Rattle.indices.proofs.Steps.{T-of, true-or-false, times-keeps, times-reach}
 use Rattle.sheet.specs.Words.{top}
 use Rattle.sheet.proofs.Heights.{root-highest}
 use Rattle.procedure.specs.Graph.{Graph}
@@ -20,7 +20,7 @@ use Rattle.procedure.specs.WellFormed.{WellFormed}
 use Rattle.theory.specs.Sound.{Shape, Sound, Root}
 use Rattle.theory.proofs.Chosen.{Child, Chosen, chosen-of-key, minKey-leaf}
 use Rattle.theory.proofs.Smallest.{Closed, _with_}
-use Rattle.theory.proofs.Process.{alive-key, inner-high, chosen-lower, process-leaf, process-inner}
+use Rattle.theory.proofs.Process.{key-alive, alive-key, running-key, inner-high, chosen-lower, process-leaf, process-inner}
 use Rattle.theory.proofs.Labels.{sound-enter, leaf-shape, leaf-sound, rewriteKey-shape, rewriteKey-sound}
 use Rattle.theory.proofs.Start.{root-closed, start-shape, start-sound}
 
@@ -107,8 +107,8 @@ module _ {most : ℕ} {g : Graph} {d : Division} {spans : List ℕ} (ok : WellFo
     inner-keeps X r j s w inner live p = record { shape = p .shape; sound = p .sound; kept = k .inner X r j s w inner live (p .shape) (p .sound) (p .kept) }
 
     still-alive : (r : ℕ) (s : State) → minKey d (s .queues) r < top → T (alive g d r (countInner g d s))
-    unfolding alive countInner
-    still-alive r s l = lt→ltb _ _ l
+    unfolding countInner
+    still-alive r s l = T-of _ (key-alive g d (countInner g d s) r l)
 
     -- the whole loop of the inner region r
     children-keep : (X : ℕ → Type 0) (r j : ℕ) (s : State) (go : ℕ → State → State) → Within d X r → isLeaf d r ≡ false → minKey d (s .queues) r < top
@@ -116,7 +116,7 @@ module _ {most : ℕ} {g : Graph} {d : Division} {spans : List ℕ} (ok : WellFo
         → Held g d X (J X r) (times (spanOf d spans r) (alive g d r) (processChild g d go r) (countInner g d s))
     children-keep X r j s go w inner live ih p =
         times-reach (λ t. Held g d X (I X r (suc j)) t) (λ t. Held g d X (J X r) t) (alive g d r) (processChild g d go r)
-        (λ t a q. child-keeps X r (suc j) t go w inner (alive-key g d r t a) ih q)
+        (λ t a q. child-keeps X r (suc j) t go w inner (alive-key g d t r a) ih q)
         (λ t q. record { shape = q .shape; sound = q .sound; kept = k .weak X r (suc j) t (q .kept) })
         (spanOf d spans r) (countInner g d s) (span-positive r (w .in-range) inner) (still-alive r s live) (inner-keeps X r j s w inner live p)
 
@@ -140,15 +140,6 @@ module _ {most : ℕ} {g : Graph} {d : Division} {spans : List ℕ} (ok : WellFo
         (record { in-range = ok .division .nesting .root; itself = refl; above = λ y e. omega arith; up = root-closed d }) (omega arith) (omega arith) live
         (record { shape = z; sound = p; kept = i })
 
-  not-not : (b : Bool) → T (not (not b)) → T b
-  not-not true t = tt
-  not-not false t = t
-
-  -- a run that has not ended has a smallest key at region 0
-  pub running : (s : State) → T (not (ended g d s)) → minKey d (s .queues) 0 < top
-  unfolding ended
-  running s t = alive-key g d 0 s (not-not (alive g d 0 s) t)
-
   -- THE INDUCTION OVER ROUNDS: what holds at the start, and is kept by processing, holds after any number of rounds.
   pub after-keeps : {I : (ℕ → Type 0) → ℕ → ℕ → State → Type 0} {J : (ℕ → Type 0) → ℕ → State → Type 0} (K : State → Type 0) → Kept g d I J
       → ((s : State) → K s → I Root 0 0 (countRound g d s)) → ((s : State) → J Root 0 s → K s) → K (start g d spans)
@@ -157,6 +148,6 @@ module _ {most : ℕ} {g : Graph} {d : Division} {spans : List ℕ} (ok : WellFo
   after-keeps K kept enter leave base k =
       times-keeps (λ s. Held g d Root K s) (λ s. not (ended g d s)) (round g d spans)
       (λ s t p.
-      let q = round-keeps kept s (running s t) (p .shape) (p .sound) (enter s (p .kept)) in
+      let q = round-keeps kept s (running-key g d s t) (p .shape) (p .sound) (enter s (p .kept)) in
       record { shape = q .shape; sound = q .sound; kept = leave _ (q .kept) })
       k (start g d spans) (record { shape = start-shape ok; sound = start-sound ok; kept = base })

@@ -1,32 +1,95 @@
--- Laws of processing: its two rules without fuel, and that no step lowers a count. Assumes nothing.
+-- Laws of the procedure: relaxing, the two rules of processing without fuel, what every step keeps, and that no step lowers a count. Assumes nothing.
 use Prim.Native.Nat.{ℕ, zero, suc, _+_, _≤_, _<_}
-use mathlib.Core.Bool.{true, false, not}
+use mathlib.Core.Bool.{true, false, not, true≢false}
 use mathlib.Core.Path.{_≡_, refl, sym, ap, _∙_}
 use mathlib.Core.Logic.{⊎-elim}
 use mathlib.Core.List.{List}
 use native.Mathlib.Nat.{le-refl}
 use native.Mathlib.Omega.{arith}
-use lib.Dec.{T, ltb, ltb→lt}
+use borrow.Author.Tests.{lt-ltb, le-ltb}
+use lib.ListN.{set}
+use lib.Dec.{T, T-not, ltb→lt}
 use Rattle.indices.specs.Steps.{times}
-use Rattle.indices.proofs.Steps.{if-elim, true-or-false, times-keeps, times-cong}
+use Rattle.indices.proofs.Steps.{lt-or-le, T-of, true-or-false, times-keeps, times-cong}
 use Rattle.sheet.specs.Words.{top}
 use Rattle.sheet.proofs.Heights.{inner-height, child-lower}
 use Rattle.procedure.specs.Graph.{Graph, tail, head, len}
 use Rattle.procedure.specs.Division.{Division, regions, parent, arcOf, isLeaf, height, spanOf}
 use Rattle.procedure.specs.State.{State, label}
-use Rattle.procedure.specs.Queues.{minItem, minKey}
+use Rattle.procedure.specs.Queues.{minItem, minKey, updateOutgoing}
 use Rattle.procedure.specs.Procedure.{relax, clearKey, processLeaf, rewriteKey, countInner, countRound, processChild, alive, processFor, ended, process, round}
 use Rattle.procedure.specs.WellFormed.{DivisionOk}
 use Rattle.theory.specs.Counts.{Grows, Small}
 use Rattle.theory.proofs.Chosen.{Chosen, chosen-of-key}
 use Rattle.theory.proofs.Outgoing.{outgoing-grows}
 
--- WITHOUT FUEL
--- a region is alive where its smallest key isn't none
-pub alive-key : (g : Graph) (d : Division) (r : ℕ) (s : State) → T (alive g d r s) → minKey d (s .queues) r < top
-unfolding alive
-alive-key g d r s t = ltb→lt _ _ t
+-- AN ARC IS RELAXED
+-- the label that arc a gives its head
+abbrev pub sumBy : Graph → ℕ → State → ℕ
+sumBy g a s = label s (tail g a) + len g a
 
+-- the state once arc a has lowered the label of its head
+abbrev pub lowered : Graph → Division → ℕ → State → State
+lowered g d a s = record {
+  labels = set (s .labels) (head g a) (sumBy g a s);
+  predecessors = set (s .predecessors) (head g a) a;
+  queues = updateOutgoing d (g .tails) (head g a) (sumBy g a s) (s .queues);
+  rounds = s .rounds;
+  leaves = s .leaves;
+  inner = s .inner;
+}
+
+-- where the sum is below the head's label, it becomes the label; otherwise nothing changes
+pub relax-falls : (g : Graph) (d : Division) (a : ℕ) (s : State) → sumBy g a s < label s (head g a) → relax g d a s ≡ lowered g d a s
+unfolding relax
+relax-falls g d a s l = rw (lt-ltb (sumBy g a s) (label s (head g a)) l)
+
+pub relax-stays : (g : Graph) (d : Division) (a : ℕ) (s : State) → label s (head g a) ≤ sumBy g a s → relax g d a s ≡ s
+unfolding relax
+relax-stays g d a s l = rw (le-ltb (sumBy g a s) (label s (head g a)) l)
+
+-- to prove P of a relaxed state, prove it where the label falls and where it stays
+pub relax-elim : (P : State → Type 0) (g : Graph) (d : Division) (a : ℕ) (s : State)
+    → (sumBy g a s < label s (head g a) → P (lowered g d a s)) → (label s (head g a) ≤ sumBy g a s → P s) → P (relax g d a s)
+relax-elim P g d a s falls stays =
+    ⊎-elim (λ (l : sumBy g a s < label s (head g a)). rw (relax-falls g d a s l) (falls l))
+    (λ (l : label s (head g a) ≤ sumBy g a s). rw (relax-stays g d a s l) (stays l)) (lt-or-le (sumBy g a s) (label s (head g a)))
+
+-- ALIVE, AND ENDED
+module _ (g : Graph) (d : Division) (s : State) where
+  -- a region is alive where its smallest key isn't none
+  pub key-alive : (r : ℕ) → minKey d (s .queues) r < top → alive g d r s ≡ true
+  unfolding alive
+  key-alive r l = lt-ltb _ _ l
+
+  pub none-alive : (r : ℕ) → top ≤ minKey d (s .queues) r → alive g d r s ≡ false
+  unfolding alive
+  none-alive r l = le-ltb _ _ l
+
+  pub alive-key : (r : ℕ) → T (alive g d r s) → minKey d (s .queues) r < top
+  unfolding alive
+  alive-key r t = ltb→lt _ _ t
+
+  -- a run has ended where region 0 is not alive
+  pub key-running : minKey d (s .queues) 0 < top → ended g d s ≡ false
+  unfolding ended
+  key-running l = rw (key-alive 0 l)
+
+  pub none-ended : top ≤ minKey d (s .queues) 0 → ended g d s ≡ true
+  unfolding ended
+  none-ended l = rw (none-alive 0 l)
+
+  pub running-key : T (not (ended g d s)) → minKey d (s .queues) 0 < top
+  running-key t =
+      ⊎-elim (λ (l : minKey d (s .queues) 0 < top). l)
+      (λ (l : top ≤ minKey d (s .queues) 0). absurd (T-not (ended g d s) t (T-of (ended g d s) (none-ended l)))) (lt-or-le (minKey d (s .queues) 0) top)
+
+  pub ended-none : ended g d s ≡ true → top ≤ minKey d (s .queues) 0
+  ended-none e =
+      ⊎-elim (λ (l : minKey d (s .queues) 0 < top). absurd (true≢false (sym e ∙ key-running l)))
+      (λ (l : top ≤ minKey d (s .queues) 0). l) (lt-or-le (minKey d (s .queues) 0) top)
+
+-- PROCESSING WITHOUT FUEL
 module _ {m : ℕ} {d : Division} (ok : DivisionOk m d) where
   -- an inner region's height is above 0
   pub inner-high : (r : ℕ) → r < regions d → isLeaf d r ≡ false → 0 < height d r
@@ -67,7 +130,7 @@ module _ (g : Graph) (d : Division) (spans : List ℕ) where
     children-agree go go′ r lr inner agree n s =
         times-cong (alive g d r) _ _
         (λ s t.
-        let x = chosen-of-key d (s .queues) r inner (alive-key g d r s t) in
+        let x = chosen-of-key d (s .queues) r inner (alive-key g d s r t) in
         ap (rewriteKey g d (minItem d (s .queues .keys) r)) (agree (minItem d (s .queues .keys) r) s (x .child .in-range) (chosen-lower ok s r x))) n s
 
     -- a region's height is enough fuel
@@ -124,7 +187,7 @@ module _ (g : Graph) (d : Division) (spans : List ℕ) {m : ℕ} (ok : DivisionO
       ⊎-elim (λ (leaf : isLeaf d r ≡ true). rw (process-leaf g d spans r s leaf) (kept .leaf r s lr leaf p))
       (λ (inner : isLeaf d r ≡ false). rw (process-inner g d spans ok r s lr inner)
       (times-keeps P (alive g d r) (processChild g d (process g d spans) r)
-      (λ t live q. child-invariant (process g d spans) r t inner (alive-key g d r t live) (λ c u lc lower v. lower-invariant n c u lc (omega arith) v) q)
+      (λ t live q. child-invariant (process g d spans) r t inner (alive-key g d t r live) (λ c u lc lower v. lower-invariant n c u lc (omega arith) v) q)
       (spanOf d spans r) (countInner g d s) (kept .inner s p)))
       (true-or-false (isLeaf d r))
 
@@ -137,7 +200,7 @@ module _ (g : Graph) (d : Division) (spans : List ℕ) {m : ℕ} (ok : DivisionO
 
   pub children-invariant : (n r : ℕ) (s : State) → isLeaf d r ≡ false → P s → P (times n (alive g d r) (processChild g d (process g d spans) r) s)
   children-invariant n r s inner p =
-      times-keeps P (alive g d r) (processChild g d (process g d spans) r) (λ t live q. processChild-invariant r t inner (alive-key g d r t live) q) n s p
+      times-keeps P (alive g d r) (processChild g d (process g d spans) r) (λ t live q. processChild-invariant r t inner (alive-key g d t r live) q) n s p
 
 -- COUNTS ONLY GROW
 pub grows-refl : (s : State) → Grows s s
@@ -162,12 +225,15 @@ grows-small p q = record {
 
 module _ (g : Graph) (d : Division) where
   pub relax-grows : (a : ℕ) (s : State) → Grows s (relax g d a s)
-  unfolding relax
   relax-grows a s =
-      let v = head g a in
-      let sum = label s (tail g a) + len g a in
-      if-elim (λ (t : State). Grows s t) (ltb sum (label s v))
-      (λ _. record { rounds = le-refl _; leaves = le-refl _; inner = le-refl _; updates = outgoing-grows d (g .tails) v sum (s .queues) }) (λ _. grows-refl s)
+      relax-elim (λ t. Grows s t) g d a s
+      (λ _. record {
+        rounds = le-refl _;
+        leaves = le-refl _;
+        inner = le-refl _;
+        updates = outgoing-grows d (g .tails) (head g a) (sumBy g a s) (s .queues);
+      })
+      (λ _. grows-refl s)
 
   pub clearKey-grows : (a : ℕ) (s : State) → Grows s (clearKey g d a s)
   unfolding clearKey

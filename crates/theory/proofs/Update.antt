@@ -2,13 +2,14 @@
 use Prim.Native.Nat.{ℕ, zero, suc, _+_, _≤_, _<_}
 use mathlib.Core.Bool.{Bool, true, false, _&&_}
 use mathlib.Core.Path.{_≡_, refl, _∙_}
+use mathlib.Core.Logic.{_≢_, ⊎-elim}
 use native.Mathlib.Nat.{le-refl}
 use native.Mathlib.Omega.{arith}
 use borrow.Author.Tests.{lt-ltb}
 use lib.ListN.{length, set, length-set}
-use lib.Dec.{ltb, ltb→lt, nltb→le}
+use lib.Dec.{ltb, ltb→lt}
 use Rattle.indices.specs.Steps.{if_then_else_}
-use Rattle.indices.proofs.Steps.{if-elim, if-and-elim, if-cong}
+use Rattle.indices.proofs.Steps.{if-elim, if-and-elim, if-cong, eq-or-ne, lt-or-le}
 use Rattle.procedure.specs.Division.{Division, regions, parent, arcOf, isLeaf}
 use Rattle.procedure.specs.State.{Queues}
 use Rattle.procedure.specs.Queues.{minKey, write, updateFor, update}
@@ -97,9 +98,13 @@ module _ {m : ℕ} {d : Division} (ok : DivisionOk m d) where
       → (0 < r → minKey d (write d r x k q) r < minKey d q r → P (update d (parent d r) r k (write d r x k q)))
       → (0 < r → minKey d q r ≤ minKey d (write d r x k q) r → P (write d r x k q)) → (r ≡ 0 → P (write d r x k q)) → P (update d r x k q)
   update-elim P r x k q lr up stay root =
-      rw (update-climbs r x k q lr)
-      (if-and-elim P (ltb 0 r) (ltb (minKey d (write d r x k q) r) (minKey d q r))
-      (λ t f. up (ltb→lt _ _ t) (ltb→lt _ _ f)) (λ t f. stay (ltb→lt _ _ t) (nltb→le _ _ f)) (λ t. root (omega (arith, nltb→le 0 r t))))
+      ⊎-elim (λ (z : r ≡ 0). rw (update-stops r x k q lr (λ l. absurd (omega arith))) (root z))
+      (λ (n : r ≢ 0).
+      let pos : 0 < r = omega arith in
+      ⊎-elim (λ (fell : minKey d (write d r x k q) r < minKey d q r). rw (update-rises r x k q lr pos fell) (up pos fell))
+      (λ (same : minKey d q r ≤ minKey d (write d r x k q) r). rw (update-stops r x k q lr (λ _. same)) (stay pos same))
+      (lt-or-le (minKey d (write d r x k q) r) (minKey d q r)))
+      (eq-or-ne r 0)
 
   -- WHAT AN UPDATE CHANGES
   climbed : (n r x k : ℕ) (q : Queues) → r < n → r < regions d → isLeaf d r ≡ false → Climbed n q (update d r x k q)
