@@ -206,6 +206,7 @@ module _ {most : ℕ} {g : Graph} {d : Division} {spans : List ℕ} (ok : WellFo
     queued = record {
       own = length-set (s .queues .own) a top ∙ z .queued .own;
       keys = z .queued .keys;
+      root = z .queued .root;
       capped = λ b lb. set-elim (λ (x : ℕ). x ≤ top) (s .queues .own) a b top 0 (rw (z .queued .own) la) (λ _. le-refl top) (λ _. z .queued .capped b lb);
     };
     capped = z .capped;
@@ -256,14 +257,15 @@ module _ {most : ℕ} {g : Graph} {d : Division} {spans : List ℕ} (ok : WellFo
       clearKey-sound X r (relax g d a s) xr lr leaf (relax-shape a s la z) (q .1) (q .0)
 
   -- THE REWRITING OF A CHILD'S KEY keeps them, and the child is no longer at work
-  pub rewriteKey-shape : (c : ℕ) (s : State) → Shape g d s → Shape g d (rewriteKey g d c s)
+  pub rewriteKey-shape : (c : ℕ) (s : State) → 0 < c → Shape g d s → Shape g d (rewriteKey g d c s)
   unfolding rewriteKey
-  rewriteKey-shape c s z = record {
+  rewriteKey-shape c s pc z = record {
     labelled = z .labelled;
     fed = z .fed;
     queued = record {
       own = z .queued .own;
       keys = length-set (s .queues .keys) c (minKey d (s .queues) c) ∙ z .queued .keys;
+      root = getD-set-other (s .queues .keys) c 0 (minKey d (s .queues) c) 0 (λ e. omega arith) ∙ z .queued .root;
       capped = z .queued .capped;
     };
     capped = z .capped;
@@ -282,7 +284,7 @@ module _ {most : ℕ} {g : Graph} {d : Division} {spans : List ℕ} (ok : WellFo
   -- so every column keeps its length, and no label or key rises above `top`, through all processing (whether or not the invariant holds)
   shape-invariant : Invariant g d (λ s. Shape g d s)
   unfolding countInner
-  shape-invariant = record { leaf = λ r s lr leaf z. leaf-shape r s lr leaf z; inner = λ s z. z; rewritten = λ c s lc z. rewriteKey-shape c s z }
+  shape-invariant = record { leaf = λ r s lr leaf z. leaf-shape r s lr leaf z; inner = λ s z. z; rewritten = λ c s pc _ z. rewriteKey-shape c s pc z }
 
   pub process-shape : (r : ℕ) (s : State) → r < regions d → Shape g d s → Shape g d (process g d spans r s)
   process-shape r s lr z = process-invariant g d spans (ok .division) shape-invariant r s lr z

@@ -96,7 +96,7 @@ module _ {most : ℕ} {g : Graph} {d : Division} {spans : List ℕ} (ok : WellFo
         (omega (arith, p .sound .valued c (h .positive) (h .in-range) fresh, x .key))
         (record { shape = p .shape; sound = sound-enter c (p .sound); kept = k .enter X r j s w inner x (p .shape) (p .sound) (p .kept) }) in
         record {
-          shape = rewriteKey-shape ok c (go c s) (q .shape);
+          shape = rewriteKey-shape ok c (go c s) (h .positive) (q .shape);
           sound = rewriteKey-sound ok X c (go c s) own-parent (h .positive) (h .in-range) (q .shape) (q .sound);
           kept = k .rewritten X r c (go c s) w h (q .shape) (q .sound) (q .kept);
         }

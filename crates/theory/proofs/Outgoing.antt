@@ -36,6 +36,7 @@ outgoing-grows d tails v k q =
 pub record Outgoing (d : Division) (tails : List ℕ) (v k : ℕ) (q : Queues) (i : ℕ) (q′ : Queues) : Type 0 where
   pub own : length (q′ .own) ≡ length (q .own)
   pub keys : length (q′ .keys) ≡ length (q .keys)
+  pub root : at (q′ .keys) 0 ≡ at (q .keys) 0
   pub hit : (b : ℕ) → b < i → at tails b ≡ v → at (q′ .own) b ≡ k
   pub miss : (b : ℕ) → at tails b ≢ v → at (q′ .own) b ≡ at (q .own) b
   pub ahead : (b : ℕ) → i ≤ b → at (q′ .own) b ≡ at (q .own) b
@@ -50,7 +51,7 @@ module _ (d : Division) (tails : List ℕ) (ok : DivisionOk (length tails) d) (f
   arc-updated a k q la =
       let p = ok .arc-leaf a la in
       let u = leaf-updated ok (leafOf d a) k q (p .0) (arc-leaf-test a la) in
-      record { own = u .own ∙ ap (λ (b : ℕ). set (q .own) b k) (p .1); keys = u .keys; few = u .few }
+      record { own = u .own ∙ ap (λ (b : ℕ). set (q .own) b k) (p .1); keys = u .keys; root = u .root; few = u .few }
 
   arc-valued : (X : ℕ → Type 0) → Closed d X → (a k : ℕ) (q : Queues) → a < length tails → Sized (length tails) d q → k < at (q .own) a
       → Valued d X q → Valued d X (updateArc d a k q)
@@ -73,6 +74,7 @@ module _ (d : Division) (tails : List ℕ) (ok : DivisionOk (length tails) d) (f
     outgoing-none = record {
       own = refl;
       keys = refl;
+      root = refl;
       hit = λ b l. absurd (omega arith);
       miss = λ b n. refl;
       ahead = λ b l. refl;
@@ -86,6 +88,7 @@ module _ (d : Division) (tails : List ℕ) (ok : DivisionOk (length tails) d) (f
         record {
           own = rw (u .own) (length-set (q′ .own) a k ∙ p .own);
           keys = u .keys ∙ p .keys;
+          root = u .root ∙ p .root;
           hit = λ b l eb. rw (u .own) (set-elim (λ (x : ℕ). x ≡ k) (q′ .own) a b k 0 inside (λ _. refl) (λ n. p .hit b (omega arith) eb));
           miss = λ b nb. rw (u .own) (getD-set-other (q′ .own) a b k 0 (λ w. nb (ap (at tails) w ∙ e)) ∙ p .miss b nb);
           ahead = λ b l. rw (u .own) (getD-set-other (q′ .own) a b k 0 (λ w. omega arith) ∙ p .ahead b (omega arith));
@@ -96,6 +99,7 @@ module _ (d : Division) (tails : List ℕ) (ok : DivisionOk (length tails) d) (f
     outgoing-miss a q′ n p = record {
       own = p .own;
       keys = p .keys;
+      root = p .root;
       hit = λ b l eb. let other : b ≢ a = λ w. n (ap (at tails) (sym w) ∙ eb) in p .hit b (omega arith) eb;
       miss = p .miss;
       ahead = λ b l. p .ahead b (omega arith);
@@ -111,6 +115,7 @@ module _ (d : Division) (tails : List ℕ) (ok : DivisionOk (length tails) d) (f
     sized-still cap i q′ li p = record {
       own = p .own ∙ z .own;
       keys = p .keys ∙ z .keys;
+      root = p .root ∙ z .root;
       capped = λ a la. ⊎-elim
           (λ (e : at tails a ≡ v). ⊎-elim (λ (l : a < i). rw (p .hit a l e) cap) (λ (l : i ≤ a). rw (p .ahead a l) (z .capped a la)) (lt-or-le a i))
           (λ (n : at tails a ≢ v). rw (p .miss a n) (z .capped a la)) (eq-or-ne (at tails a) v);

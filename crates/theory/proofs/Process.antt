@@ -169,7 +169,7 @@ module _ (g : Graph) (d : Division) (spans : List ℕ) where
 pub record Invariant (g : Graph) (d : Division) (P : State → Type 0) : Type 0 where
   pub leaf : (r : ℕ) (s : State) → r < regions d → isLeaf d r ≡ true → P s → P (processLeaf g d r s)
   pub inner : (s : State) → P s → P (countInner g d s)
-  pub rewritten : (c : ℕ) (s : State) → c < regions d → P s → P (rewriteKey g d c s)
+  pub rewritten : (c : ℕ) (s : State) → 0 < c → c < regions d → P s → P (rewriteKey g d c s)
 
 module _ (g : Graph) (d : Division) (spans : List ℕ) {m : ℕ} (ok : DivisionOk m d) {P : State → Type 0} (kept : Invariant g d P) where
   -- the processing of r's first-chosen child, where `go` keeps P at lower regions
@@ -179,7 +179,7 @@ module _ (g : Graph) (d : Division) (spans : List ℕ) {m : ℕ} (ok : DivisionO
   child-invariant go r s inner live ih p =
       let c = minItem d (s .queues .keys) r in
       let x = chosen-of-key d (s .queues) r inner live in
-      kept .rewritten c (go c s) (x .child .in-range) (ih c s (x .child .in-range) (chosen-lower ok s r x) p)
+      kept .rewritten c (go c s) (x .child .positive) (x .child .in-range) (ih c s (x .child .in-range) (chosen-lower ok s r x) p)
 
   lower-invariant : (n r : ℕ) (s : State) → r < regions d → height d r < n → P s → P (process g d spans r s)
   lower-invariant zero r s lr l p = absurd (omega arith)
@@ -259,7 +259,7 @@ module _ (g : Graph) (d : Division) where
   grows-invariant s = record {
     leaf = λ r t lr leaf p. grows-trans p (processLeaf-grows r t);
     inner = λ t p. grows-trans p (countInner-grows t);
-    rewritten = λ c t lc p. grows-trans p (rewriteKey-grows c t);
+    rewritten = λ c t _ _ p. grows-trans p (rewriteKey-grows c t);
   }
 
   module _ {m : ℕ} (ok : DivisionOk m d) (spans : List ℕ) where

@@ -39,6 +39,7 @@ module _ {most : ℕ} {g : Graph} {d : Division} {spans : List ℕ} (ok : WellFo
   noKeys-sized = record {
     own = length-replicate (arcs g) top;
     keys = length-replicate (regions d) top;
+    root = getD-replicate (regions d) 0 top 0 (ok .division .nesting .root);
     capped = λ a la. rw (getD-replicate (arcs g) a top 0 la) (le-refl top);
   }
 

@@ -7,7 +7,9 @@ use native.Mathlib.Nat.{le-refl}
 use native.Mathlib.Omega.{arith}
 use borrow.Author.Tests.{lt-ltb}
 use lib.ListN.{length, set, length-set}
+use lib.Seq.{getD-set-other}
 use lib.Dec.{ltb, ltb→lt}
+use Rattle.indices.specs.Columns.{at}
 use Rattle.indices.specs.Steps.{if_then_else_}
 use Rattle.indices.proofs.Steps.{if-elim, if-and-elim, if-cong, eq-or-ne, lt-or-le}
 use Rattle.procedure.specs.Division.{Division, regions, parent, arcOf, isLeaf}
@@ -49,12 +51,14 @@ update-grows d r x k q = updateFor-grows d r r x k q
 record Climbed (n : ℕ) (q q′ : Queues) : Type 0 where
   own : q′ .own ≡ q .own
   keys : length (q′ .keys) ≡ length (q .keys)
+  root : at (q′ .keys) 0 ≡ at (q .keys) 0
   few : q′ .updates ≤ q .updates + n
 
 -- the update of arc a sets its own key, and writes at most one key for each region
 pub record Updated (d : Division) (a k : ℕ) (q q′ : Queues) : Type 0 where
   pub own : q′ .own ≡ set (q .own) a k
   pub keys : length (q′ .keys) ≡ length (q .keys)
+  pub root : at (q′ .keys) 0 ≡ at (q .keys) 0
   pub few : q′ .updates ≤ q .updates + regions d
 
 module _ {m : ℕ} {d : Division} (ok : DivisionOk m d) where
@@ -107,18 +111,18 @@ module _ {m : ℕ} {d : Division} (ok : DivisionOk m d) where
       (eq-or-ne r 0)
 
   -- WHAT AN UPDATE CHANGES
-  climbed : (n r x k : ℕ) (q : Queues) → r < n → r < regions d → isLeaf d r ≡ false → Climbed n q (update d r x k q)
-  climbed zero r x k q ln lr inner = absurd (omega arith)
-  climbed (suc n) r x k q ln lr inner =
+  climbed : (n r x k : ℕ) (q : Queues) → r < n → r < regions d → isLeaf d r ≡ false → 0 < x → Climbed n q (update d r x k q)
+  climbed zero r x k q ln lr inner px = absurd (omega arith)
+  climbed (suc n) r x k q ln lr inner px =
       update-elim (λ q′. Climbed (suc n) q q′) r x k q lr
       (λ pos fell.
       let down = ok .nesting .lower r pos lr in
-      let up = climbed n (parent d r) r k (write d r x k q) (omega arith) (omega arith) (ok .nesting .inner r pos lr) in
-      record { own = up .own ∙ once .own; keys = up .keys ∙ once .keys; few = omega (arith, up .few, write-counts d r x k q) })
+      let up = climbed n (parent d r) r k (write d r x k q) (omega arith) (omega arith) (ok .nesting .inner r pos lr) pos in
+      record { own = up .own ∙ once .own; keys = up .keys ∙ once .keys; root = up .root ∙ once .root; few = omega (arith, up .few, write-counts d r x k q) })
       (λ _ _. once) (λ _. once)
     where
       once : Climbed (suc n) q (write d r x k q)
-      once = rw (write-inner d r x k q inner) (record { own = refl; keys = length-set (q .keys) x k; few = omega arith })
+      once = rw (write-inner d r x k q inner) (record { own = refl; keys = length-set (q .keys) x k; root = getD-set-other (q .keys) x 0 k 0 (λ e. omega arith); few = omega arith })
 
   -- the update of a leaf's own key
   pub leaf-updated : (r k : ℕ) (q : Queues) → r < regions d → isLeaf d r ≡ true → Updated d (arcOf d r) k q (update d r r k q)
@@ -126,9 +130,9 @@ module _ {m : ℕ} {d : Division} (ok : DivisionOk m d) where
       update-elim (λ q′. Updated d (arcOf d r) k q q′) r r k q lr
       (λ pos fell.
       let down = ok .nesting .lower r pos lr in
-      let up = climbed r (parent d r) r k (write d r r k q) down (omega arith) (ok .nesting .inner r pos lr) in
-      record { own = up .own ∙ once .own; keys = up .keys ∙ once .keys; few = omega (arith, up .few, write-counts d r r k q) })
+      let up = climbed r (parent d r) r k (write d r r k q) down (omega arith) (ok .nesting .inner r pos lr) pos in
+      record { own = up .own ∙ once .own; keys = up .keys ∙ once .keys; root = up .root ∙ once .root; few = omega (arith, up .few, write-counts d r r k q) })
       (λ _ _. once) (λ _. once)
     where
       once : Updated d (arcOf d r) k q (write d r r k q)
-      once = rw (write-leaf d r r k q leaf) (record { own = refl; keys = refl; few = omega arith })
+      once = rw (write-leaf d r r k q leaf) (record { own = refl; keys = refl; root = refl; few = omega arith })

@@ -14,11 +14,12 @@ use Rattle.procedure.specs.State.{Queues, State}
 use Rattle.procedure.specs.Queues.{minKey}
 use Rattle.procedure.specs.Settled.{LeadsBack}
 
--- the queues of m arcs: an own key for each arc, none above 'none', and a key for each region
+-- the queues of m arcs: an own key for each arc, none above 'none', and a key for each region; region 0, nobody's child, has none
 pub record Sized (m : ℕ) (d : Division) (queues : Queues) : Type 0 where
   pub own : length (queues .own) ≡ m
   pub keys : length (queues .keys) ≡ regions d
   pub capped : (a : ℕ) → a < m → at (queues .own) a ≤ top
+  pub root : at (queues .keys) 0 ≡ top
 
 pub record ShapeOf (g : Graph) (d : Division) (labels predecessors : List ℕ) (queues : Queues) : Type 0 where
   pub labelled : length labels ≡ g .nodes
