@@ -13,6 +13,7 @@ use lib.Dec.{T, ltb, eqb}
 use Rattle.indices.specs.Columns.{at}
 use Rattle.indices.specs.Tests.{count}
 use Rattle.indices.proofs.Steps.{eq-or-ne, T-or, times-rise}
+use Rattle.sheet.specs.Limits.{mostNodes}
 use Rattle.sheet.specs.Words.{top}
 use Rattle.procedure.specs.Graph.{Graph, arcs, tail, head}
 use Rattle.procedure.specs.Division.{Division, regions, arcOf, isLeaf, height}
@@ -165,7 +166,7 @@ module _ {most : ℕ} {g : Graph} {d : Division} {spans : List ℕ} (ok : WellFo
       (λ (t : T (not (ended g d (after g d spans k)))). absurd (omega (arith, still-running k t, c .leaves, c .rounds))) (T-or (ended g d (after g d spans k)))
 
   -- the potential at the start
-  pub start-small : potential most g (start g d spans) ≤ most * (1024 * top) + most
+  pub start-small : potential most g (start g d spans) ≤ most * (mostNodes * top) + most
   unfolding start potential
   start-small =
       omega (

@@ -12,7 +12,7 @@ use Rattle.indices.specs.Columns.{at}
 use Rattle.indices.specs.Steps.{times}
 use Rattle.indices.proofs.Tests.{count-le}
 use Rattle.indices.proofs.Steps.{lt-or-le, times-on, times-none, times-stop, times-add}
-use Rattle.sheet.specs.Limits.{mostLength}
+use Rattle.sheet.specs.Limits.{mostNodes, mostLength, mostSpans}
 use Rattle.sheet.specs.Words.{top}
 use Rattle.procedure.specs.Graph.{Graph, arcs}
 use Rattle.procedure.specs.Division.{Division, regions, parent, arcOf, isLeaf, leafOf, height}
@@ -21,9 +21,10 @@ use Rattle.procedure.specs.Queues.{minKey}
 use Rattle.procedure.specs.Procedure.{ended, start, round, after, final}
 use Rattle.procedure.specs.Settled.{LeadsBack, home, back, Settled}
 use Rattle.procedure.specs.WellFormed.{WellFormed}
-use Rattle.theory.specs.Sound.{Shape, Valued, Sound, Root}
+use Rattle.theory.specs.Sound.{largestLabel, Shape, Valued, Sound, Root}
 use Rattle.theory.specs.Counts.{Small}
 use Rattle.theory.proofs.Chosen.{parent-child, minKey-leaf, minKey-least}
+use Rattle.theory.proofs.Outgoing.{arc-leaf-test}
 use Rattle.theory.proofs.Process.{ended-none}
 use Rattle.theory.proofs.Labels.{few-arcs}
 use Rattle.theory.proofs.Counts.{potential, after-counted, ends, start-small}
@@ -46,9 +47,13 @@ module _ (g : Graph) (d : Division) (spans : List ℕ) where
   ended-stays k m e l = times-stop (λ s. not (ended g d s)) (round g d spans) k (start g d spans) (rw e tt) m l
 
 -- with one more length the largest label stays below 'unreached'
-below-top : (x : ℕ) → x ≤ 268172289 → x + mostLength < top
+below-top : (x : ℕ) → x ≤ largestLabel → x + mostLength < top
 unfolding top
 below-top x l = omega arith
+
+-- the rounds of `final`
+abbrev enoughRounds : ℕ
+enoughRounds = 72057594037927936
 
 module _ {most : ℕ} {g : Graph} {d : Division} {spans : List ℕ} (ok : WellFormed most g d spans) where
   -- every column of `after k` is as long as it should be, and no label is above 'unreached'
@@ -60,13 +65,13 @@ module _ {most : ℕ} {g : Graph} {d : Division} {spans : List ℕ} (ok : WellFo
   after-sound k = after-counted ok k .sound
 
   -- a reached label is at most 1,023 times the longest length
-  reached-small : (k v : ℕ) → v < g .nodes → label (after g d spans k) v < top → label (after g d spans k) v ≤ 268172289
+  reached-small : (k v : ℕ) → v < g .nodes → label (after g d spans k) v < top → label (after g d spans k) v ≤ largestLabel
   reached-small k v lv r =
       let L = after g d spans k .labels in
       omega (arith, ok .graph .few-nodes, count-le (λ v. ltb (at L v) top) (g .nodes), after-sound k .bounded v lv r)
 
   -- every label is 'unreached' or at most 1,023 × 262,143
-  pub label-fits : (k v : ℕ) → v < g .nodes → (label (after g d spans k) v ≡ top) ⊎ (label (after g d spans k) v ≤ 268172289)
+  pub label-fits : (k v : ℕ) → v < g .nodes → (label (after g d spans k) v ≡ top) ⊎ (label (after g d spans k) v ≤ largestLabel)
   label-fits k v lv =
       ⊎-elim (λ (l : label (after g d spans k) v < top). inr (reached-small k v lv l))
       (λ (l : top ≤ label (after g d spans k) v). inl (omega (arith, after-shape k .capped v lv))) (lt-or-le (label (after g d spans k) v) top)
@@ -113,11 +118,10 @@ module _ {most : ℕ} {g : Graph} {d : Division} {spans : List ℕ} (ok : WellFo
   ended-unkeyed k e a la =
       let q = after g d spans k .queues in
       let p = ok .division .arc-leaf a la in
-      let leaf : isLeaf d (leafOf d a) ≡ true = lt-ltb (arcOf d (leafOf d a)) top (omega (arith, few-arcs ok, p .1)) in
       omega (
         arith,
         no-region-keyed q (after-sound k .valued) (ended-none g d (after g d spans k) e) (regions d) (leafOf d a) (p .0) (p .0),
-        minKey-leaf d q (leafOf d a) leaf ∙ ap (at (q .own)) (p .1),
+        minKey-leaf d q (leafOf d a) (arc-leaf-test d (g .tails) (ok .division) (few-arcs ok) a la) ∙ ap (at (q .own)) (p .1),
         after-shape k .queued .capped a la,
       )
 
@@ -136,17 +140,17 @@ module _ {most : ℕ} {g : Graph} {d : Division} {spans : List ℕ} (ok : WellFo
       }
 
   module _ (few : most ≤ 4) where
-    start-low : potential most g (start g d spans) ≤ 4 * (1024 * 268435455) + 4
+    start-low : potential most g (start g d spans) ≤ 4 * (mostNodes * 268435455) + 4
     unfolding top
-    start-low = omega (arith, start-small ok, mul-le-mul-right (1024 * top) few)
+    start-low = omega (arith, start-small ok, mul-le-mul-right (mostNodes * top) few)
 
     -- every count is below 2^54, whatever the number of rounds
     pub after-small : (k : ℕ) → Small (after g d spans k)
     after-small k =
         let c = after-counted ok k .kept in
         let s = after g d spans k in
-        let leaves : s .leaves ≤ 4 * (1024 * 268435455) + 4 = omega (arith, c .leaves, start-low) in
-        let levels : height d 0 ≤ 15 = omega (arith, ok .attention .few, ok .attention .each-height) in
+        let leaves : s .leaves ≤ 4 * (mostNodes * 268435455) + 4 = omega (arith, c .leaves, start-low) in
+        let levels : height d 0 ≤ mostSpans = omega (arith, ok .attention .few, ok .attention .each-height) in
         record {
           rounds = omega (arith, c .rounds);
           leaves = omega arith;
@@ -157,7 +161,7 @@ module _ {most : ℕ} {g : Graph} {d : Division} {spans : List ℕ} (ok : WellFo
     -- the run to its end has ended
     pub final-ended : ended g d (final g d spans) ≡ true
     unfolding final
-    final-ended = true-of _ (ends ok 72057594037927936 (omega (arith, start-low)))
+    final-ended = true-of _ (ends ok enoughRounds (omega (arith, start-low)))
       where
         true-of : (b : Bool) → T b → b ≡ true
         true-of true t = refl
@@ -167,8 +171,8 @@ module _ {most : ℕ} {g : Graph} {d : Division} {spans : List ℕ} (ok : WellFo
     pub ended-final : (k : ℕ) → ended g d (after g d spans k) ≡ true → final g d spans ≡ after g d spans k
     unfolding final
     ended-final k e =
-        ⊎-elim (λ (l : 72057594037927936 < k). sym (ended-stays g d spans 72057594037927936 k final-ended (omega arith)))
-        (λ (l : k ≤ 72057594037927936). ended-stays g d spans k 72057594037927936 e l) (lt-or-le 72057594037927936 k)
+        ⊎-elim (λ (l : enoughRounds < k). sym (ended-stays g d spans enoughRounds k final-ended (omega arith)))
+        (λ (l : k ≤ enoughRounds). ended-stays g d spans k enoughRounds e l) (lt-or-le enoughRounds k)
 
     -- a round of a run that has not ended has small counts, so all counts within it are small
     pub round-small : (k : ℕ) → ended g d (after g d spans k) ≡ false → Small (round g d spans (after g d spans k))
@@ -177,4 +181,4 @@ module _ {most : ℕ} {g : Graph} {d : Division} {spans : List ℕ} (ok : WellFo
     -- the run to its end is settled
     pub final-settled : Settled g (final g d spans .labels) (final g d spans .predecessors)
     unfolding final
-    final-settled = ended-settled 72057594037927936 final-ended
+    final-settled = ended-settled enoughRounds final-ended

@@ -27,7 +27,7 @@ use Rattle.theory.specs.Sound.{Shape, reached, Valued, SoundOf, Sound}
 use Rattle.theory.proofs.Totals.{count-one}
 use Rattle.theory.proofs.Process.{sumBy, lowered, relax-elim, Invariant, process-invariant, processChild-invariant, children-invariant}
 use Rattle.theory.proofs.Chosen.{parent-child}
-use Rattle.theory.proofs.Smallest.{Closed, _with_, own-valued, key-valued}
+use Rattle.theory.proofs.Smallest.{Closed, _with_, valued-weaken, valued-within, own-valued, key-valued}
 use Rattle.theory.proofs.Outgoing.{outgoing-changes, outgoing-sized, outgoing-valued}
 
 -- A LABEL FALLS: arc a₀ leads to v, whose label was above the sum
@@ -114,8 +114,8 @@ sound-with p Y q′ e v = record {
 }
 
 -- more regions at work ask less
-pub sound-enter : {g : Graph} {d : Division} {X : ℕ → Type 0} {L P : List ℕ} {q : Queues} (c : ℕ) → SoundOf g d X L P q → SoundOf g d (_with_ X c) L P q
-sound-enter {X = X} {q = q} c p = sound-with p (_with_ X c) q refl (λ y py ly out. p .valued y py ly (λ x. out (inr x)))
+pub sound-enter : {g : Graph} {d : Division} {X : ℕ → Type 0} {L P : List ℕ} {q : Queues} (c : ℕ) → SoundOf g d X L P q → SoundOf g d (X with c) L P q
+sound-enter {d = d} {X = X} {q = q} c p = sound-with p (X with c) q refl (valued-weaken d q X (X with c) (λ r pos x. inr x) (p .valued))
 
 pub top-positive : 0 < top
 unfolding top
@@ -229,8 +229,7 @@ module _ {most : ℕ} {g : Graph} {d : Division} {spans : List ℕ} (ok : WellFo
         relaxed = λ b lb l k. ⊎-elim (λ (e : b ≡ a). rw e done) (λ (n : b ≢ a). p .relaxed b lb l (rw (getD-set-other own a b top 0 n) at k)) (eq-or-ne b a);
         bounded = p .bounded;
         keyed = λ b lb. set-elim (λ (x : ℕ). x < top → x ≡ label s (tail g b)) own a b top 0 inside (λ _ l. absurd (omega arith)) (λ _ l. p .keyed b lb l);
-        valued = λ y py ly out. own-valued (ok .division) X r top (s .queues .updates) (s .queues) lr leaf (p .valued) y py ly
-            (λ (w : (y ≡ r) ⊎ X y). ⊎-elim (λ (e : y ≡ r). out (rw e xr)) out w);
+        valued = valued-within d _ X r xr (own-valued (ok .division) X r top (s .queues .updates) (s .queues) lr leaf (p .valued));
       }
 
   -- a keyed arc has a reached tail
@@ -271,15 +270,14 @@ module _ {most : ℕ} {g : Graph} {d : Division} {spans : List ℕ} (ok : WellFo
     capped = z .capped;
   }
 
-  pub rewriteKey-sound : (X : ℕ → Type 0) (c : ℕ) (s : State) → X (parent d c) → 0 < c → c < regions d → Shape g d s → Sound g d (_with_ X c) s
+  pub rewriteKey-sound : (X : ℕ → Type 0) (c : ℕ) (s : State) → X (parent d c) → 0 < c → c < regions d → Shape g d s → Sound g d (X with c) s
       → Sound g d X (rewriteKey g d c s)
   unfolding rewriteKey
   rewriteKey-sound X c s xp pc lc z p =
       let q = s .queues in
       sound-with p X _ refl
-      (λ y py ly out.
-      key-valued (ok .division) X (parent d c) c (minKey d q c) (q .updates) q (z .queued .keys) (parent-child d c pc lc) refl (p .valued) y py ly
-      (λ (w : (y ≡ parent d c) ⊎ X y). ⊎-elim (λ (e : y ≡ parent d c). out (rw e xp)) out w))
+      (valued-within d _ X (parent d c) xp
+      (key-valued (ok .division) X (parent d c) c (minKey d q c) (q .updates) q (z .queued .keys) (parent-child d c pc lc) refl (p .valued)))
 
   -- so every column keeps its length, and no label or key rises above `top`, through all processing (whether or not the invariant holds)
   shape-invariant : Invariant g d (λ s. Shape g d s)

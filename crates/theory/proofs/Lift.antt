@@ -45,9 +45,9 @@ pub record Kept (g : Graph) (d : Division) (I : (ℕ → Type 0) → ℕ → ℕ
   pub inner : (X : ℕ → Type 0) (r j : ℕ) (s : State) → Within d X r → isLeaf d r ≡ false → minKey d (s .queues) r < top
       → Shape g d s → Sound g d X s → I X r j s → I X r (suc j) (countInner g d s)
   pub enter : (X : ℕ → Type 0) (r j : ℕ) (s : State) → Within d X r → isLeaf d r ≡ false → Chosen d (s .queues) r
-      → Shape g d s → Sound g d X s → I X r j s → I (_with_ X (minItem d (s .queues .keys) r)) (minItem d (s .queues .keys) r) j s
+      → Shape g d s → Sound g d X s → I X r j s → I (X with minItem d (s .queues .keys) r) (minItem d (s .queues .keys) r) j s
   pub rewritten : (X : ℕ → Type 0) (r c : ℕ) (s : State) → Within d X r → Child d r c
-      → Shape g d s → Sound g d (_with_ X c) s → J (_with_ X c) c s → J X r (rewriteKey g d c s)
+      → Shape g d s → Sound g d (X with c) s → J (X with c) c s → J X r (rewriteKey g d c s)
   pub weak : (X : ℕ → Type 0) (r j : ℕ) (s : State) → J X r s → I X r j s
 
 module _ {most : ℕ} {g : Graph} {d : Division} {spans : List ℕ} (ok : WellFormed most g d spans) where
@@ -85,7 +85,7 @@ module _ {most : ℕ} {g : Graph} {d : Division} {spans : List ℕ} (ok : WellFo
         let below : parent d c < c = ok .division .nesting .lower c (h .positive) (h .in-range) in
         let fresh : ¬ X c = λ y. omega (arith, w .above c y, h .under) in
         let own-parent : X (parent d c) = rw (h .under) (w .itself) in
-        let q = ih (_with_ X c) c s
+        let q = ih (X with c) c s
         (record {
           in-range = h .in-range;
           itself = inl refl;

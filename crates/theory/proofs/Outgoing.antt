@@ -43,7 +43,8 @@ pub record Outgoing (d : Division) (tails : List ℕ) (v k : ℕ) (q : Queues) (
   pub few : q′ .updates ≤ q .updates + count (λ a. eqb (at tails a) v) i * regions d
 
 module _ (d : Division) (tails : List ℕ) (ok : DivisionOk (length tails) d) (few : length tails ≤ top) where
-  arc-leaf-test : (a : ℕ) → a < length tails → isLeaf d (leafOf d a) ≡ true
+  -- the leaf of an arc is a leaf
+  pub arc-leaf-test : (a : ℕ) → a < length tails → isLeaf d (leafOf d a) ≡ true
   arc-leaf-test a la = lt-ltb (arcOf d (leafOf d a)) top (omega (arith, ok .arc-leaf a la .1))
 
   pub arc-updated : (a k : ℕ) (q : Queues) → a < length tails → Updated d a k q (updateArc d a k q)
@@ -111,8 +112,8 @@ module _ (d : Division) (tails : List ℕ) (ok : DivisionOk (length tails) d) (f
     outgoing-changes =
         outgoing-keeps (λ i q′. Outgoing d tails v k q i q′) v k q outgoing-none outgoing-hit (λ a q′ la n p. outgoing-miss a q′ n p)
 
-    sized-still : k ≤ top → (i : ℕ) (q′ : Queues) → i ≤ length tails → Outgoing d tails v k q i q′ → Sized (length tails) d q′
-    sized-still cap i q′ li p = record {
+    sized-still : k ≤ top → (i : ℕ) (q′ : Queues) → Outgoing d tails v k q i q′ → Sized (length tails) d q′
+    sized-still cap i q′ p = record {
       own = p .own ∙ z .own;
       keys = p .keys ∙ z .keys;
       root = p .root ∙ z .root;
@@ -122,16 +123,15 @@ module _ (d : Division) (tails : List ℕ) (ok : DivisionOk (length tails) d) (f
     }
 
     pub outgoing-sized : k ≤ top → Sized (length tails) d (updateOutgoing d tails v k q)
-    outgoing-sized cap = sized-still cap (length tails) (updateOutgoing d tails v k q) (le-refl _) outgoing-changes
+    outgoing-sized cap = sized-still cap (length tails) (updateOutgoing d tails v k q) outgoing-changes
 
     -- keys stay smallest keys where the new key is below each outgoing arc's own
     pub outgoing-valued : (X : ℕ → Type 0) → Closed d X → k ≤ top → ((b : ℕ) → b < length tails → at tails b ≡ v → k < at (q .own) b) → Valued d X q
         → Valued d X (updateOutgoing d tails v k q)
     outgoing-valued X up cap low c =
-        (outgoing-keeps (λ i q′. (i ≤ length tails) × Outgoing d tails v k q i q′ × Valued d X q′) v k q (omega arith, outgoing-none, c)
+        (outgoing-keeps (λ i q′. Outgoing d tails v k q i q′ × Valued d X q′) v k q (outgoing-none, c)
         (λ a q′ la e p. (
-          la,
-          outgoing-hit a q′ la e (p .1),
-          arc-valued X up a k q′ la (sized-still cap a q′ (p .0) (p .1)) (rw (p .1 .ahead a (le-refl a)) (low a la e)) (p .2),
+          outgoing-hit a q′ la e (p .0),
+          arc-valued X up a k q′ la (sized-still cap a q′ (p .0)) (rw (p .0 .ahead a (le-refl a)) (low a la e)) (p .1),
         ))
-        (λ a q′ la n p. (la, outgoing-miss a q′ n (p .1), p .2))) .2
+        (λ a q′ la n p. (outgoing-miss a q′ n (p .0), p .1))) .1

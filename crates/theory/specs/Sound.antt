@@ -21,6 +21,10 @@ pub record Sized (m : ℕ) (d : Division) (queues : Queues) : Type 0 where
   pub capped : (a : ℕ) → a < m → at (queues .own) a ≤ top
   pub root : at (queues .keys) 0 ≡ top
 
+-- "The largest label is 1,023 × 262,143 = 268,172,289."
+abbrev pub largestLabel : ℕ
+largestLabel = 268172289
+
 pub record ShapeOf (g : Graph) (d : Division) (labels predecessors : List ℕ) (queues : Queues) : Type 0 where
   pub labelled : length labels ≡ g .nodes
   pub fed : length predecessors ≡ g .nodes
