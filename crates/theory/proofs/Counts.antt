@@ -23,7 +23,8 @@ use Rattle.procedure.specs.WellFormed.{outDegree, WellFormed}
 use Rattle.theory.specs.Sound.{Shape, Root}
 use Rattle.theory.proofs.Totals.{total, total-one, total-le, count-one, count-zero, count-join}
 use Rattle.theory.proofs.Outgoing.{Outgoing, outgoing-changes}
-use Rattle.theory.proofs.Process.{sumBy, lowered, relax-elim, process-grows}
+use Rattle.theory.proofs.Process.{sumBy, lowered, relax-elim}
+use Rattle.theory.proofs.Grows.{process-grows}
 use Rattle.theory.proofs.Labels.{relax-shape, few-arcs}
 use Rattle.theory.proofs.Start.{noKeys, firstLabels, first-capped, start-changes}
 use Rattle.theory.proofs.Lift.{Held, Kept, after-keeps}

@@ -6,7 +6,6 @@ use mathlib.Core.Logic.{_⊎_, inl, inr, ⊎-elim}
 use mathlib.Core.List.{List}
 use native.Mathlib.Nat.{mul-le-mul, mul-le-mul-right}
 use native.Mathlib.Omega.{arith}
-use borrow.Author.Tests.{lt-ltb}
 use lib.Dec.{T, ltb}
 use Rattle.indices.specs.Columns.{at}
 use Rattle.indices.specs.Steps.{times}
@@ -15,7 +14,7 @@ use Rattle.indices.proofs.Steps.{lt-or-le, times-on, times-none, times-stop, ti
 use Rattle.sheet.specs.Limits.{mostNodes, mostLength, mostSpans}
 use Rattle.sheet.specs.Words.{top}
 use Rattle.procedure.specs.Graph.{Graph, arcs}
-use Rattle.procedure.specs.Division.{Division, regions, parent, arcOf, isLeaf, leafOf, height}
+use Rattle.procedure.specs.Division.{Division, regions, parent, leafOf, height}
 use Rattle.procedure.specs.State.{Queues, label, predecessor}
 use Rattle.procedure.specs.Queues.{minKey}
 use Rattle.procedure.specs.Procedure.{ended, start, round, after, final}
@@ -39,7 +38,9 @@ module _ (g : Graph) (d : Division) (spans : List ℕ) where
   -- a run that has not ended after k rounds makes one more
   pub next-round : (k : ℕ) → ended g d (after g d spans k) ≡ false → after g d spans (k + 1) ≡ round g d spans (after g d spans k)
   next-round k e =
-      rounds-in-parts k 1 ∙ times-on (λ s. not (ended g d s)) (round g d spans) 0 (after g d spans k) (rw e) ∙ times-none (λ s. not (ended g d s)) (round g d spans) _
+      rounds-in-parts k 1
+      ∙ times-on (λ s. not (ended g d s)) (round g d spans) 0 (after g d spans k) (rw e)
+      ∙ times-none (λ s. not (ended g d s)) (round g d spans) (round g d spans (after g d spans k))
 
   -- an ended run stays as it is
   pub ended-stays : (k m : ℕ) → ended g d (after g d spans k) ≡ true → k ≤ m → after g d spans m ≡ after g d spans k
