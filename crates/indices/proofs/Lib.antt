@@ -1,4 +1,5 @@
 pub mod Tests
 pub mod Most
+pub mod Totals
 pub mod Tally
 pub mod Steps

@@ -13,6 +13,7 @@ use lib.Dec.{T, ltb, eqb}
 use Rattle.indices.specs.Columns.{at}
 use Rattle.indices.specs.Tests.{count}
 use Rattle.indices.proofs.Steps.{eq-or-ne, T-or, times-rise}
+use Rattle.indices.proofs.Totals.{total, total-one, total-le, count-one, count-zero, count-join}
 use Rattle.sheet.specs.Limits.{mostNodes}
 use Rattle.sheet.specs.Words.{top}
 use Rattle.procedure.specs.Graph.{Graph, arcs, tail, head}
@@ -21,7 +22,6 @@ use Rattle.procedure.specs.State.{Queues, State, label}
 use Rattle.procedure.specs.Procedure.{relax, clearKey, processLeaf, rewriteKey, countInner, countRound, ended, start, round, after}
 use Rattle.procedure.specs.WellFormed.{outDegree, WellFormed}
 use Rattle.theory.specs.Sound.{Shape, Root}
-use Rattle.theory.proofs.Totals.{total, total-one, total-le, count-one, count-zero, count-join}
 use Rattle.theory.proofs.Outgoing.{Outgoing, outgoing-changes}
 use Rattle.theory.proofs.Process.{sumBy, lowered, relax-elim}
 use Rattle.theory.proofs.Grows.{process-grows}

@@ -30,6 +30,11 @@ use Rattle.theory.proofs.Counts.{potential, after-counted, ends, start-
 
 -- ROUNDS, of any graph and division
 module _ (g : Graph) (d : Division) (spans : List ℕ) where
+  -- "k = 0 leaves the start"
+  pub no-rounds : after g d spans 0 ≡ start g d spans
+  unfolding after
+  no-rounds = times-none (λ s. not (ended g d s)) (round g d spans) (start g d spans)
+
   -- k rounds and then m more are k + m rounds
   pub rounds-in-parts : (k m : ℕ) → after g d spans (k + m) ≡ times m (λ s. not (ended g d s)) (round g d spans) (after g d spans k)
   unfolding after

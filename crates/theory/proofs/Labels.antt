@@ -14,6 +14,7 @@ use Rattle.indices.specs.Columns.{at}
 use Rattle.indices.specs.Steps.{times}
 use Rattle.indices.proofs.Tests.{count-hit}
 use Rattle.indices.proofs.Steps.{eq-or-ne, lt-or-le, true-or-false, set-elim}
+use Rattle.indices.proofs.Totals.{count-one}
 use Rattle.sheet.specs.Limits.{mostLength}
 use Rattle.sheet.specs.Words.{top}
 use Rattle.procedure.specs.Graph.{Graph, arcs, tail, head, len}
@@ -24,7 +25,6 @@ use Rattle.procedure.specs.Procedure.{relax, clearKey, processLeaf, rewriteKey,
 use Rattle.procedure.specs.Settled.{LeadsBack, home, back}
 use Rattle.procedure.specs.WellFormed.{WellFormed}
 use Rattle.theory.specs.Sound.{Shape, reached, Valued, SoundOf, Sound}
-use Rattle.theory.proofs.Totals.{count-one}
 use Rattle.theory.proofs.Process.{sumBy, lowered, relax-elim, Invariant, process-invariant, processChild-invariant, children-invariant}
 use Rattle.theory.proofs.Chosen.{parent-child}
 use Rattle.theory.proofs.Smallest.{Closed, _with_, valued-weaken, valued-within, own-valued, key-valued}
