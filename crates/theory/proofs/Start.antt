@@ -35,6 +35,7 @@ pub root-closed : (d : Division) → Closed d Root
 root-closed d r pos lr e = absurd (omega arith)
 
 module _ {most : ℕ} {g : Graph} {d : Division} {spans : List ℕ} (ok : WellFormed most g d spans) where
+  -- the queues before the first update
   pub noKeys-sized : Sized (arcs g) d (noKeys g d)
   noKeys-sized = record {
     own = length-replicate (arcs g) top;
@@ -69,6 +70,7 @@ module _ {most : ℕ} {g : Graph} {d : Division} {spans : List ℕ} (ok : WellFo
   unfolding start
   start-changes = outgoing-changes d (g .tails) (ok .division) (few-arcs ok) (g .source) 0 (noKeys g d) noKeys-sized
 
+  -- the columns at the start
   pub start-shape : Shape g d (start g d spans)
   unfolding start
   start-shape = record {
@@ -78,6 +80,7 @@ module _ {most : ℕ} {g : Graph} {d : Division} {spans : List ℕ} (ok : WellFo
     capped = first-capped;
   }
 
+  -- the invariant at the start
   pub start-sound : Sound g d Root (start g d spans)
   unfolding start
   start-sound =

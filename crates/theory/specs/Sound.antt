@@ -25,13 +25,14 @@ pub record Sized (m : ℕ) (d : Division) (queues : Queues) : Type 0 where
 abbrev pub largestLabel : ℕ
 largestLabel = 268172289
 
+-- an entry for each node, arc and region, and no label above 'unreached'
 pub record ShapeOf (g : Graph) (d : Division) (labels predecessors : List ℕ) (queues : Queues) : Type 0 where
   pub labelled : length labels ≡ g .nodes
   pub fed : length predecessors ≡ g .nodes
   pub queued : Sized (arcs g) d queues
   pub capped : (v : ℕ) → v < g .nodes → at labels v ≤ top
 
--- Every column is as long as it should be, and no label is above 'unreached'.
+-- The columns of a state have the right lengths and no entry above `top`.
 abbrev pub Shape : Graph → Division → State → Type 0
 Shape g d s = ShapeOf g d (s .labels) (s .predecessors) (s .queues)
 
@@ -43,6 +44,7 @@ reached g labels = count (λ v. ltb (at labels v) top) (g .nodes)
 abbrev pub Valued : Division → (ℕ → Type 0) → Queues → Type 0
 Valued d X queues = (r : ℕ) → 0 < r → r < regions d → ¬ X r → at (queues .keys) r ≡ minKey d queues r
 
+-- the invariant, part by part
 pub record SoundOf (g : Graph) (d : Division) (X : ℕ → Type 0) (labels predecessors : List ℕ) (queues : Queues) : Type 0 where
   -- 1. the source has label 0 and no predecessor
   pub source-label : at labels (g .source) ≡ 0
