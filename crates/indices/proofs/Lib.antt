@@ -2,3 +2,4 @@ pub mod Tests
 pub mod Most
 pub mod Tally
 pub mod Steps
+pub mod Pigeonhole

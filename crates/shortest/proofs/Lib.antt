@@ -1,0 +1,4 @@
+pub mod Routes
+pub mod Depth
+pub mod TightTree
+pub mod Agree
