@@ -31,6 +31,17 @@ pub and-right : (a b : Bool) → a && b ≡ true → b ≡ true
 and-right true b e = e
 and-right false b e = absurd (true≢false (sym e))
 
+pub and-both : (a b : Bool) → a ≡ true → b ≡ true → a && b ≡ true
+and-both a b e h = rw e h
+
+-- a disjunction is an implication from the first part's failure
+pub or-then : (a b : Bool) → a || b ≡ true → a ≡ false → b ≡ true
+or-then a b h e = rw e at h
+
+pub or-if : (a b : Bool) → (a ≡ false → b ≡ true) → a || b ≡ true
+or-if true b h = refl
+or-if false b h = h refl
+
 -- ANY
 pub any-none : (p : ℕ → Bool) → any p 0 ≡ false
 unfolding any

@@ -8,7 +8,7 @@ use Rattle.indices.specs.Columns.{at}
 use Rattle.indices.proofs.Steps.{eq-or-ne}
 use Rattle.sheet.specs.Words.{top}
 use Rattle.procedure.specs.Graph.{Graph}
-use Rattle.procedure.specs.Routes.{Route, routeLength, chainTo, Shortest}
+use Rattle.procedure.specs.Routes.{chainTo, Shortest}
 
 module _ {g : Graph} {L P L′ P′ : List ℕ} (s : Shortest g L P) (s′ : Shortest g L′ P′) (v : ℕ) (l : v < g .nodes) where
   -- unreached in one, unreached in the other

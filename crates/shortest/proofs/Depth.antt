@@ -1,12 +1,15 @@
 -- How many steps back a node is from the source: that number is one only, and by the pigeonhole below the number of nodes. Assumes nothing.
-use Prim.Native.Nat.{ℕ, zero, suc, _+_, _-_, _<_}
+use Prim.Native.Nat.{ℕ, zero, suc, _+_, _-_, _≤_, _<_}
 use native.Mathlib.Omega.{arith}
 use mathlib.Core.Path.{_≡_, refl, sym, ap, subst}
 use mathlib.Core.Logic.{_≢_}
-use mathlib.Core.List.{List}
+use mathlib.Core.List.{List, [], _∷_}
+use lib.ListN.{length, length-append}
 use Rattle.indices.specs.Columns.{at}
 use Rattle.indices.proofs.Pigeonhole.{pigeonhole}
 use Rattle.procedure.specs.Graph.{Graph, tail}
+use Rattle.procedure.specs.Routes.{followed}
+use Rattle.shortest.proofs.Routes.{followed-home, followed-back}
 
 -- Following predecessors back from v, the source is met after d steps and not before, and every node met is a node of the graph.
 pub data Depth (g : Graph) (predecessors : List ℕ) : ℕ → ℕ → Type 0 where
@@ -44,3 +47,12 @@ module _ (g : Graph) (predecessors : List ℕ) where
     where
       at-step : (i : ℕ) → i < suc d → Depth g predecessors (nodeBack v i) (d - i)
       at-step i l = depth-back i (d - i) p (omega arith)
+
+  -- the chain from a node has as many arcs as the node is deep
+  pub chain-arcs : {v d : ℕ} (m : ℕ) → Depth g predecessors v d → d ≤ m → length (followed g predecessors m v) ≡ d
+  chain-arcs {v} m (home l e) lm = ap length (followed-home g predecessors m v e)
+  chain-arcs zero (back l n p) lm = absurd (omega arith)
+  chain-arcs {v} (suc m) (back l n p) lm =
+      let a = at predecessors v in
+      let rest = followed g predecessors m (tail g a) in
+      omega (arith, ap length (followed-back g predecessors m v n), length-append rest (a ∷ []), chain-arcs m p (omega arith))

@@ -2,3 +2,4 @@ pub mod Routes
 pub mod Depth
 pub mod TightTree
 pub mod Agree
+pub mod TableTest

@@ -6,6 +6,7 @@ use native.Mathlib.Omega.{arith}
 use mathlib.Core.Path.{_≡_, refl, sym, ap, _∙_}
 use mathlib.Core.Logic.{_≢_, ⊎-elim}
 use mathlib.Core.List.{List, [], _∷_, _++_}
+use lib.ListN.{length}
 use Rattle.indices.specs.Columns.{at}
 use Rattle.indices.proofs.Steps.{eq-or-ne}
 use Rattle.sheet.specs.Limits.{mostLength}
@@ -14,8 +15,9 @@ use Rattle.procedure.specs.Graph.{Graph, arcs, tail, head, len}
 use Rattle.procedure.specs.WellFormed.{GraphOk}
 use Rattle.procedure.specs.Routes.{Route, routeLength, followed, chainTo, Shortest}
 use Rattle.procedure.specs.Settled.{LeadsBack, home as led-home, back as led-back, Settled}
-use Rattle.shortest.proofs.Routes.{route-none, route-none-ends, length-none, route-more, length-more, route-last, along-route, followed-none, followed-home, followed-back}
-use Rattle.shortest.proofs.Depth.{Depth, home, back, depth-below}
+use Rattle.shortest.proofs.Routes.{route-none, route-none-ends, route-more, route-last, length-none, length-more, along-route}
+use Rattle.shortest.proofs.Routes.{followed-none, followed-home, followed-back}
+use Rattle.shortest.proofs.Depth.{Depth, home, back, depth-below, chain-arcs}
 
 -- v's predecessor is an arc that leads to it from a reached node, and v's label allows for just that arc.
 pub record Fed (g : Graph) (labels predecessors : List ℕ) (v : ℕ) : Type 0 where
@@ -37,7 +39,9 @@ module _ {most : ℕ} (g : Graph) (ok : GraphOk most g) (labels predecessors : L
     -- a label is no more than its depth allows
     label-low : {v d : ℕ} → Depth g predecessors v d → at labels v ≢ top → at labels v ≤ d * mostLength
     label-low (home l e) r = rw (e, t .source-label) (omega arith)
-    label-low (back {v = v} l n p) r = let f = t .fed v l r n in omega (arith, f .tight, label-low p (f .from-reached), ok .short (at predecessors v) (f .is-arc))
+    label-low (back {v = v} l n p) r =
+        let f = t .fed v l r n in
+        omega (arith, f .tight, label-low p (f .from-reached), ok .short (at predecessors v) (f .is-arc))
 
     -- a reached label and one arc more is still below 'unreached'
     room : (v : ℕ) → v < g .nodes → at labels v ≢ top → at labels v + mostLength < top
@@ -113,7 +117,8 @@ module _ {most : ℕ} (g : Graph) (ok : GraphOk most g) (labels predecessors : L
     shortest-relaxed a la r =
         let p = s .chain (tail g a) (ok .tail-in a la) r in
         let way = chainTo g predecessors (tail g a) in
-        omega (arith, s .least (head g a) (ok .head-in a la) (way ++ (a ∷ [])) (route-more g (g .source) way a (head g a) (p .0) la refl), length-more g way a, p .1)
+        let on = route-more g (g .source) way a (head g a) (p .0) la refl in
+        omega (arith, s .least (head g a) (ok .head-in a la) (way ++ (a ∷ [])) on, length-more g way a, p .1)
 
     shortest-fed : (n v : ℕ) → g .nodes ≡ suc n → v < g .nodes → at labels v ≢ top → v ≢ g .source → Fed g labels predecessors v
     shortest-fed n v size l r e =
@@ -148,6 +153,13 @@ module _ {most : ℕ} (g : Graph) (ok : GraphOk most g) (labels predecessors : L
       relaxed = shortest-relaxed;
       led = λ v l r. followed-depth (g .nodes) v l (s .chain v l r .0);
     }
+
+    -- the chain of a reached node has fewer arcs than there are nodes
+    pub chain-few : (v : ℕ) → v < g .nodes → at labels v ≢ top → length (chainTo g predecessors v) < g .nodes
+    chain-few v l r =
+        let p = shortest-tree .led v l r in
+        let few = depth-below g predecessors (p .1) in
+        omega (arith, chain-arcs g predecessors (g .nodes) (p .1) (omega arith))
 
   -- Where no leaf has a key, they form such a tree too.
   module _ (s : Settled g labels predecessors) where
