@@ -116,6 +116,12 @@ count-le p (suc n) = at (p n) (count-le p n)
     at true l = omega arith
     at false l = omega arith
 
+-- where no index passes, none is counted
+pub count-out-all : (p : ℕ → Bool) (n : ℕ) → ((i : ℕ) → i < n → p i ≡ false) → count p n ≡ 0
+unfolding count
+count-out-all p zero h = refl
+count-out-all p (suc n) h = rw (count-out-all p n (λ i l. h i (omega arith)), h n (omega arith))
+
 -- an index that passes is counted
 pub count-hit : (p : ℕ → Bool) (i n : ℕ) → i < n → p i ≡ true → 0 < count p n
 count-hit p i n l h = omega (arith, count-in p i h, count-mono p (i + 1) n (omega arith))

@@ -1,1 +1,4 @@
 pub mod Heights
+pub mod Bounds
+pub mod Regions
+pub mod Lowest

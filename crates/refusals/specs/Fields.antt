@@ -1,0 +1,37 @@
+-- Refusals 8 to 10 of a sheet, those of its arcs, each beside its line of the paper. Definitions; assumes nothing.
+use Prim.Native.Nat.{ℕ}
+use mathlib.Core.List.{List}
+use mathlib.Core.Bool.{Bool, true, false, _||_}
+use lib.Dec.{ltb, leb, eqb}
+use Rattle.indices.specs.Tests.{any, count}
+use Rattle.sheet.specs.Limits.{mostLength, mostArcsEachWay}
+use Rattle.sheet.specs.Sections.{nodeCount, arcCount}
+use Rattle.sheet.specs.Arcs.{tail, head, arcLength, endOf}
+
+-- 8. "A tail or head not below n."
+abbrev pub endOutside : List ℕ → ℕ → Bool
+endOutside b a = leb (nodeCount b) (tail b a) || leb (nodeCount b) (head b a)
+
+unfoldable pub endsOutside : List ℕ → Bool
+endsOutside b = any (endOutside b) (arcCount b)
+
+-- 9. "A length above 262,143."
+abbrev pub tooLong : List ℕ → ℕ → Bool
+tooLong b a = ltb mostLength (arcLength b a)
+
+unfoldable pub lengthsOutside : List ℕ → Bool
+lengthsOutside b = any (tooLong b) (arcCount b)
+
+-- 10. "A node with more than two outgoing or more than two incoming arcs."
+-- arc a has node v as its head, or else as its tail
+abbrev pub endsAt : Bool → List ℕ → ℕ → ℕ → Bool
+endsAt heads b v a = eqb (endOf heads b a) v
+
+abbrev pub crowded : Bool → List ℕ → ℕ → Bool
+crowded heads b v = ltb mostArcsEachWay (count (endsAt heads b v) (arcCount b))
+
+unfoldable pub crowdedNodes : Bool → List ℕ → Bool
+crowdedNodes heads b = any (crowded heads b) (nodeCount b)
+
+unfoldable pub tooManyAtNode : List ℕ → Bool
+tooManyAtNode b = crowdedNodes false b || crowdedNodes true b
