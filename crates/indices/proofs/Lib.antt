@@ -3,3 +3,4 @@ pub mod Most
 pub mod Tally
 pub mod Steps
 pub mod Pigeonhole
+pub mod Columns
