@@ -1,9 +1,9 @@
 -- Cases of the definitions, each computed from a sheet's bytes: the paper's marked runs, and one for each slip that it names. Assumes nothing.
-use Prim.Native.Nat.{ℕ, zero, suc, _/_, _%_}
+use Prim.Native.Nat.{ℕ, _/_, _%_}
 use mathlib.Core.Bool.{Bool, true, false}
 use mathlib.Core.Path.{_≡_, refl}
-use mathlib.Core.List.{List, [], _∷_}
-use Rattle.indices.specs.Tests.{lead, most}
+use mathlib.Core.List.{List, [], _∷_, map}
+use Rattle.indices.specs.Tests.{any, count, lead, most}
 use Rattle.indices.specs.Steps.{upTo, times}
 use Rattle.indices.specs.Columns.{column}
 use Rattle.sheet.specs.Words.{word, kind, payload, top}
@@ -11,6 +11,11 @@ use Rattle.sheet.specs.Sections.{spansFrom, arcsFrom, regionWords}
 use Rattle.sheet.specs.Arcs.{tail, head, arcLength}
 use Rattle.sheet.specs.Heights.{heightIn, heightOf}
 use Rattle.sheet.specs.Regions.{leafWord, parentWord, arcWord}
+use Rattle.sheet.specs.Answer.{Answer, accepted}
+use Rattle.refusals.specs.Form.{wrongSize, outOfOrder, bitSet, nodesOutside, sourceOutside, spansOutside, tooMany}
+use Rattle.refusals.specs.Fields.{endsOutside, lengthsOutside, crowdedNodes, tooManyAtNode}
+use Rattle.refusals.specs.Nesting.{wrongParents, wrongLeaves, childlessRegions, spansDiffer}
+use Rattle.refusals.specs.Judgement.{formRefusals, countRefusals, arcRefusals, divisionRefusals, refusals, judgement}
 use Rattle.procedure.specs.Division.{leafOf}
 use Rattle.procedure.specs.OfSheet.{graphOf, divisionOf, spansOf}
 use Rattle.procedure.specs.State.{State, counts}
@@ -77,7 +82,12 @@ zeroRing =
     0x10000003 ∷ 0x20000000 ∷ 0x30000001 ∷ 0x40000001 ∷ 0x50000007 ∷ 0x40000402 ∷ 0x50000000 ∷ 0x40000801 ∷ 0x50000000
     ∷ 0x70000000 ∷ 0x70000001 ∷ 0x70000002 ∷ []
 
+abbrev pub judged : List (List ℕ) → List Answer
+judged sheets = map (λ ws. judgement (bytes ws)) sheets
+
 pub record Cases : Type 0 where
+  -- all of these sheets are accepted
+  pub good : judged (hallA ∷ oneNode ∷ twoLeaves ∷ detour ∷ zeroRing ∷ []) ≡ accepted ∷ accepted ∷ accepted ∷ accepted ∷ accepted ∷ []
   -- "A, k = 0: paused; counts 0, 0, 0, 6; only node 0 labelled."
   pub start : run hallA 0 ≡ show false (0 ∷ 0 ∷ 0 ∷ 6 ∷ []) (0 ∷ none ∷ none ∷ none ∷ []) (none ∷ none ∷ none ∷ none ∷ [])
   -- "A, k = 1: paused; counts 1, 2, 2, 8; labels 0, 4, unreached, 9."
@@ -97,12 +107,18 @@ pub record Cases : Type 0 where
   pub no-climb : run twoLeaves 0 ≡ show false (0 ∷ 0 ∷ 0 ∷ 5 ∷ []) (0 ∷ none ∷ none ∷ []) (none ∷ none ∷ none ∷ [])
   -- Node 1 is fed by arc 0 at 5, and then by arc 2 at 2. "Keeping the old feeding arc when a label falls": arc 0.
   pub new-predecessor : runToEnd detour ≡ show true (1 ∷ 3 ∷ 1 ∷ 6 ∷ []) (0 ∷ 2 ∷ 1 ∷ []) (none ∷ 2 ∷ 1 ∷ [])
-  -- The arc back to node 1 gives it no lower label. "Accepting feeding arcs that run round a zero-length ring", with at most for below: node 1 fed by arc 2, paused.
+  -- The arc back to node 1 gives it no lower label.
+  -- "Accepting feeding arcs that run round a zero-length ring", a label replaced by an equal one: paused, node 1 fed by arc 2.
   pub no-ring : run zeroRing 3 ≡ show true (3 ∷ 3 ∷ 3 ∷ 6 ∷ []) (0 ∷ 7 ∷ 7 ∷ []) (none ∷ 0 ∷ 1 ∷ [])
 
 pub cases : Cases
-unfolding lead most upTo times column word kind payload top spansFrom arcsFrom regionWords tail head arcLength heightIn heightOf leafWord parentWord arcWord leafOf graphOf divisionOf spansOf before choose minItemBelow minItem minKey write updateFor update updateArc updateOutgoing relax clearKey processLeaf rewriteKey countInner countRound processChild alive ended processFor process start round after final nodeWords tableOf
+unfolding any count lead most upTo times column word kind payload top spansFrom arcsFrom regionWords tail head arcLength heightIn heightOf leafWord
+    parentWord arcWord leafOf graphOf divisionOf spansOf before choose minItemBelow minItem minKey write updateFor update updateArc updateOutgoing
+    relax clearKey processLeaf rewriteKey countInner countRound processChild alive ended processFor process start round after final nodeWords tableOf
+    judgement refusals formRefusals countRefusals arcRefusals divisionRefusals wrongSize outOfOrder bitSet nodesOutside sourceOutside spansOutside
+    tooMany endsOutside lengthsOutside crowdedNodes tooManyAtNode wrongParents wrongLeaves childlessRegions spansDiffer
 cases = record {
+  good = refl;
   start = refl;
   one-round = refl;
   to-its-end = refl;
