@@ -3,3 +3,4 @@ pub mod Depth
 pub mod TightTree
 pub mod Agree
 pub mod TableTest
+pub mod Cases
