@@ -1,5 +1,6 @@
 pub mod Routes
 pub mod Depth
+pub mod LeadsBack
 pub mod TightTree
 pub mod Agree
 pub mod TableTest

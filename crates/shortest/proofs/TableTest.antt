@@ -15,17 +15,10 @@ use Rattle.sheet.specs.Words.{top}
 use Rattle.procedure.specs.Graph.{Graph, arcs, tail, head, len}
 use Rattle.procedure.specs.WellFormed.{GraphOk}
 use Rattle.procedure.specs.Routes.{Shortest}
-use Rattle.shortest.specs.TableTest.{leadsBack, sourceTest, unfedTest, fedTest, relaxedTest, ledTest, settled?}
-use Rattle.shortest.proofs.Depth.{Depth, home, back, depth-below}
+use Rattle.shortest.specs.TableTest.{sourceTest, unfedTest, fedTest, relaxedTest, ledTest, settled?}
+use Rattle.shortest.proofs.Depth.{Depth, depth-below}
+use Rattle.shortest.proofs.LeadsBack.{depth-leads, leads-depth}
 use Rattle.shortest.proofs.TightTree.{Fed, TightTree, tree-shortest, shortest-tree}
-
--- a node of a given depth leads back in as many steps, and in more
-depth-leads : (g : Graph) (predecessors : List ℕ) {v d : ℕ} (n : ℕ) → Depth g predecessors v d → d ≤ n → leadsBack g predecessors n v ≡ true
-unfolding leadsBack
-depth-leads g predecessors {v} zero (home l e) m = eq-eqb v (g .source) e
-depth-leads g predecessors {v} (suc n) (home l e) m = or-if (eqb v (g .source)) _ (λ f. absurd (eqb-false v (g .source) f e))
-depth-leads g predecessors zero (back l e p) m = absurd (omega arith)
-depth-leads g predecessors {v} (suc n) (back l e p) m = or-if (eqb v (g .source)) _ (λ f. depth-leads g predecessors n p (omega arith))
 
 -- each of the tests passes
 record Passes (g : Graph) (labels predecessors : List ℕ) : Type 0 where
@@ -95,21 +88,12 @@ module _ {most : ℕ} (g : Graph) (ok : GraphOk most g) (labels predecessors : L
     unfolding relaxedTest
     arc-relaxed a la r = leb-true _ _ (or-then (eqb (at labels (tail g a)) top) _ (p .of-relaxed a la) (ne-eqb (at labels (tail g a)) top r))
 
-    leads-depth : (n v : ℕ) → v < g .nodes → at labels v ≢ top → leadsBack g predecessors n v ≡ true → (d : ℕ) × Depth g predecessors v d
-    unfolding leadsBack
-    leads-depth zero v l r t = (0, home l (eqb-true v (g .source) t))
-    leads-depth (suc n) v l r t =
-        ⊎-elim (λ (e : v ≡ g .source). (0, home l e))
-        (λ (e : v ≢ g .source).
-        let f = node-fed v l r e in
-        let further = or-then (eqb v (g .source)) _ t (ne-eqb v (g .source) e) in
-        let q = leads-depth n (tail g (at predecessors v)) (ok .tail-in _ (f .is-arc)) (f .from-reached) further in
-        (suc (q .0), back l e (q .1)))
-        (eq-or-ne v (g .source))
-
     node-depth : (v : ℕ) → v < g .nodes → at labels v ≢ top → (d : ℕ) × Depth g predecessors v d
     unfolding ledTest
-    node-depth v l r = leads-depth (pred (g .nodes)) v l r (or-then (eqb (at labels v) top) _ (p .of-led v l) (ne-eqb (at labels v) top r))
+    node-depth v l r =
+        leads-depth g predecessors (λ u. (u < g .nodes) × (at labels u ≢ top)) (λ u q. q .0)
+        (λ u q n. let f = node-fed u (q .0) (q .1) n in (ok .tail-in (at predecessors u) (f .is-arc), f .from-reached)) (pred (g .nodes)) v (l, r)
+        (or-then (eqb (at labels v) top) _ (p .of-led v l) (ne-eqb (at labels v) top r))
 
     passes-tree : TightTree g labels predecessors
     passes-tree = record {
