@@ -1,15 +1,14 @@
 -- The test of labels and predecessors passes just where they are shortest: it says, test by test, that they form a tight tree. Assumes nothing.
-use Prim.Native.Nat.{ℕ, zero, suc, pred, _+_, _≤_, _<_}
+use Prim.Native.Nat.{ℕ, pred, _+_, _≤_, _<_}
 use native.Mathlib.Omega.{arith}
 use mathlib.Core.Bool.{true, not, _&&_}
 use mathlib.Core.Path.{_≡_, ap}
-use mathlib.Core.Logic.{_≢_, ⊎-elim}
+use mathlib.Core.Logic.{_≢_}
 use mathlib.Core.List.{List}
 use lib.Dec.{ltb, eqb}
 use borrow.Author.Tests.{ltb-true, lt-ltb, leb-true, le-leb, eqb-true, eq-eqb, ne-eqb, eqb-false, not-true, not-false}
 use Rattle.indices.specs.Columns.{at}
 use Rattle.indices.specs.Tests.{all}
-use Rattle.indices.proofs.Steps.{eq-or-ne}
 use Rattle.indices.proofs.Tests.{and-left, and-right, and-both, or-then, or-if, all-at, all-true}
 use Rattle.sheet.specs.Words.{top}
 use Rattle.procedure.specs.Graph.{Graph, arcs, tail, head, len}
