@@ -3,3 +3,5 @@ pub mod Most
 pub mod Totals
 pub mod Tally
 pub mod Steps
+pub mod Pigeonhole
+pub mod Columns

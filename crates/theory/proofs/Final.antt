@@ -52,8 +52,8 @@ module _ (g : Graph) (d : Division) (spans : List ℕ) where
   unfolding after
   ended-stays k m e l = times-stop (λ s. not (ended g d s)) (round g d spans) k (start g d spans) (rw e tt) m l
 
--- with one more length the largest label stays below 'unreached'
-below-top : (x : ℕ) → x ≤ largestLabel → x + mostLength < top
+-- With one more length the largest label stays below `top`: plain '<' puts 'none' and unreached above every number.
+pub below-top : (x : ℕ) → x ≤ largestLabel → x + mostLength < top
 unfolding top
 below-top x l = omega arith
 
@@ -139,7 +139,6 @@ module _ {most : ℕ} {g : Graph} {d : Division} {spans : List ℕ} (ok : WellFo
         source-label = p .source-label;
         source-unfed = p .source-unfed;
         capped = after-shape k .capped;
-        room = λ v lv r. below-top _ (reached-small k v lv r);
         led = p .led;
         unfed = p .unfed;
         relaxed = λ a la r. p .relaxed a la r (ended-unkeyed k e a la);
