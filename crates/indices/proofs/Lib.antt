@@ -1,4 +1,7 @@
 pub mod Tests
 pub mod Most
+pub mod Totals
 pub mod Tally
 pub mod Steps
+pub mod Pigeonhole
+pub mod Columns

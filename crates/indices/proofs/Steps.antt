@@ -1,14 +1,14 @@
 -- Laws of `if_then_else_`, `upTo` and `times`, case splits on numbers and tests, and an entry after a store. Assumes nothing.
 use Prim.Native.Nat.{ℕ, zero, suc, _+_, _≤_, _<_}
-use native.Mathlib.Nat.{le-refl, le-suc, le-trans, lt-suc-self, zero-add, suc-add}
+use native.Mathlib.Nat.{lt-suc-self, zero-add, suc-add}
 use native.Mathlib.Omega.{arith}
 use mathlib.Core.Bool.{Bool, true, false, not, _&&_}
 use mathlib.Core.Path.{_≡_, refl, sym, ap, _∙_, subst}
 use mathlib.Core.Logic.{_≢_, _⊎_, inl, inr, ⊎-elim}
-use mathlib.Core.List.{List, [], _∷_}
+use mathlib.Core.List.{List}
 use lib.ListN.{length, getD, set}
 use lib.Seq.{getD-set-same, getD-set-other}
-use lib.Dec.{T, T-not, ltb, eqb, ltb→lt, nltb→le, eqb→eq, eqb-refl, lt→ltb}
+use lib.Dec.{T, T-not, ltb, eqb, ltb→lt, nltb→le, eqb→eq, eqb-refl}
 use Rattle.indices.specs.Steps.{if_then_else_, upTo, times}
 
 -- to prove P of an if, prove it of both branches, with the test's outcome in hand
@@ -17,7 +17,8 @@ if-elim P true f g = f tt
 if-elim P false f g = g tt
 
 -- the same where two tests are joined
-pub if-and-elim {ℓ κ} : {A : Type ℓ} (P : A → Type κ) (a b : Bool) {x y : A} → (T a → T b → P x) → (T a → T (not b) → P y) → (T (not a) → P y) → P (if a && b then x else y)
+pub if-and-elim {ℓ κ} : {A : Type ℓ} (P : A → Type κ) (a b : Bool) {x y : A}
+    → (T a → T b → P x) → (T a → T (not b) → P y) → (T (not a) → P y) → P (if a && b then x else y)
 if-and-elim P true true f g k = f tt tt
 if-and-elim P true false f g k = g tt tt
 if-and-elim P false b f g k = k tt
@@ -37,6 +38,11 @@ if-cong false x x′ y e = refl
 pub T-or : (b : Bool) → T b ⊎ T (not b)
 T-or true = inl tt
 T-or false = inr tt
+
+-- the same as equations
+pub true-or-false : (b : Bool) → (b ≡ true) ⊎ (b ≡ false)
+true-or-false true = inl refl
+true-or-false false = inr refl
 
 pub T-of : (b : Bool) → b ≡ true → T b
 T-of b e = subst T (sym e) tt
@@ -61,6 +67,10 @@ eq-or-ne m n = go (eqb m n) (λ t. eqb→eq m n t) (λ t. neqb→ne m n t)
 pub lt-or-le : (m n : ℕ) → (m < n) ⊎ (n ≤ m)
 lt-or-le m n = ⊎-elim (λ (t : T (ltb m n)). inl (ltb→lt m n t)) (λ (t : T (not (ltb m n))). inr (nltb→le m n t)) (T-or (ltb m n))
 
+-- what holds below n and of n holds below suc n
+pub below-suc {κ} : (P : ℕ → Type κ) (n : ℕ) → ((i : ℕ) → i < n → P i) → P n → (i : ℕ) → i < suc n → P i
+below-suc P n f p i l = ⊎-elim (λ (e : i ≡ n). rw e p) (λ (ne : i ≢ n). f i (omega arith)) (eq-or-ne i n)
+
 module _ {ℓ κ} {S : Type ℓ} where
   pub upTo-keeps : (P : ℕ → S → Type κ) (f : ℕ → S → S) (s : S) (n : ℕ) → P zero s → ((i : ℕ) (t : S) → i < n → P i t → P (suc i) (f i t)) → P n (upTo n f s)
   unfolding upTo
@@ -81,7 +91,8 @@ module _ {ℓ κ} {S : Type ℓ} where
       if-elim J (test s) (λ _. times-keeps J test f (λ s t j. step s t (weak s j)) n (f s) (step s t p)) (λ u. absurd (T-not (test s) u t))
 
   -- Where f raises m by one or more, and the test still holds at the end, m was raised n times.
-  pub times-rise : (P : S → Type κ) (m : S → ℕ) (test : S → Bool) (f : S → S) → ((s : S) → T (test s) → P s → P (f s)) → ((s : S) → T (test s) → P s → m s < m (f s))
+  pub times-rise : (P : S → Type κ) (m : S → ℕ) (test : S → Bool) (f : S → S)
+      → ((s : S) → T (test s) → P s → P (f s)) → ((s : S) → T (test s) → P s → m s < m (f s))
       → (n : ℕ) (s : S) → P s → T (test (times n test f s)) → m s + n ≤ m (times n test f s)
   unfolding times
   times-rise P m test f keep rise zero s p = λ t. omega arith
@@ -94,6 +105,27 @@ module _ {ℓ} {S : Type ℓ} where
   unfolding upTo
   upTo-cong f g s zero e = refl
   upTo-cong f g s (suc n) e = e n (upTo n f s) (lt-suc-self n) ∙ ap (g n) (upTo-cong f g s n (λ i t l. e i t (omega arith)))
+
+  -- one step, where the test holds, and none where it fails
+  pub times-on : (test : S → Bool) (f : S → S) (n : ℕ) (s : S) → test s ≡ true → times (suc n) test f s ≡ times n test f (f s)
+  unfolding times
+  times-on test f n s e = rw e
+
+  pub times-off : (test : S → Bool) (f : S → S) (n : ℕ) (s : S) → test s ≡ false → times n test f s ≡ s
+  unfolding times
+  times-off test f zero s e = refl
+  times-off test f (suc n) s e = rw e
+
+  pub times-none : (test : S → Bool) (f : S → S) (s : S) → times 0 test f s ≡ s
+  unfolding times
+  times-none test f s = refl
+
+  -- steps that agree where the test holds
+  pub times-cong : (test : S → Bool) (f g : S → S) → ((s : S) → T (test s) → f s ≡ g s) → (n : ℕ) (s : S) → times n test f s ≡ times n test g s
+  unfolding times
+  times-cong test f g e zero s = refl
+  times-cong test f g e (suc n) s =
+      if-cong (test s) (times n test f (f s)) (times n test g (g s)) s (λ t. rw (e s t) (times-cong test f g e n (g s)))
 
   -- once the test fails, more times change nothing
   pub times-stop : (test : S → Bool) (f : S → S) (n : ℕ) (s : S) → T (not (test (times n test f s))) → (m : ℕ) → n ≤ m → times m test f s ≡ times n test f s
@@ -114,14 +146,10 @@ module _ {ℓ} {S : Type ℓ} where
   times-add test f zero m s = rw (zero-add m)
   times-add test f (suc n) m s = rw (suc-add n m) (go (times-add test f n m (f s)) (test s) refl)
     where
-      stopped : (m : ℕ) → test s ≡ false → times m test f s ≡ s
-      stopped zero e = refl
-      stopped (suc m) e = rw e
-
       go : times (n + m) test f (f s) ≡ times m test f (times n test f (f s)) → (b : Bool) → test s ≡ b
           → (if b then times (n + m) test f (f s) else s) ≡ times m test f (if b then times n test f (f s) else s)
       go ih true e = ih
-      go ih false e = sym (stopped m e)
+      go ih false e = sym (times-off test f m s e)
 
 -- to prove P of an entry after a store, prove it of the value stored and of the entries that stay
 pub set-elim {κ} : (P : ℕ → Type κ) (l : List ℕ) (i j a d : ℕ) → i < length l → (j ≡ i → P a) → (j ≢ i → P (getD l j d)) → P (getD (set l i a) j d)

@@ -1,7 +1,7 @@
 -- Laws of `any`, `all`, `count` and `lead`, in the forms that a loop asks: no index, one index more, a stop, the end. Assumes nothing.
 use Prim.Native.Nat.{ℕ, zero, suc, _+_, _<_, _≤_}
-use mathlib.Core.Bool.{Bool, true, false, cond, _&&_, _||_, not, true≢false, or-true}
-use mathlib.Core.Path.{_≡_, refl, sym, ap, subst, _∙_}
+use mathlib.Core.Bool.{Bool, true, false, cond, _&&_, _||_, true≢false, or-true}
+use mathlib.Core.Path.{_≡_, refl, sym, ap, _∙_}
 use mathlib.Core.Logic.{⊎-elim}
 use native.Mathlib.Nat.{eq-or-lt-of-le, le-of-suc-le-suc, not-suc-le-zero}
 use native.Mathlib.Numerals.{add-one}
@@ -30,6 +30,17 @@ and-left false b e = e
 pub and-right : (a b : Bool) → a && b ≡ true → b ≡ true
 and-right true b e = e
 and-right false b e = absurd (true≢false (sym e))
+
+pub and-both : (a b : Bool) → a ≡ true → b ≡ true → a && b ≡ true
+and-both a b e h = rw e h
+
+-- a disjunction is an implication from the first part's failure
+pub or-then : (a b : Bool) → a || b ≡ true → a ≡ false → b ≡ true
+or-then a b h e = rw e at h
+
+pub or-if : (a b : Bool) → (a ≡ false → b ≡ true) → a || b ≡ true
+or-if true b h = refl
+or-if false b h = h refl
 
 -- ANY
 pub any-none : (p : ℕ → Bool) → any p 0 ≡ false
@@ -141,6 +152,27 @@ count-out-all p (suc n) h = rw (count-out-all p n (λ i l. h i (omega arith)), h
 pub count-hit : (p : ℕ → Bool) (i n : ℕ) → i < n → p i ≡ true → 0 < count p n
 count-hit p i n l h = omega (arith, count-in p i h, count-mono p (i + 1) n (omega arith))
 
+-- where any is counted, an index passes
+pub count-some : (p : ℕ → Bool) (n : ℕ) → 0 < count p n → (i : ℕ) × (i < n) × (p i ≡ true)
+unfolding count
+count-some p zero l = absurd (not-suc-le-zero l)
+count-some p (suc n) l = at (p n) refl (count-some p n) l
+  where
+    at : (b : Bool) → p n ≡ b → (0 < count p n → (i : ℕ) × (i < n) × (p i ≡ true)) → 0 < count p n + cond b 1 0
+        → (i : ℕ) × (i < suc n) × (p i ≡ true)
+    at true e rest l = (n, omega arith, e)
+    at false e rest l = let q = rest (omega arith) in (q .0, omega arith, q .2)
+
+-- where one is counted, no two indices pass
+pub count-once : (p : ℕ → Bool) (n : ℕ) → count p n ≡ 1 → (i j : ℕ) → i < n → j < n → p i ≡ true → p j ≡ true → i ≡ j
+count-once p n one i j li lj hi hj =
+    let up : ¬ (i < j) = apart i j lj hi hj in
+    let down : ¬ (j < i) = apart j i li hj hi in
+    omega arith
+  where
+    apart : (i j : ℕ) → j < n → p i ≡ true → p j ≡ true → i < j → ⊥
+    apart i j lj hi hj l = omega (arith, count-hit p i j l hi, count-in p j hj, count-mono p (j + 1) n (omega arith))
+
 -- LEAD
 pub lead-none : (p : ℕ → Bool) → lead p 0 ≡ 0
 unfolding lead
@@ -191,5 +223,27 @@ lead-le p zero = omega arith
 lead-le p (suc n) = at (p 0) (lead-le (λ k. p (suc k)) n)
   where
     at : (b : Bool) → lead (λ k. p (suc k)) n ≤ n → cond b (suc (lead (λ k. p (suc k)) n)) 0 ≤ suc n
+    at true l = omega arith
+    at false l = omega arith
+
+-- the index where it stops does not pass
+pub lead-false : (p : ℕ → Bool) (n : ℕ) → lead p n < n → p (lead p n) ≡ false
+unfolding lead
+lead-false p zero l = absurd (not-suc-le-zero l)
+lead-false p (suc n) l = at (p 0) refl (lead-false (λ k. p (suc k)) n) l
+  where
+    at : (b : Bool) → p 0 ≡ b → (lead (λ k. p (suc k)) n < n → p (suc (lead (λ k. p (suc k)) n)) ≡ false)
+        → cond b (suc (lead (λ k. p (suc k)) n)) 0 < suc n → p (cond b (suc (lead (λ k. p (suc k)) n)) 0) ≡ false
+    at true e rest l = rest (le-of-suc-le-suc l)
+    at false e rest l = e
+
+-- it stops no later than at an index that does not pass
+pub lead-before : (p : ℕ → Bool) (n i : ℕ) → i < n → p i ≡ false → lead p n ≤ i
+unfolding lead
+lead-before p zero i l h = absurd (not-suc-le-zero l)
+lead-before p (suc n) zero l h = rw h (omega arith)
+lead-before p (suc n) (suc i) l h = at (p 0) (lead-before (λ k. p (suc k)) n i (le-of-suc-le-suc l) h)
+  where
+    at : (b : Bool) → lead (λ k. p (suc k)) n ≤ i → cond b (suc (lead (λ k. p (suc k)) n)) 0 ≤ suc i
     at true l = omega arith
     at false l = omega arith

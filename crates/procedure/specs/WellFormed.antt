@@ -28,7 +28,7 @@ pub record GraphOk (most : ℕ) (g : Graph) : Type 0 where
   pub short : (a : ℕ) → a < arcs g → len g a ≤ mostLength
   pub few-out : (v : ℕ) → outDegree g v ≤ most
 
--- a division of m arcs: each arc has exactly one leaf, and each inner region but 0 a child
+-- a division of m arcs: a nesting in which each arc has exactly one leaf
 pub record DivisionOk (m : ℕ) (d : Division) : Type 0 where
   pub few-regions : regions d ≤ suc mostRegionWords
   pub arcs-all : length (d .leafArcs) ≡ regions d

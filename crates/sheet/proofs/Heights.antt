@@ -47,6 +47,16 @@ height-ext leaf leaf′ parent parent′ n el ep (suc depth) r l =
     (λ c. cond (eqb (parent′ c) r) (heightIn leaf′ parent′ n depth c) 0) n
     (λ c lc. rw (ep c lc) (ap (λ (x : ℕ). cond (eqb (parent′ c) r) x 0) (height-ext leaf leaf′ parent parent′ n el ep depth c lc)))))
 
+-- leaves and parents that agree nest the same
+pub nesting-ext : (leaf leaf′ : ℕ → Bool) (parent parent′ : ℕ → ℕ) (n : ℕ) → ((r : ℕ) → r < n → leaf r ≡ leaf′ r)
+    → ((r : ℕ) → r < n → parent r ≡ parent′ r) → Nesting leaf′ parent′ n → Nesting leaf parent n
+nesting-ext leaf leaf′ parent parent′ n el ep nests = record {
+  root = nests .root;
+  alone = omega (arith, nests .alone, ep 0 (nests .root));
+  lower = λ r pos l. omega (arith, nests .lower r pos l, ep r l);
+  inner = λ r pos l. rw (ep r l) (el (parent′ r) (omega (arith, nests .lower r pos l)) ∙ nests .inner r pos l);
+}
+
 module _ (leaf : ℕ → Bool) (parent : ℕ → ℕ) (n : ℕ) (nests : Nesting leaf parent n) where
   -- a child has a higher number than its parent
   pub child-after : (r c : ℕ) → r < n → c < n → eqb (parent c) r ≡ true → r < c
