@@ -45,7 +45,8 @@ fn wrong_parent(d: &[u8], k: usize) -> bool
     ensures { λ r. ⌜ r ≡ wrongParent (now (d .entry)) k ⌝ }
 {
     let p = sheet::parent_word(d, k) as usize;
-    if k < p {
+    let r = k + 1;
+    if r <= p {
         return true;
     }
     sheet::is_leaf(d, Region(p as u16))

@@ -1,6 +1,6 @@
 -- `above` meets its contract: by the two cases. Assumes nothing.
 use borrow.Author.Needs.{needs}
-use native.Mathlib.Numerals.{add-one}
+use native.Mathlib.Omega.{arith}
 use Rattle.division.proofs.above.Statement.{statement}
 use Rattle.division.proofs.above.Tie as tie
 
@@ -11,7 +11,7 @@ add-result : tie.Need-add-result
 add-result c = search needs
 
 returns-2 : tie.Need-returns-2
-returns-2 c = rw (c .if1 .left, add-one)
+returns-2 c = rw (c .if1 .left) (omega arith)
 
 pub above-spec : {M : Type 1} → statement M
 above-spec = tie.close (tie.spec returns add-result returns-2)
