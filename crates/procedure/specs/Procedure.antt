@@ -11,6 +11,10 @@ use Rattle.procedure.specs.Division.{Division, regions, arcOf, isLeaf, h
 use Rattle.procedure.specs.State.{Queues, State, label}
 use Rattle.procedure.specs.Queues.{minItem, minKey, updateOutgoing}
 
+-- more rounds than any run has: 2^56
+abbrev pub enoughRounds : ℕ
+enoughRounds = 72057594037927936
+
 module _ (g : Graph) (d : Division) where
   -- "if label v is above label u plus the length, label v becomes that sum, the arc becomes v's feeding arc, and v's outgoing arcs, in arc order, are updated with label v"
   unfoldable pub relax : ℕ → State → State
@@ -117,6 +121,6 @@ module _ (g : Graph) (d : Division) where
     unfoldable pub after : ℕ → State
     after k = times k (λ s. not (ended s)) round start
 
-    -- The run to its end: no run has 2^56 rounds.
+    -- The run to its end.
     unfoldable pub final : State
-    final = after 72057594037927936
+    final = after enoughRounds

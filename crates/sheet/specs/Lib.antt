@@ -5,3 +5,4 @@ pub mod Arcs
 pub mod Heights
 pub mod Regions
 pub mod Answer
+pub mod Samples
