@@ -125,6 +125,18 @@ def chain(height, arcs=1):
     return [inner(parent) for parent in range(height - 1)] + [leaf(height - 1, a) for a in range(arcs)]
 
 
+def side_by_side(depths):
+    """For each arc a chain of its own in region 0, its leaf as deep as listed."""
+    regions = []
+    for a, depth in enumerate(depths):
+        parent = 0
+        for _ in range(depth - 1):
+            regions.append(inner(parent))
+            parent = len(regions)
+        regions.append(leaf(parent, a))
+    return regions
+
+
 def two_each_way(nodes):
     """Two arcs from each node and two to each, with lengths that differ."""
     return [(v, (v + step) % nodes, 127 * v + step) for v in range(nodes) for step in (1, 5)]
@@ -188,14 +200,9 @@ def heights():
         yield sheet_of(1, 0, [3] * count), answer
         yield sheet_of(1024, 1023, [3] * count), answer
     arcs = [(0, 1), (1, 2), (2, 3)]
-    for first, second, third in ((4, 1, 1), (1, 4, 1), (1, 1, 4), (3, 3, 2)):
-        regions = []
-        for a, height in enumerate((first, second, third)):
-            start = len(regions)
-            regions += [inner(start + step if step else 0) for step in range(height - 1)] + [leaf(start + height - 1 if height > 1 else 0, a)]
-        tallest = max(first, second, third)
-        for count in range(tallest - 1, tallest + 2):
-            yield sheet_of(4, 0, [1] * count, arcs, regions), 0 if count == tallest else 14
+    for listed in ((4, 1, 1), (1, 4, 1), (1, 1, 4), (3, 3, 2)):
+        for count in range(max(listed) - 1, max(listed) + 2):
+            yield sheet_of(4, 0, [1] * count, arcs, side_by_side(listed)), 0 if count == max(listed) else 14
 
 
 def arc_ends():
@@ -211,11 +218,11 @@ def arc_ends():
 def degrees():
     for v in (0, 3, 1023):
         w, x = (v + 1) % 1024, (v + 2) % 1024
-        once, both, out, into = (v, v), [(v, w), (w, v)], [(v, w), (v, x)], [(w, v), (x, v)]
+        own, both, out, into = (v, v), [(v, w), (w, v)], [(v, w), (v, x)], [(w, v), (x, v)]
         for arcs, answer in (
-            (out, 0), (into, 0), (out + into, 0), ([once], 0), ([once, once], 0), ([once] + both, 0), ([(v, w)] * 2, 0),
-            (out + [(v, (v + 3) % 1024)], 10), (into + [((v + 3) % 1024, v)], 10), ([once] + out, 10), ([once] + into, 10),
-            ([once, once, (v, w)], 10), ([once, once, (w, v)], 10), ([once] * 3, 10), ([(v, w)] * 3, 10), (out + [once], 10), (into + [once], 10),
+            (out, 0), (into, 0), (out + into, 0), ([own], 0), ([own, own], 0), ([own] + both, 0), ([(v, w)] * 2, 0),
+            (out + [(v, (v + 3) % 1024)], 10), (into + [((v + 3) % 1024, v)], 10), ([own] + out, 10), ([own] + into, 10),
+            ([own, own, (v, w)], 10), ([own, own, (w, v)], 10), ([own] * 3, 10), ([(v, w)] * 3, 10), (out + [own], 10), (into + [own], 10),
         ):
             yield sheet_of(1024, 0, [1], arcs, flat(len(arcs))), answer
     for count in (256, 257, 258):
@@ -298,7 +305,7 @@ def order():
 
 
 def cuts():
-    """Hall A cut after each byte, and bytes of every value where no word is whole."""
+    """Hall A cut after each byte, and 1 to 7 bytes of the highest values."""
     sheet = packed(HALL_A)
     for size in range(len(sheet)):
         yield sheet[:size], 1 if size % 4 else 2 if size < 8 else None
@@ -393,7 +400,7 @@ def pairs():
             yield from ((sheet, low) for sheet in both)
 
 
-# Sheets of full size, 1,024 nodes and 2,048 arcs with few exceptions.
+# Sheets at the limits of size, and divisions of them.
 
 def halving():
     """Two children for each inner region: 2,046 inner regions, then 2,048 leaves, height 11."""
