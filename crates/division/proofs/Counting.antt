@@ -41,7 +41,8 @@ at-arc : (d : List ℕ) (k i : ℕ) (b : Bool) → cond b (At (arcWord d k)) Not
 at-arc d k i true e = let same : arcWord d k ≡ i = cc in omega (arith, arc-below d k)
 at-arc d k i false e = let z : _≡_ {A = ℕ} 0 1 = cc in absurd (omega arith)
 
-pub counted-below : (of : Counted) (d : List ℕ) (k i : ℕ) → wrongParents d ≡ false → words d ≤ mostRegionWords → k < words d → countedFor of d k ≡ At i → i < 4096
+pub counted-below : (of : Counted) (d : List ℕ) (k i : ℕ) → wrongParents d ≡ false → words d ≤ mostRegionWords → k < words d → countedFor of d k ≡ At i
+    → i < 4096
 counted-below Leaves d k i ok few l e = at-arc d k i (leafWord d k) e
 counted-below Children d k i ok few l e = let same : parentWord d k ≡ i = cc in omega (arith, parent-le d ok k l)
 
@@ -60,14 +61,16 @@ module _ (d counters : List ℕ) (room : length counters ≡ 4096) where
   pub once : Tally (hits Leaves d) mostRegionWords counters (words d) → (a : ℕ) → a < 4096 → getD counters a 0 ≡ 1 → notOneLeaf d a ≡ false
   once t a l e = rw (eq-eqb (count (leafOfArc d a) (words d)) 1 (sym (leaves-counted t a l) ∙ e))
 
-  children-counted : Tally (hits Children d) mostRegionWords counters (words d) → (k : ℕ) → k + 1 < 4096 → getD counters (k + 1) 0 ≡ count (childOf d (suc k)) (words d)
+  children-counted : Tally (hits Children d) mostRegionWords counters (words d) → (k : ℕ) → k + 1 < 4096 → getD counters (k + 1) 0 ≡ count (childOf d (suc k))
+      (words d)
   children-counted t k l = t .counts (k + 1) (omega arith) ∙ ap (λ (r : ℕ). count (childOf d r) (words d)) (add-one k)
 
   pub is-childless : Tally (hits Children d) mostRegionWords counters (words d) → (k : ℕ) → k + 1 < 4096 → leafWord d k ≡ false → getD counters (k + 1) 0 ≡ 0
       → childless d k ≡ true
   is-childless t k l leaf e = rw (leaf, eq-eqb (count (childOf d (suc k)) (words d)) 0 (sym (children-counted t k l) ∙ e))
 
-  pub has-child : Tally (hits Children d) mostRegionWords counters (words d) → (k : ℕ) → k + 1 < 4096 → (getD counters (k + 1) 0 ≡ 0 → ⊥) → childless d k ≡ false
+  pub has-child : Tally (hits Children d) mostRegionWords counters (words d) → (k : ℕ) → k + 1 < 4096 → (getD counters (k + 1) 0 ≡ 0 → ⊥) → childless d k
+      ≡ false
   has-child t k l ne = rw (ne-eqb (count (childOf d (suc k)) (words d)) 0 (λ e. ne (children-counted t k l ∙ e))) (and-false (not (leafWord d k)))
 
 pub leaf-not-childless : (d : List ℕ) (k : ℕ) → leafWord d k ≡ true → childless d k ≡ false

@@ -29,7 +29,11 @@ module _ (p : ℕ → ℕ → Bool) (top : ℕ) (seen : List ℕ) (i : ℕ) (now
   -- index i hits t and nothing else
   pub tally-in : (t : ℕ) → t < length seen → p t i ≡ true → ((v : ℕ) → (v ≡ t → ⊥) → p v i ≡ false) → getD seen t 0 < top
       → Tally p top (set seen t (getD seen t 0 + 1)) (i + 1)
-  tally-in t tl hit miss room = record { counts = λ v l. counts v (simp length-set at l) (ℕ-discrete v t); below = λ v l. below v (simp length-set at l) (ℕ-discrete v t) }
+  tally-in t tl hit miss room = record {
+    counts = λ v l. counts v (simp length-set at l) (ℕ-discrete v t);
+    below = λ v l. below v (simp length-set at l)
+        (ℕ-discrete v t);
+  }
     where
       counts : (v : ℕ) → v < length seen → Dec (v ≡ t) → getD (set seen t (getD seen t 0 + 1)) v 0 ≡ count (p v) (i + 1)
       counts v l (yes e) = rw (e, getD-set-same seen t (getD seen t 0 + 1) 0 tl, count-in (p t) i hit) (ap (λ (n : ℕ). n + 1) (now .counts t tl))

@@ -27,7 +27,8 @@ module _ (heads : Bool) (b : List ℕ) where
       at false e = leb-false _ _ (or-left (leb (nodeCount b) (tail b a)) (leb (nodeCount b) (head b a)) e)
 
   -- one arc more than a node may have
-  pub one-too-many : (seen : List ℕ) (a : ℕ) → endsOutside b ≡ false → a < arcCount b → endOf heads b a < length seen → Tally (endsAt heads b) mostArcsEachWay seen a
+  pub one-too-many : (seen : List ℕ) (a : ℕ) → endsOutside b ≡ false → a < arcCount b → endOf heads b a < length seen → Tally (endsAt heads b)
+      mostArcsEachWay seen a
       → mostArcsEachWay ≤ getD seen (endOf heads b a) 0 → crowdedNodes heads b ≡ true
   unfolding crowdedNodes
   one-too-many seen a ok l inside t full =
@@ -38,10 +39,12 @@ module _ (heads : Bool) (b : List ℕ) where
       (omega (arith, t .counts v inside, count-mono (endsAt heads b v) (a + 1) (arcCount b) (omega arith))))
 
   -- one arc more at node v, which has room for it
-  pub one-more : (seen : List ℕ) (a v : ℕ) → v ≡ endOf heads b a → v < length seen → getD seen v 0 < mostArcsEachWay → Tally (endsAt heads b) mostArcsEachWay seen a
+  pub one-more : (seen : List ℕ) (a v : ℕ) → v ≡ endOf heads b a → v < length seen → getD seen v 0 < mostArcsEachWay → Tally (endsAt heads b)
+      mostArcsEachWay seen a
       → Tally (endsAt heads b) mostArcsEachWay (set seen v (getD seen v 0 + 1)) (a + 1)
   one-more seen a v e inside room t =
-      tally-in (endsAt heads b) mostArcsEachWay seen a t v inside (eq-eqb (endOf heads b a) v (sym e)) (λ w ne. ne-eqb (endOf heads b a) w (λ h. ne (sym h ∙ sym e))) room
+      tally-in (endsAt heads b) mostArcsEachWay seen a t v inside (eq-eqb (endOf heads b a) v (sym e))
+      (λ w ne. ne-eqb (endOf heads b a) w (λ h. ne (sym h ∙ sym e))) room
 
   -- no node has one too many
   pub none-too-many : (seen : List ℕ) → nodeCount b ≤ length seen → Tally (endsAt heads b) mostArcsEachWay seen (arcCount b) → crowdedNodes heads b ≡ false

@@ -37,12 +37,23 @@ region-ends before e = ⊎-elim (λ (h : before ≡ 6). rw h) (λ (h : before �
 -- a kind that is 6 or 7
 pub region-before : (before : ℕ) → 4 ≤ before → before < 8 → (before ≡ 4 → ⊥) → (before ≡ 5 → ⊥) → regionKind before ≡ true
 unfolding regionKind
-region-before before low high four five = ⊎-elim (λ (h : before ≡ 6). rw h) (λ (h : before ≢ 6). let seven : before ≡ 7 = omega arith in rw seven) (eq-or-ne before 6)
+region-before before low high four five = ⊎-elim (λ (h : before ≡ 6). rw h) (λ (h : before ≢ 6). let seven : before ≡ 7 = omega arith in rw seven)
+    (eq-or-ne before 6)
 
 -- a kind that no sheet has
 pub none-follows : (before k : ℕ) → 8 ≤ before → mayFollow before k ≡ false
 unfolding mayFollow
-none-follows before k l = rw (other 0 (omega arith), other 1 (omega arith), other 2 (omega arith), other 3 (omega arith), other 4 (omega arith), other 5 (omega arith), other 6 (omega arith), other 7 (omega arith))
+none-follows before k l = rw (
+  other 0 (omega arith),
+  other 1 (omega arith),
+  other 2 (omega arith),
+  other 3 (omega arith),
+  other 4 (omega arith),
+  other 5
+      (omega arith),
+  other 6 (omega arith),
+  other 7 (omega arith),
+)
   where
     other : (n : ℕ) → n < 8 → eqb before n ≡ false
     other n small = ne-eqb before n (λ e. omega arith)
@@ -296,7 +307,8 @@ module _ (b : List ℕ) where
       lead-ext (arcAt (λ i. kind b (arcsAt b + i))) (isArc b (arcsAt b)) ((words b - arcsAt b) / 2)
       (λ a l. ap (λ (j : ℕ). eqb (kind b (arcsAt b + 2 * a)) 4 && eqb (kind b j) 5) (omega arith))
 
-  region-part : 2 ≤ words b → arcsThenRegions (λ i. kind b (arcsAt b + i)) (words b - arcsAt b) ≡ not (any (noRegionWord (regionWords b)) (words (regionWords b)))
+  region-part : 2 ≤ words b → arcsThenRegions (λ i. kind b (arcsAt b + i)) (words b - arcsAt b) ≡ not
+      (any (noRegionWord (regionWords b)) (words (regionWords b)))
   unfolding arcsThenRegions regionKind
   region-part two =
       let size : words b - arcsAt b - 2 * arcCount b ≡ words (regionWords b) = omega (arith, region-words b two) in

@@ -46,7 +46,8 @@ step-end b c e = go (ltb (c .at) (words b)) refl e
 follow-ext : (before : ℕ) (kinds kinds′ : ℕ → ℕ) (n : ℕ) → ((i : ℕ) → kinds i ≡ kinds′ i) → followOn before kinds n ≡ followOn before kinds′ n
 unfolding followOn
 follow-ext before kinds kinds′ zero h = refl
-follow-ext before kinds kinds′ (suc n) h = rw (h 0) (ap (λ (r : Bool). mayFollow before (kinds′ 0) && r) (follow-ext (kinds′ 0) (λ i. kinds (suc i)) (λ i. kinds′ (suc i)) n (λ i. h (suc i))))
+follow-ext before kinds kinds′ (suc n) h = rw (h 0) (ap (λ (r : Bool). mayFollow before (kinds′ 0) && r)
+    (follow-ext (kinds′ 0) (λ i. kinds (suc i)) (λ i. kinds′ (suc i)) n (λ i. h (suc i))))
 
 unrolled : (before : ℕ) (kinds : ℕ → ℕ) (n : ℕ) → followOn before kinds (suc n) ≡ mayFollow before (kinds 0) && followOn (kinds 0) (λ i. kinds (suc i)) n
 unfolding followOn
@@ -76,7 +77,8 @@ step-rest b before at l = go (words b - (at + 1)) refl
     here = omega arith
 
     go : (m : ℕ) → words b - (at + 1) ≡ m
-        → followOn before (λ i. kind b (at + i)) (words b - at) ≡ mayFollow before (kind b at) && followOn (kind b at) (λ i. kind b (at + 1 + i)) (words b - (at + 1))
+        → followOn before (λ i. kind b (at + i)) (words b - at) ≡ mayFollow before (kind b at) && followOn (kind b at) (λ i. kind b (at + 1 + i))
+        (words b - (at + 1))
     go m e =
         let more : words b - at ≡ suc m = omega arith in
         rw (e, more, unrolled before (λ i. kind b (at + i)) m, here)

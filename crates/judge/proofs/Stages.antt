@@ -27,7 +27,8 @@ pub front-there : (b : List ℕ) → outOfOrder b ≡ false → 2 ≤ words b
 unfolding outOfOrder
 front-there b e =
     ltb-false (words b) 2
-    (or-left (ltb (words b) 2) (not (eqb (kind b 0) 1)) (or-left (ltb (words b) 2 || not (eqb (kind b 0) 1)) (not (eqb (kind b 1) 2)) (or-left (wrongFront b) _ e)))
+    (or-left (ltb (words b) 2) (not (eqb (kind b 0) 1)) (or-left (ltb (words b) 2 || not (eqb (kind b 0) 1)) (not (eqb (kind b 1) 2))
+    (or-left (wrongFront b) _ e)))
 
 pub form-front : (b : List ℕ) → lowest (formRefusals b) accepted ≡ accepted → 2 ≤ words b
 unfolding formRefusals
@@ -55,12 +56,14 @@ module _ (b : List ℕ) (ok : lowest (countRefusals b) accepted ≡ accepted) wh
 
 -- the stages make the judgement, one after the other
 staged : (b : List ℕ) → judgement b
-    ≡ lowest (formRefusals b) (lowest (countRefusals b) (lowest (arcRefusals b) (lowest (divisionRefusals (regionWords b) (arcCount b) (spanCount b)) accepted)))
+    ≡ lowest (formRefusals b)
+    (lowest (countRefusals b) (lowest (arcRefusals b) (lowest (divisionRefusals (regionWords b) (arcCount b) (spanCount b)) accepted)))
 unfolding judgement refusals
 staged b =
     let d = divisionRefusals (regionWords b) (arcCount b) (spanCount b) in
     lowest-append (formRefusals b) (countRefusals b ++ (arcRefusals b ++ d)) accepted
-    ∙ ap (lowest (formRefusals b)) (lowest-append (countRefusals b) (arcRefusals b ++ d) accepted ∙ ap (lowest (countRefusals b)) (lowest-append (arcRefusals b) d accepted))
+    ∙ ap (lowest (formRefusals b)) (lowest-append (countRefusals b) (arcRefusals b ++ d) accepted ∙ ap (lowest (countRefusals b))
+    (lowest-append (arcRefusals b) d accepted))
 
 -- a number other than 0 is a refusal
 pub a-refusal : (n : ℕ) → (n ≡ 0 → ⊥) → numbered n ≡ refused (input n)

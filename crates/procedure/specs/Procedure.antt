@@ -16,7 +16,8 @@ abbrev pub enoughRounds : ℕ
 enoughRounds = 72057594037927936
 
 module _ (g : Graph) (d : Division) where
-  -- "if label v is above label u plus the length, label v becomes that sum, the arc becomes v's feeding arc, and v's outgoing arcs, in arc order, are updated with label v"
+  -- "if label v is above label u plus the length, label v becomes that sum, the arc becomes v's feeding arc, and v's outgoing arcs, in arc
+  -- order, are updated with label v"
   unfoldable pub relax : ℕ → State → State
   relax a s =
       let v = head g a in

@@ -77,7 +77,8 @@ module _ (b : List ℕ) (ok : Accepted b) where
 
   pub few-spans : spanCount b ≤ mostSpans
   unfolding tooMany
-  few-spans = ltb-false mostSpans (spanCount b) (or-left (ltb mostSpans (spanCount b)) _ (or-left (ltb mostSpans (spanCount b) || ltb mostArcs (arcCount b)) _ not-too-many))
+  few-spans = ltb-false mostSpans (spanCount b) (or-left (ltb mostSpans (spanCount b)) _
+      (or-left (ltb mostSpans (spanCount b) || ltb mostArcs (arcCount b)) _ not-too-many))
 
   pub few-arcs : arcCount b ≤ mostArcs
   unfolding tooMany
@@ -118,8 +119,13 @@ module _ (b : List ℕ) (ok : Accepted b) where
   unfolding crowdedNodes
   few-ends heads v =
       ⊎-elim
-      (λ (l : v < nodeCount b). ltb-false mostArcsEachWay (count (endsAt heads b v) (arcCount b)) (any-at (crowded heads b) (nodeCount b) v (not-crowded heads) l))
-      (λ (l : nodeCount b ≤ v). omega (arith, count-out-all (endsAt heads b v) (arcCount b) (λ a la. ne-eqb (endOf heads b a) v (λ e. omega (arith, end-in heads a la)))))
+      (λ (l : v < nodeCount b). ltb-false mostArcsEachWay (count (endsAt heads b v) (arcCount b))
+      (any-at (crowded heads b) (nodeCount b) v (not-crowded heads) l))
+      (λ (l : nodeCount b ≤ v). omega (
+        arith,
+        count-out-all (endsAt heads b v) (arcCount b)
+            (λ a la. ne-eqb (endOf heads b a) v (λ e. omega (arith, end-in heads a la))),
+      ))
       (lt-or-le v (nodeCount b))
 
   -- parents fall and are inner
@@ -139,7 +145,8 @@ module _ (b : List ℕ) (ok : Accepted b) where
   unfolding wrongLeaves
   leaf-arc k l leaf =
       let d = regionWords b in
-      let here : leafWord d k && leb (arcCount b) (arcWord d k) ≡ false = any-at (noSuchArc d (arcCount b)) (words d) k (or-left (any (noSuchArc d (arcCount b)) (words d)) _ right-leaves) l in
+      let here : leafWord d k && leb (arcCount b) (arcWord d k) ≡ false = any-at (noSuchArc d (arcCount b)) (words d) k
+      (or-left (any (noSuchArc d (arcCount b)) (words d)) _ right-leaves) l in
       leb-false (arcCount b) (arcWord d k) (rw leaf at here)
 
   pub one-leaf : (a : ℕ) → a < arcCount b → count (leafOfArc (regionWords b) a) (words (regionWords b)) ≡ 1
@@ -147,14 +154,16 @@ module _ (b : List ℕ) (ok : Accepted b) where
   one-leaf a l =
       let d = regionWords b in
       eqb-true (count (leafOfArc d a) (words d)) 1
-      (not-false (eqb (count (leafOfArc d a) (words d)) 1) (any-at (notOneLeaf d) (arcCount b) a (or-right (any (noSuchArc d (arcCount b)) (words d)) _ right-leaves) l))
+      (not-false (eqb (count (leafOfArc d a) (words d)) 1) (any-at (notOneLeaf d) (arcCount b) a
+      (or-right (any (noSuchArc d (arcCount b)) (words d)) _ right-leaves) l))
 
   -- every inner region but 0 has a child
   pub has-child : (k : ℕ) → k < words (regionWords b) → leafWord (regionWords b) k ≡ false → 0 < count (childOf (regionWords b) (suc k)) (words (regionWords b))
   unfolding refusals formRefusals countRefusals arcRefusals divisionRefusals childlessRegions
   has-child k l inner =
       let d = regionWords b in
-      let here : not (leafWord d k) && eqb (count (childOf d (suc k)) (words d)) 0 ≡ false = any-at (childless d) (words d) k (clear-at (refusals b) clear 12) l in
+      let here : not (leafWord d k) && eqb (count (childOf d (suc k)) (words d)) 0 ≡ false = any-at (childless d) (words d) k (clear-at (refusals b) clear 12)
+      l in
       let some = eqb-false (count (childOf d (suc k)) (words d)) 0 (rw inner at here) in
       omega arith
 
@@ -167,4 +176,9 @@ module _ (b : List ℕ) (ok : Accepted b) where
   height-falls r pos l = child-lower _ _ _ nesting r pos l
 
   pub height-most : (r : ℕ) → r < regionCount (regionWords b) → height (regionWords b) r ≤ mostSpans
-  height-most r l = omega (arith, root-highest (isLeaf (regionWords b)) (parent (regionWords b)) (regionCount (regionWords b)) nesting r l, spans-height, few-spans)
+  height-most r l = omega (
+    arith,
+    root-highest (isLeaf (regionWords b)) (parent (regionWords b)) (regionCount (regionWords b)) nesting r l,
+    spans-height,
+    few-spans,
+  )

@@ -7,8 +7,9 @@ use native.Mathlib.Omega.{arith}
 use lib.ListN.{length, getD, take, drop, length-drop}
 use lib.Seq.{take-all, getD-drop}
 use Rattle.indices.proofs.Tests.{lead-le}
+use Rattle.sheet.specs.declared.Sections.{Sections}
 use Rattle.sheet.specs.Words.{words, word, kindOf, kind}
-use Rattle.sheet.specs.Sections.{isSpan, isArc, spansFrom, arcsFrom, spanCount, arcsAt, arcCount, regionsAt, regionWords}
+use Rattle.sheet.specs.Sections.{Located, isSpan, isArc, spansFrom, arcsFrom, spanCount, arcsAt, arcCount, regionsAt, regionWords}
 
 pub spans-le : (b : List ℕ) (i : ℕ) → spansFrom b i ≤ words b - i
 unfolding spansFrom
@@ -25,6 +26,10 @@ arc-inside b a two l = omega (arith, spans-le b 2, arcs-le b (arcsAt b))
 -- the last arc ends within the sheet
 pub regions-inside : (b : List ℕ) → 2 ≤ words b → regionsAt b ≤ words b
 regions-inside b two = omega (arith, spans-le b 2, arcs-le b (arcsAt b))
+
+-- the same of the sections that were found
+pub located-inside : (b : List ℕ) (at : Sections) → Located b at → 4 * (2 + at .spans + 2 * at .arcs) ≤ length b
+located-inside b at found = omega (arith, regions-inside b (found .front), found .spans-all, found .arcs-all)
 
 -- there are as many region words as words are left
 pub region-words : (b : List ℕ) → 2 ≤ words b → words (regionWords b) ≡ words b - regionsAt b

@@ -33,18 +33,21 @@ module _ (leaf : ℕ → Bool) (parent : ℕ → ℕ) (n : ℕ) where
 
   pub highest-le : (i q : ℕ) → highestFrom leaf parent n i q ≤ n
   unfolding highestFrom heightOf
-  highest-le i q = most-le (candidate leaf parent n i q) n n (λ c l. at (leb i c && eqb (parent c) q) (heightIn leaf parent n n c) (height-le leaf parent n n c))
+  highest-le i q = most-le (candidate leaf parent n i q) n n (λ c l. at (leb i c && eqb (parent c) q) (heightIn leaf parent n n c)
+      (height-le leaf parent n n c))
     where
       at : (b : Bool) (x : ℕ) → x ≤ n → cond b x 0 ≤ n
       at true x l = l
       at false x l = omega arith
 
   -- one region more, from the back
-  highest-more : (c q : ℕ) → c < n → highestFrom leaf parent n c q ≡ max (highestFrom leaf parent n (suc c) q) (cond (eqb (parent c) q) (heightOf leaf parent n c) 0)
+  highest-more : (c q : ℕ) → c < n → highestFrom leaf parent n c q ≡ max (highestFrom leaf parent n (suc c) q)
+      (cond (eqb (parent c) q) (heightOf leaf parent n c) 0)
   unfolding highestFrom
   highest-more c q l =
       most-one (candidate leaf parent n (suc c) q) (candidate leaf parent n c q) c n l (λ j m ne. same j ne) (rw (lt-leb (suc c) c (omega arith)))
-      ∙ ap (λ (b : Bool). max (most (candidate leaf parent n (suc c) q) n) (cond (b && eqb (parent c) q) (heightOf leaf parent n c) 0)) (le-leb c c (omega arith))
+      ∙ ap (λ (b : Bool). max (most (candidate leaf parent n (suc c) q) n) (cond (b && eqb (parent c) q) (heightOf leaf parent n c) 0))
+      (le-leb c c (omega arith))
     where
       moved : (j : ℕ) → (j ≡ c → ⊥) → Dec (c < j) → leb (suc c) j ≡ leb c j
       moved j ne (yes b) = le-leb (suc c) j b ∙ sym (le-leb c j (omega arith))

@@ -27,7 +27,8 @@ module _ {most : ℕ} {g : Graph} {d : Division} {spans : List ℕ} (ok : WellFo
   final-shortest few = settled-shortest (ok .graph) (final-settled ok few)
 
   -- after any number of rounds every count is below 2^56
-  pub counts-fit : most ≤ 4 → (k : ℕ) → let s = after g d spans k in (s .rounds < 2 ^ 56) × (s .leaves < 2 ^ 56) × (s .inner < 2 ^ 56) × (s .queues .updates < 2 ^ 56)
+  pub counts-fit : most ≤ 4 → (k : ℕ) → let s = after g d spans k in (s .rounds < 2 ^ 56) × (s .leaves < 2 ^ 56) × (s .inner < 2 ^ 56)
+      × (s .queues .updates < 2 ^ 56)
   counts-fit few k = let c = after-small ok few k in (omega (arith, c .rounds), omega (arith, c .leaves), omega (arith, c .inner), omega (arith, c .updates))
 
 -- One graph under any two divisions and any spans has the same distances in ended states, and the same nodes unreached.

@@ -44,7 +44,8 @@ returns c =
     let earlier = c .before .before .before .before in
     let loop = earlier .loop in
     let count-all = earlier .before .before .count-all in
-    sym (any-hit _ (loop .k) _ (omega arith) (is-childless _ _ (count-all .ensures .0) (count-all .ensures .1) (loop .k) (omega arith) (sym (c .before .before .leaf-word .ensures) ∙ not-true _ (c .before .if1 .taken)) (c .if2 .taken)))
+    sym (any-hit _ (loop .k) _ (omega arith) (is-childless _ _ (count-all .ensures .0) (count-all .ensures .1) (loop .k) (omega arith)
+    (sym (c .before .before .leaf-word .ensures) ∙ not-true _ (c .before .if1 .taken)) (c .if2 .taken)))
 
 add-k : tie.Need-add-k Inv-loop μ-loop
 add-k c = omega arith

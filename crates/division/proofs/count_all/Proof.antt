@@ -33,59 +33,36 @@ counted-for-requires c κs =
 enum-known-i : tie.Need-enum-known-i Inv-loop μ-loop
 enum-known-i c = search needs
 
-cast-at : tie.Need-cast-at Inv-loop μ-loop
-cast-at c =
+-- what a word counts for is a counter's number
+found-below : (c : tie.After-known-told Inv-loop μ-loop) → c .before .i .given .0 .0 < 4096
+found-below c =
     let earlier = c .before .before .before .before in
-    let args = earlier .before .before .before .args in
     let loop = earlier .before .loop in
-    let pre = earlier .before .before .before .pre in
-    let counted-for = c .before .before .before .counted-for in
-    omega (arith, counted-below (args .of) (args .d .now) (loop .k) (c .before .i .given .0 .0) (pre .1) (pre .0) (omega arith) (sym (counted-for .ensures) ∙ c .before .i .given .1))
+    let counted = c .before .before .before .counted-for in
+    let start = earlier .before .before .before in
+    counted-below (start .args .of) (start .args .d .now) (loop .k) (c .before .i .given .0 .0) (start .pre .1) (start .pre .0) (omega arith)
+    (sym (counted .ensures) ∙ c .before .i .given .1)
+
+cast-at : tie.Need-cast-at Inv-loop μ-loop
+cast-at c = omega (arith, found-below c)
 
 mul-x : tie.Need-mul-x Inv-loop μ-loop
-mul-x c =
-    let earlier = c .before .before .before .before in
-    let args = earlier .before .before .before .args in
-    let loop = earlier .before .loop in
-    let pre = earlier .before .before .before .pre in
-    let counted-for = c .before .before .before .counted-for in
-    omega (arith, counted-below (args .of) (args .d .now) (loop .k) (c .before .i .given .0 .0) (pre .1) (pre .0) (omega arith) (sym (counted-for .ensures) ∙ c .before .i .given .1))
+mul-x c = omega (arith, found-below c)
 
 array-read-x : tie.Need-array-read-x Inv-loop μ-loop
-array-read-x c =
-    let earlier = c .before .before .before .before in
-    let args = earlier .before .before .before .args in
-    let loop = earlier .before .loop in
-    let pre = earlier .before .before .before .pre in
-    let counted-for = c .before .before .before .counted-for in
-    counted-below (args .of) (args .d .now) (loop .k) (c .before .i .given .0 .0) (pre .1) (pre .0) (omega arith) (sym (counted-for .ensures) ∙ c .before .i .given .1)
+array-read-x c = found-below c
 
 add-seen : tie.Need-add-seen Inv-loop μ-loop
 add-seen c =
     let earlier = c .before .before .before .before in
-    let args = earlier .before .before .before .args in
     let loop = earlier .before .loop in
-    let pre = earlier .before .before .before .pre in
-    let counted-for = c .before .before .before .counted-for in
-    let at : c .before .i .given .0 .0 < 4096 = counted-below (args .of) (args .d .now) (loop .k) (c .before .i .given .0 .0) (pre .1) (pre .0) (omega arith) (sym (counted-for .ensures) ∙ c .before .i .given .1) in omega (arith, loop .inv .2 .below (c .before .i .given .0 .0) (omega arith))
+    let at = found-below c in omega (arith, loop .inv .2 .below (c .before .i .given .0 .0) (omega arith))
 
 mul-seen : tie.Need-mul-seen Inv-loop μ-loop
-mul-seen c =
-    let earlier = c .before .before .before .before in
-    let args = earlier .before .before .before .args in
-    let loop = earlier .before .loop in
-    let pre = earlier .before .before .before .pre in
-    let counted-for = c .before .before .before .counted-for in
-    omega (arith, counted-below (args .of) (args .d .now) (loop .k) (c .before .i .given .0 .0) (pre .1) (pre .0) (omega arith) (sym (counted-for .ensures) ∙ c .before .i .given .1))
+mul-seen c = omega (arith, found-below c)
 
 array-write-seen : tie.Need-array-write-seen Inv-loop μ-loop
-array-write-seen c =
-    let earlier = c .before .before .before .before in
-    let args = earlier .before .before .before .args in
-    let loop = earlier .before .loop in
-    let pre = earlier .before .before .before .pre in
-    let counted-for = c .before .before .before .counted-for in
-    counted-below (args .of) (args .d .now) (loop .k) (c .before .i .given .0 .0) (pre .1) (pre .0) (omega arith) (sym (counted-for .ensures) ∙ c .before .i .given .1)
+array-write-seen c = found-below c
 
 enum-told : tie.Need-enum-told Inv-loop μ-loop
 enum-told c = search needs
@@ -116,7 +93,12 @@ loop-again c =
       simp length-set (loop .inv .1),
       tally-in _ mostRegionWords (loop .seen) k t i (omega arith) (hits-it (args .of) d k i found) (hits-no-other (args .of) d k i found) room,
     ))
-    (λ w. rw (w .2) (omega arith, loop .inv .1, tally-out _ mostRegionWords (loop .seen) k t (hits-none (args .of) d k (sym (c .before .counted-for .ensures) ∙ w .1 .given .1))))
+    (λ w. rw (w .2) (
+      omega arith,
+      loop .inv .1,
+      tally-out _ mostRegionWords (loop .seen) k t
+          (hits-none (args .of) d k (sym (c .before .counted-for .ensures) ∙ w .1 .given .1)),
+    ))
     (c .match .came)
 
 returns : tie.Need-returns Inv-loop μ-loop

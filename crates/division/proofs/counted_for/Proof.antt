@@ -33,7 +33,12 @@ cast-t9 c =
 returns-2 : tie.Need-returns-2
 returns-2 c =
     let enum-told = c .before .before .before .enum-told in
-    rw (enum-told .given .1, ← c .before .before .leaf-word .ensures, not-false (c .before .before .leaf-word .result) (c .before .if1 .left), ← c .arc-word .ensures .0)
+    rw (
+      enum-told .given .1,
+      ← c .before .before .leaf-word .ensures,
+      not-false (c .before .before .leaf-word .result) (c .before .if1 .left),
+      ← c .arc-word .ensures .0,
+    )
 
 returns-3 : tie.Need-returns-3
 returns-3 c = rw (c .before .enum-told2 .given .1, ← c .parent-word .ensures)

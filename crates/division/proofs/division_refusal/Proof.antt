@@ -38,7 +38,12 @@ returns-3 c =
     let some-word-fails = earlier .before .some-word-fails in
     let if1 = earlier .if1 in
     let some-word-fails2 = c .before .before .before .some-word-fails2 in
-    rw (sym (some-word-fails .ensures) ∙ if1 .left, sym (some-word-fails2 .ensures) ∙ c .before .before .if2 .left, sym (c .before .some-arc-not-once .ensures) ∙ c .if3 .taken)
+    rw (
+      sym (some-word-fails .ensures) ∙ if1 .left,
+      sym (some-word-fails2 .ensures) ∙ c .before .before .if2 .left,
+      sym
+          (c .before .some-arc-not-once .ensures) ∙ c .if3 .taken,
+    )
 
 childless-regions-requires : tie.Need-childless-regions-requires
 unfolding wrongParents
@@ -58,7 +63,13 @@ returns-4 c =
     let some-word-fails2 = earlier .before .some-word-fails2 in
     let if2 = earlier .if2 in
     let some-arc-not-once = c .before .before .before .some-arc-not-once in
-    rw (sym (some-word-fails .ensures) ∙ if1 .left, sym (some-word-fails2 .ensures) ∙ if2 .left, sym (some-arc-not-once .ensures) ∙ c .before .before .if3 .left, sym (c .before .childless-regions .ensures) ∙ c .if4 .taken)
+    rw (
+      sym (some-word-fails .ensures) ∙ if1 .left,
+      sym (some-word-fails2 .ensures) ∙ if2 .left,
+      sym (some-arc-not-once .ensures)
+          ∙ c .before .before .if3 .left,
+      sym (c .before .childless-regions .ensures) ∙ c .if4 .taken,
+    )
 
 root-height-requires : tie.Need-root-height-requires
 unfolding wrongParents
@@ -85,7 +96,15 @@ returns-5 c =
     let some-arc-not-once = earlier .before .some-arc-not-once in
     let if3 = earlier .if3 in
     let childless-regions = c .before .before .before .childless-regions in
-    rw (sym (some-word-fails .ensures) ∙ if1 .left, sym (some-word-fails2 .ensures) ∙ if2 .left, sym (some-arc-not-once .ensures) ∙ if3 .left, sym (childless-regions .ensures) ∙ c .before .before .if4 .left, ← c .before .root-height .ensures, ne-eqb _ _ (c .if5 .taken))
+    rw (
+      sym (some-word-fails .ensures) ∙ if1 .left,
+      sym (some-word-fails2 .ensures) ∙ if2 .left,
+      sym (some-arc-not-once .ensures) ∙ if3 .left,
+      sym
+          (childless-regions .ensures) ∙ c .before .before .if4 .left,
+      ← c .before .root-height .ensures,
+      ne-eqb _ _ (c .if5 .taken),
+    )
 
 returns-6 : tie.Need-returns-6
 unfolding divisionRefusals wrongParents wrongLeaves spansDiffer
@@ -99,7 +118,15 @@ returns-6 c =
     let some-arc-not-once = earlier .before .some-arc-not-once in
     let if3 = earlier .if3 in
     let childless-regions = c .before .before .before .childless-regions in
-    rw (sym (some-word-fails .ensures) ∙ if1 .left, sym (some-word-fails2 .ensures) ∙ if2 .left, sym (some-arc-not-once .ensures) ∙ if3 .left, sym (childless-regions .ensures) ∙ c .before .before .if4 .left, ← c .before .root-height .ensures, eq-eqb _ _ (c .if5 .left))
+    rw (
+      sym (some-word-fails .ensures) ∙ if1 .left,
+      sym (some-word-fails2 .ensures) ∙ if2 .left,
+      sym (some-arc-not-once .ensures) ∙ if3 .left,
+      sym
+          (childless-regions .ensures) ∙ c .before .before .if4 .left,
+      ← c .before .root-height .ensures,
+      eq-eqb _ _ (c .if5 .left),
+    )
 
 pub division-refusal-spec : {M : Type 1} → statement M
 division-refusal-spec =

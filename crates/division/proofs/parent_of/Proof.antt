@@ -26,8 +26,11 @@ cast-t6 c =
 returns : tie.Need-returns
 returns c =
     let pre = c .before .before .before .pre in
-    let args = c .before .before .before .args in
-    (c .parent-word .ensures ∙ parent-of-word _ _ (pre .0), omega (arith, c .parent-word .ensures, parent-le (args .d .now) (pre .2) (args .r .0 - 1) (omega arith)))
+    let args = c .before .before .before .args in (
+      c .parent-word .ensures ∙ parent-of-word _ _ (pre .0),
+      omega
+          (arith, c .parent-word .ensures, parent-le (args .d .now) (pre .2) (args .r .0 - 1) (omega arith)),
+    )
 
 pub parent-of-spec : {M : Type 1} → statement M
 parent-of-spec = tie.close (tie.spec cast-i sub-parent-word parent-word-requires cast-t6 returns)

@@ -47,7 +47,12 @@ above-requires c κs =
     let earlier = c .before .before .before .before in
     let loop = earlier .loop in
     let args = earlier .before .before .args in
-    omega (arith, loop .inv .2 .entry (loop .r) (omega arith), highest-le (isLeaf (args .d .now)) (parent (args .d .now)) (regionCount (args .d .now)) (suc (loop .r)) (loop .r))
+    omega (
+      arith,
+      loop .inv .2 .entry (loop .r) (omega arith),
+      highest-le (isLeaf (args .d .now)) (parent (args .d .now)) (regionCount (args .d .now))
+          (suc (loop .r)) (loop .r),
+    )
 
 mul-larger : tie.Need-mul-larger Inv-loop μ-loop
 mul-larger c = omega arith
@@ -79,7 +84,8 @@ loop-again c =
     let parent-of = earlier .parent-of in (
       omega arith,
       simp length-set (loop .inv .1),
-      highest-turn (isLeaf (args .d .now)) (parent (args .d .now)) (regionCount (args .d .now)) (nesting (args .d .now) (pre .1) (pre .0)) (loop .best) (loop .r) _ _ _ _ (omega arith) (omega arith) (omega arith) (omega arith)
+      highest-turn (isLeaf (args .d .now)) (parent (args .d .now)) (regionCount (args .d .now)) (nesting (args .d .now) (pre .1) (pre .0)) (loop .best)
+          (loop .r) _ _ _ _ (omega arith) (omega arith) (omega arith) (omega arith)
           (parent-of .ensures .0) (c .before .before .is-leaf .ensures) (c .before .above .ensures) (c .larger .ensures) (loop .inv .2),
     )
 
@@ -89,14 +95,24 @@ array-read-result c = omega arith
 add-result : tie.Need-add-result Inv-loop μ-loop
 add-result c =
     let args = c .before .before .before .args in
-    omega (arith, c .before .loop .inv .2 .entry 0 (omega arith), highest-le (isLeaf (args .d .now)) (parent (args .d .now)) (regionCount (args .d .now)) (suc (c .before .loop .r)) 0)
+    omega (
+      arith,
+      c .before .loop .inv .2 .entry 0 (omega arith),
+      highest-le (isLeaf (args .d .now)) (parent (args .d .now)) (regionCount (args .d .now))
+          (suc (c .before .loop .r)) 0,
+    )
 
 returns : tie.Need-returns Inv-loop μ-loop
 returns c =
     let args = c .before .before .before .args in
     let pre = c .before .before .before .pre in
-    let entry : getD (c .before .loop .best) 0 0 ≡ highestFrom (isLeaf (args .d .now)) (parent (args .d .now)) (regionCount (args .d .now)) (suc (c .before .loop .r)) 0 = c .before .loop .inv .2 .entry 0 (omega arith) in
-    omega (arith, height-highest (isLeaf (args .d .now)) (parent (args .d .now)) (regionCount (args .d .now)) (nesting (args .d .now) (pre .1) (pre .0)) (suc (c .before .loop .r)) 0 (omega arith) (omega arith))
+    let entry : getD (c .before .loop .best) 0 0 ≡ highestFrom (isLeaf (args .d .now)) (parent (args .d .now)) (regionCount (args .d .now))
+    (suc (c .before .loop .r)) 0 = c .before .loop .inv .2 .entry 0 (omega arith) in
+    omega (
+      arith,
+      height-highest (isLeaf (args .d .now)) (parent (args .d .now)) (regionCount (args .d .now)) (nesting (args .d .now) (pre .1) (pre .0))
+          (suc (c .before .loop .r)) 0 (omega arith) (omega arith),
+    )
 
 pub root-height-spec : {M : Type 1} → statement M
 root-height-spec =

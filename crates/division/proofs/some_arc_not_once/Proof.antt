@@ -35,7 +35,8 @@ array-read-if1 c = omega arith
 returns : tie.Need-returns Inv-loop μ-loop
 returns c =
     let count-all = c .before .before .before .before .count-all in
-    sym (any-hit _ (c .before .before .loop .a) _ (omega arith) (not-once _ _ (count-all .ensures .0) (count-all .ensures .1) (c .before .before .loop .a) (omega arith) (λ e. omega (arith, c .if1 .taken))))
+    sym (any-hit _ (c .before .before .loop .a) _ (omega arith)
+    (not-once _ _ (count-all .ensures .0) (count-all .ensures .1) (c .before .before .loop .a) (omega arith) (λ e. omega (arith, c .if1 .taken))))
 
 add-a : tie.Need-add-a Inv-loop μ-loop
 add-a c = omega arith
@@ -45,8 +46,11 @@ loop-less c = omega arith
 
 loop-again : tie.Need-loop-again Inv-loop μ-loop
 loop-again c =
-    let count-all = c .before .before .before .before .count-all in
-    (omega arith, any-more _ _ (c .before .before .loop .inv .1) (once _ _ (count-all .ensures .0) (count-all .ensures .1) (c .before .before .loop .a) (omega arith) (omega (arith, c .if1 .left))))
+    let count-all = c .before .before .before .before .count-all in (
+      omega arith,
+      any-more _ _ (c .before .before .loop .inv .1)
+          (once _ _ (count-all .ensures .0) (count-all .ensures .1) (c .before .before .loop .a) (omega arith) (omega (arith, c .if1 .left))),
+    )
 
 returns-2 : tie.Need-returns-2 Inv-loop μ-loop
 returns-2 c = sym (any-end _ _ _ (omega arith) (c .before .loop .inv .1))

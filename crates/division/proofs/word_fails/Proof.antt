@@ -39,7 +39,12 @@ arc-word-requires c κs = search needs
 returns-3 : tie.Need-returns-3
 returns-3 c =
     let enum-told = c .before .before .before .enum-told in
-    rw (enum-told .given .1, ← c .before .before .leaf-word .ensures, not-false (c .before .before .leaf-word .result) (c .before .if1 .left), ← c .payload-at .ensures)
+    rw (
+      enum-told .given .1,
+      ← c .before .before .leaf-word .ensures,
+      not-false (c .before .before .leaf-word .result) (c .before .if1 .left),
+      ← c .payload-at .ensures,
+    )
 
 returns-4 : tie.Need-returns-4
 returns-4 c = rw (c .before .enum-told2 .given .1) (c .wrong-parent .ensures)

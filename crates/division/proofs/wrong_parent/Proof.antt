@@ -28,7 +28,8 @@ is-leaf-requires c κs = search needs
 returns-2 : tie.Need-returns-2
 returns-2 c =
     let args = c .before .before .before .before .args in
-    rw (← c .before .before .parent-word .ensures, le-ltb (args .k) (c .before .before .parent-word .result) (omega (arith, c .before .if1 .left))) (c .is-leaf .ensures)
+    rw (← c .before .before .parent-word .ensures, le-ltb (args .k) (c .before .before .parent-word .result) (omega (arith, c .before .if1 .left)))
+    (c .is-leaf .ensures)
 
 pub wrong-parent-spec : {M : Type 1} → statement M
 wrong-parent-spec =

@@ -39,7 +39,12 @@ returns-3 c =
     let some-arc-fails = earlier .before .some-arc-fails in
     let if1 = earlier .if1 in
     let some-arc-fails2 = c .before .before .before .some-arc-fails2 in
-    rw (sym (some-arc-fails .ensures) ∙ if1 .left, sym (some-arc-fails2 .ensures) ∙ c .before .before .if2 .left, sym (c .before .crowded-nodes .ensures) ∙ c .if3 .taken)
+    rw (
+      sym (some-arc-fails .ensures) ∙ if1 .left,
+      sym (some-arc-fails2 .ensures) ∙ c .before .before .if2 .left,
+      sym (c .before .crowded-nodes .ensures)
+          ∙ c .if3 .taken,
+    )
 
 crowded-nodes-requires-2 : tie.Need-crowded-nodes-requires-2
 unfolding endsOutside
@@ -59,7 +64,12 @@ returns-4 c =
     let some-arc-fails2 = earlier .before .some-arc-fails2 in
     let if2 = earlier .if2 in
     let crowded-nodes = c .before .before .before .crowded-nodes in
-    rw (sym (some-arc-fails .ensures) ∙ if1 .left, sym (some-arc-fails2 .ensures) ∙ if2 .left, sym (crowded-nodes .ensures) ∙ c .before .before .if3 .left, sym (c .before .crowded-nodes2 .ensures) ∙ c .if4 .taken)
+    rw (
+      sym (some-arc-fails .ensures) ∙ if1 .left,
+      sym (some-arc-fails2 .ensures) ∙ if2 .left,
+      sym (crowded-nodes .ensures) ∙ c .before .before .if3 .left,
+      sym (c .before .crowded-nodes2 .ensures) ∙ c .if4 .taken,
+    )
 
 returns-5 : tie.Need-returns-5
 unfolding arcRefusals endsOutside lengthsOutside tooManyAtNode
@@ -70,7 +80,12 @@ returns-5 c =
     let some-arc-fails2 = earlier .before .some-arc-fails2 in
     let if2 = earlier .if2 in
     let crowded-nodes = c .before .before .before .crowded-nodes in
-    rw (sym (some-arc-fails .ensures) ∙ if1 .left, sym (some-arc-fails2 .ensures) ∙ if2 .left, sym (crowded-nodes .ensures) ∙ c .before .before .if3 .left, sym (c .before .crowded-nodes2 .ensures) ∙ c .if4 .left)
+    rw (
+      sym (some-arc-fails .ensures) ∙ if1 .left,
+      sym (some-arc-fails2 .ensures) ∙ if2 .left,
+      sym (crowded-nodes .ensures) ∙ c .before .before .if3 .left,
+      sym (c .before .crowded-nodes2 .ensures) ∙ c .if4 .left,
+    )
 
 pub arc-refusal-spec : {M : Type 1} → statement M
 arc-refusal-spec =

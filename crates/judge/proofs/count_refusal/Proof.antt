@@ -31,7 +31,12 @@ returns-3 c =
     let nodes-outside = earlier .before .nodes-outside in
     let if1 = earlier .if1 in
     let source-outside = c .before .before .before .source-outside in
-    rw (sym (nodes-outside .ensures) ∙ if1 .left, sym (source-outside .ensures) ∙ c .before .before .if2 .left, sym (c .before .spans-outside .ensures) ∙ c .if3 .taken)
+    rw (
+      sym (nodes-outside .ensures) ∙ if1 .left,
+      sym (source-outside .ensures) ∙ c .before .before .if2 .left,
+      sym (c .before .spans-outside .ensures)
+          ∙ c .if3 .taken,
+    )
 
 too-many-requires : tie.Need-too-many-requires
 too-many-requires c κs = search needs
@@ -45,7 +50,13 @@ returns-4 c =
     let source-outside = earlier .before .source-outside in
     let if2 = earlier .if2 in
     let spans-outside = c .before .before .before .spans-outside in
-    rw (sym (nodes-outside .ensures) ∙ if1 .left, sym (source-outside .ensures) ∙ if2 .left, sym (spans-outside .ensures) ∙ c .before .before .if3 .left, sym (c .before .too-many .ensures) ∙ c .if4 .taken)
+    rw (
+      sym (nodes-outside .ensures) ∙ if1 .left,
+      sym (source-outside .ensures) ∙ if2 .left,
+      sym (spans-outside .ensures) ∙ c .before .before .if3 .left,
+      sym
+          (c .before .too-many .ensures) ∙ c .if4 .taken,
+    )
 
 returns-5 : tie.Need-returns-5
 unfolding countRefusals
@@ -56,7 +67,13 @@ returns-5 c =
     let source-outside = earlier .before .source-outside in
     let if2 = earlier .if2 in
     let spans-outside = c .before .before .before .spans-outside in
-    rw (sym (nodes-outside .ensures) ∙ if1 .left, sym (source-outside .ensures) ∙ if2 .left, sym (spans-outside .ensures) ∙ c .before .before .if3 .left, sym (c .before .too-many .ensures) ∙ c .if4 .left)
+    rw (
+      sym (nodes-outside .ensures) ∙ if1 .left,
+      sym (source-outside .ensures) ∙ if2 .left,
+      sym (spans-outside .ensures) ∙ c .before .before .if3 .left,
+      sym
+          (c .before .too-many .ensures) ∙ c .if4 .left,
+    )
 
 pub count-refusal-spec : {M : Type 1} → statement M
 count-refusal-spec =

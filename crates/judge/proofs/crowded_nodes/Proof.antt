@@ -63,7 +63,8 @@ loop-again c =
     let args = earlier .before .before .before .args in (
       omega arith,
       simp length-set (loop .inv .1),
-      one-more (args .heads) (args .s .now) (loop .seen) (loop .a) (c .before .before .end-at .result .0) (c .before .before .end-at .ensures .0) (omega arith) (c .if1 .left) (loop .inv .2),
+      one-more (args .heads) (args .s .now) (loop .seen) (loop .a) (c .before .before .end-at .result .0) (c .before .before .end-at .ensures .0)
+          (omega arith) (c .if1 .left) (loop .inv .2),
     )
 
 returns-2 : tie.Need-returns-2 Inv-loop μ-loop

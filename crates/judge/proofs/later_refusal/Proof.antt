@@ -23,7 +23,11 @@ returns c =
     count-stops _ (pre) _ (c .if1 .taken) (c .before .count-refusal .ensures)
 
 arc-refusal-requires : tie.Need-arc-refusal-requires
-arc-refusal-requires c κs = (c .before .before .find-sections .ensures, few-arcs _ (sym (c .before .count-refusal .ensures) ∙ ap numbered (c .if1 .left)), few-nodes _ (sym (c .before .count-refusal .ensures) ∙ ap numbered (c .if1 .left)))
+arc-refusal-requires c κs = (
+  c .before .before .find-sections .ensures,
+  few-arcs _ (sym (c .before .count-refusal .ensures) ∙ ap numbered (c .if1 .left)),
+  few-nodes _ (sym (c .before .count-refusal .ensures) ∙ ap numbered (c .if1 .left)),
+)
 
 returns-2 : tie.Need-returns-2
 returns-2 c =
@@ -51,7 +55,8 @@ division-refusal-requires c κs =
     let count-refusal = earlier .before .count-refusal in
     let if1 = earlier .if1 in
     let find-sections = earlier .before .before .find-sections in
-    let d : words (c .before .region-words .result .now) ≤ mostRegionWords = rw (c .before .region-words .ensures) (few-region-words (args .s .now) (sym (count-refusal .ensures) ∙ ap numbered (if1 .left))) in
+    let d : words (c .before .region-words .result .now) ≤ mostRegionWords = rw (c .before .region-words .ensures)
+    (few-region-words (args .s .now) (sym (count-refusal .ensures) ∙ ap numbered (if1 .left))) in
     (d, omega (arith, find-sections .ensures .arcs-all, few-arcs (args .s .now) (sym (count-refusal .ensures) ∙ ap numbered (if1 .left))))
 
 returns-3 : tie.Need-returns-3
@@ -67,7 +72,8 @@ returns-3 c =
     let if2 = c .before .before .before .if2 in
     let at = find-sections .ensures in
     let d = c .before .before .region-words .ensures in
-    c .division-refusal .ensures ∙ rw (d, at .arcs-all, at .spans-all) (division-decides (args .s .now) (pre) (sym (count-refusal .ensures) ∙ ap numbered (if1 .left)) (sym (arc-refusal .ensures) ∙ ap numbered (if2 .left)))
+    c .division-refusal .ensures ∙ rw (d, at .arcs-all, at .spans-all)
+    (division-decides (args .s .now) (pre) (sym (count-refusal .ensures) ∙ ap numbered (if1 .left)) (sym (arc-refusal .ensures) ∙ ap numbered (if2 .left)))
 
 pub later-refusal-spec : {M : Type 1} → statement M
 later-refusal-spec =

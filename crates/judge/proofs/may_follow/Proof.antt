@@ -11,7 +11,11 @@ arc-or-region-requires : tie.Need-arc-or-region-requires
 arc-or-region-requires c κs = search needs
 
 returns : tie.Need-returns
-returns c = rw (span-follows _ _ (span-before _ (c .before .if1 .taken) (c .before .before .match .rest .0 .0 .0 .1) (c .before .before .match .rest .0 .0 .1)), eq-eqb _ _ (c .if2 .taken))
+returns c = rw (
+  span-follows _ _ (span-before _ (c .before .if1 .taken) (c .before .before .match .rest .0 .0 .0 .1)
+      (c .before .before .match .rest .0 .0 .1)),
+  eq-eqb _ _ (c .if2 .taken),
+)
 
 arc-or-region-requires-2 : tie.Need-arc-or-region-requires-2
 arc-or-region-requires-2 c κs = search needs
@@ -38,12 +42,14 @@ returns-5 c = rw (c .before .match .keys4) (c .arc-or-region .ensures)
 returns-6 : tie.Need-returns-6
 returns-6 c =
     let match = c .before .before .before .match in
-    rw (span-follows _ _ (span-before _ (c .before .before .if1 .taken) (match .rest .0 .0 .0 .1) (match .rest .0 .0 .1)), ne-eqb _ _ (c .before .if2 .left)) (c .arc-or-region2 .ensures)
+    rw (span-follows _ _ (span-before _ (c .before .before .if1 .taken) (match .rest .0 .0 .0 .1) (match .rest .0 .0 .1)), ne-eqb _ _ (c .before .if2 .left))
+    (c .arc-or-region2 .ensures)
 
 returns-7 : tie.Need-returns-7
 returns-7 c =
     let match = c .before .before .before .match in
-    rw (region-follows _ _ (region-before _ (c .before .before .if1 .left) (c .before .if3 .taken) (match .rest .0 .1) (match .rest .1))) (c .region-kind .ensures)
+    rw (region-follows _ _ (region-before _ (c .before .before .if1 .left) (c .before .if3 .taken) (match .rest .0 .1) (match .rest .1)))
+    (c .region-kind .ensures)
 
 returns-8 : tie.Need-returns-8
 returns-8 c = sym (none-follows _ _ (c .if3 .left))

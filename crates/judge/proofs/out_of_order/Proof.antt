@@ -80,7 +80,8 @@ returns-2 c =
     let args = earlier .before .before .args in
     let loop = earlier .loop in
     let next-word = c .before .before .before .next-word in
-    rw (c .may-end .ensures) (pass-end (args .s .now) (loop .before) (loop .at .at) (step-end (args .s .now) (loop .at) (sym (next-word .ensures) ∙ c .before .enum-told .given .1)) (loop .inv))
+    rw (c .may-end .ensures) (pass-end (args .s .now) (loop .before) (loop .at .at)
+    (step-end (args .s .now) (loop .at) (sym (next-word .ensures) ∙ c .before .enum-told .given .1)) (loop .inv))
 
 pub out-of-order-spec : {M : Type 1} → statement M
 out-of-order-spec =

@@ -32,7 +32,11 @@ returns-3 c =
     let earlier = c .before .before .before .before in
     let args = earlier .before .before .args in
     let pre = earlier .before .before .pre in
-    rw (le-ltb 15 (spanCount (args .s .now)) (omega (arith, pre .spans-all)), le-ltb 2048 (arcCount (args .s .now)) (omega (arith, pre .arcs-all)), ← c .region-words .ensures)
+    rw (
+      le-ltb 15 (spanCount (args .s .now)) (omega (arith, pre .spans-all)),
+      le-ltb 2048 (arcCount (args .s .now)) (omega (arith, pre .arcs-all)),
+      ← c .region-words .ensures,
+    )
 
 pub too-many-spec : {M : Type 1} → statement M
 too-many-spec = tie.close (tie.spec returns returns-2 region-words-requires returns-3)
