@@ -99,19 +99,15 @@ fn out_of_order(s: &[u8]) -> bool
     let mut at = Cursor { at: 0 };
     let mut before: u32 = 0;
     loop {
-        match sheet::next_word(s, at) {
-            Step::Word(word, next) => {
-                let kind = sheet::kind_of(word);
-                if !may_follow(before, kind) {
-                    return true;
-                }
-                before = kind;
-                at = next;
-            }
-            Step::End => {
-                return !may_end(before);
-            }
+        let Step::Word(word, next) = sheet::next_word(s, at) else {
+            return !may_end(before);
+        };
+        let kind = sheet::kind_of(word);
+        if !may_follow(before, kind) {
+            return true;
         }
+        before = kind;
+        at = next;
     }
 }
 

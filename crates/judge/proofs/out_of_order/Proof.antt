@@ -25,14 +25,29 @@ next-word-requires c κs = search needs
 enum-known-word : tie.Need-enum-known-word Inv-loop μ-loop
 enum-known-word c = search needs
 
+enum-told : tie.Need-enum-told Inv-loop μ-loop
+enum-told c = search needs
+
+may-end-requires : tie.Need-may-end-requires Inv-loop μ-loop
+may-end-requires c κs = search needs
+
+returns : tie.Need-returns Inv-loop μ-loop
+returns c =
+    let earlier = c .before .before .before .before in
+    let args = earlier .before .before .args in
+    let loop = earlier .loop in
+    let next-word = c .before .before .before .next-word in
+    rw (c .may-end .ensures) (pass-end (args .s .now) (loop .before) (loop .at .at)
+    (step-end (args .s .now) (loop .at) (sym (next-word .ensures) ∙ c .before .enum-told .given .1)) (loop .inv))
+
 kind-of-requires : tie.Need-kind-of-requires Inv-loop μ-loop
 kind-of-requires c κs = search needs
 
 may-follow-requires : tie.Need-may-follow-requires Inv-loop μ-loop
 may-follow-requires c κs = search needs
 
-returns : tie.Need-returns Inv-loop μ-loop
-returns c =
+returns-2 : tie.Need-returns-2 Inv-loop μ-loop
+returns-2 c =
     let earlier = c .before .before .before .before in
     let early = earlier .before .before .before .before in
     let args = early .before .args in
@@ -68,21 +83,6 @@ loop-again c =
     rw (read, st .moved) (pass-on (args .s .now) (loop .before) (loop .at .at) (st .inside)
     (ap (mayFollow (loop .before)) (sym read) ∙ sym (c .before .may-follow .ensures) ∙ not-false (c .before .may-follow .result) (c .if1 .left)) (loop .inv))
 
-enum-told : tie.Need-enum-told Inv-loop μ-loop
-enum-told c = search needs
-
-may-end-requires : tie.Need-may-end-requires Inv-loop μ-loop
-may-end-requires c κs = search needs
-
-returns-2 : tie.Need-returns-2 Inv-loop μ-loop
-returns-2 c =
-    let earlier = c .before .before .before .before in
-    let args = earlier .before .before .args in
-    let loop = earlier .loop in
-    let next-word = c .before .before .before .next-word in
-    rw (c .may-end .ensures) (pass-end (args .s .now) (loop .before) (loop .at .at)
-    (step-end (args .s .now) (loop .at) (sym (next-word .ensures) ∙ c .before .enum-told .given .1)) (loop .inv))
-
 pub out-of-order-spec : {M : Type 1} → statement M
 out-of-order-spec =
     tie.close
@@ -92,11 +92,11 @@ out-of-order-spec =
     loop-holds
     next-word-requires
     enum-known-word
-    kind-of-requires
-    may-follow-requires
-    returns
-    loop-less
-    loop-again
     enum-told
     may-end-requires
-    returns-2)
+    returns
+    kind-of-requires
+    may-follow-requires
+    returns-2
+    loop-less
+    loop-again)
