@@ -3,29 +3,20 @@ use Prim.Native.Nat.{ℕ, _+_, _<_, _≤_}
 use mathlib.Core.Bool.{Bool, true, false}
 use mathlib.Core.List.{List}
 use mathlib.Core.Path.{_≡_, refl, sym, _∙_}
-use borrow.Author.Tests.{eq-eqb, ne-eqb, lt-ltb, le-ltb, leb-false}
+use borrow.Author.Tests.{eq-eqb, ne-eqb, lt-ltb, le-ltb}
 use native.Mathlib.Omega.{arith}
 use lib.ListN.{length, getD, set}
-use lib.Dec.{leb}
-use Rattle.indices.specs.Tests.{any, count}
+use Rattle.indices.specs.Tests.{count}
 use Rattle.indices.specs.Tally.{Tally}
-use Rattle.indices.proofs.Tests.{any-hit, any-false, any-at, count-in, count-mono, or-left, or-right}
+use Rattle.indices.proofs.Tests.{any-hit, any-false, count-in, count-mono}
 use Rattle.indices.proofs.Tally.{tally-in}
 use Rattle.sheet.specs.Limits.{mostArcsEachWay}
 use Rattle.sheet.specs.Sections.{nodeCount, arcCount}
-use Rattle.sheet.specs.Arcs.{tail, head, endOf}
-use Rattle.refusals.specs.Fields.{endOutside, endsOutside, endsAt, crowded, crowdedNodes}
+use Rattle.sheet.specs.Arcs.{endOf}
+use Rattle.refusals.specs.Fields.{endsOutside, endsAt, crowded, crowdedNodes}
+use Rattle.refusals.proofs.Clear.{end-in}
 
 module _ (heads : Bool) (b : List ℕ) where
-  -- where refusal 8 does not apply, an end is a node
-  end-below : (a : ℕ) → endsOutside b ≡ false → a < arcCount b → endOf heads b a < nodeCount b
-  unfolding endsOutside
-  end-below a ok l = at heads (any-at (endOutside b) (arcCount b) a ok l)
-    where
-      at : (h : Bool) → endOutside b a ≡ false → endOf h b a < nodeCount b
-      at true e = leb-false _ _ (or-right (leb (nodeCount b) (tail b a)) (leb (nodeCount b) (head b a)) e)
-      at false e = leb-false _ _ (or-left (leb (nodeCount b) (tail b a)) (leb (nodeCount b) (head b a)) e)
-
   -- one arc more than a node may have
   pub one-too-many : (seen : List ℕ) (a : ℕ) → endsOutside b ≡ false → a < arcCount b → endOf heads b a < length seen → Tally (endsAt heads b)
       mostArcsEachWay seen a
@@ -34,7 +25,7 @@ module _ (heads : Bool) (b : List ℕ) where
   one-too-many seen a ok l inside t full =
       let v = endOf heads b a in
       let here : count (endsAt heads b v) (a + 1) ≡ count (endsAt heads b v) a + 1 = count-in (endsAt heads b v) a (eq-eqb v v refl) in
-      any-hit (crowded heads b) v (nodeCount b) (end-below a ok l)
+      any-hit (crowded heads b) v (nodeCount b) (end-in b ok heads a l)
       (lt-ltb mostArcsEachWay (count (endsAt heads b v) (arcCount b))
       (omega (arith, t .counts v inside, count-mono (endsAt heads b v) (a + 1) (arcCount b) (omega arith))))
 

@@ -1,184 +1,140 @@
--- What an accepted sheet ensures, each read off the refusal that does not apply to it. Assumes nothing.
-use Prim.Native.Nat.{ℕ, zero, suc, _+_, _<_, _≤_}
-use mathlib.Core.Bool.{Bool, true, false, not, _&&_, _||_, and-false}
+-- What an accepted sheet ensures: none of the refusals applies to it. Assumes nothing.
+use Prim.Native.Nat.{ℕ, suc, _<_, _≤_}
+use mathlib.Core.Bool.{Bool, true, false, _||_}
 use mathlib.Core.List.{List, [], _∷_, _++_}
-use mathlib.Core.Logic.{_⊎_, inl, inr, ⊎-elim}
-use mathlib.Core.Path.{_≡_, refl, sym, ap, _∙_}
-use borrow.Author.Tests.{ltb-false, leb-false, eqb-true, eqb-false, ne-eqb, not-false}
+use mathlib.Core.Path.{_≡_}
 use native.Mathlib.Omega.{arith}
-use lib.Dec.{ltb, leb, eqb}
-use Rattle.indices.specs.Tests.{any, count}
-use Rattle.indices.proofs.Tests.{any-at, or-left, or-right, count-out-all}
-use Rattle.indices.proofs.Steps.{lt-or-le}
+use lib.Dec.{eqb}
+use Rattle.indices.specs.Tests.{count}
+use Rattle.indices.proofs.Tests.{or-left, or-right}
 use Rattle.sheet.specs.Limits.{mostNodes, mostSpans, mostSpan, mostArcs, mostRegionWords, mostLength, mostArcsEachWay}
 use Rattle.sheet.specs.Words.{words, kind}
 use Rattle.sheet.specs.Sections.{nodeCount, source, spanCount, span, arcCount, regionWords}
-use Rattle.sheet.specs.Arcs.{tail, head, arcLength, endOf}
-use Rattle.sheet.specs.Heights.{Nesting, heightOf}
-use Rattle.sheet.specs.Regions.{regionCount, leafWord, parentWord, arcWord, isLeaf, parent, height}
+use Rattle.sheet.specs.Arcs.{tail, head, arcLength}
+use Rattle.sheet.specs.Heights.{Nesting}
+use Rattle.sheet.specs.Regions.{regionCount, leafWord, arcWord, isLeaf, parent, height}
 use Rattle.sheet.specs.Answer.{accepted, lowest}
 use Rattle.sheet.proofs.Lowest.{clear-at}
 use Rattle.sheet.proofs.Heights.{child-lower, root-highest}
-use Rattle.refusals.specs.Form.{wrongSize, wrongFront, noRegionWord, outOfOrder, bitSet, nodesOutside, sourceOutside, spanOutside, spansOutside, tooMany}
-use Rattle.refusals.specs.Fields.{endOutside, endsOutside, tooLong, lengthsOutside, endsAt, crowded, crowdedNodes, tooManyAtNode}
-use Rattle.refusals.specs.Nesting.{wrongParents, noSuchArc, leafOfArc, notOneLeaf, wrongLeaves, childOf, childless, childlessRegions, spansDiffer}
+use Rattle.refusals.specs.Form.{outOfOrder, nodesOutside, sourceOutside, spansOutside, tooMany}
+use Rattle.refusals.specs.Fields.{endsOutside, lengthsOutside, endsAt, crowdedNodes, tooManyAtNode}
+use Rattle.refusals.specs.Nesting.{wrongParents, leafOfArc, wrongLeaves, childOf, childlessRegions, spansDiffer}
 use Rattle.refusals.specs.Judgement.{formRefusals, countRefusals, arcRefusals, divisionRefusals, refusals, judgement, Accepted}
-use Rattle.refusals.proofs.Parents
+use Rattle.refusals.proofs.Parents as parents
+use Rattle.refusals.proofs.Clear as clear
+
+-- no refusal applies, one field for each that says something of later calls
+record NoRefusal (b : List ℕ) : Type 0 where
+  order : outOfOrder b ≡ false
+  nodes : nodesOutside b ≡ false
+  source : sourceOutside b ≡ false
+  spans : spansOutside b ≡ false
+  many : tooMany b ≡ false
+  ends : endsOutside b ≡ false
+  lengths : lengthsOutside b ≡ false
+  degrees : tooManyAtNode b ≡ false
+  parents : wrongParents (regionWords b) ≡ false
+  leaves : wrongLeaves (regionWords b) (arcCount b) ≡ false
+  children : childlessRegions (regionWords b) ≡ false
+  height : spansDiffer (regionWords b) (spanCount b) ≡ false
+
+none-applies : (b : List ℕ) → Accepted b → NoRefusal b
+unfolding judgement refusals formRefusals countRefusals arcRefusals divisionRefusals
+none-applies b ok = let at = clear-at (refusals b) ok in record {
+  order = at 1;
+  nodes = at 3;
+  source = at 4;
+  spans = at 5;
+  many = at 6;
+  ends = at 7;
+  lengths = at 8;
+  degrees = at 9;
+  parents = at 10;
+  leaves = at 11;
+  children = at 12;
+  height = at 13;
+}
 
 module _ (b : List ℕ) (ok : Accepted b) where
-  -- no refusal applies
-  clear : lowest (refusals b) accepted ≡ accepted
-  unfolding judgement
-  clear = ok
+  none : NoRefusal b
+  none = none-applies b ok
 
-  -- the first two words are there
+  -- the first two words are there, and the words after the last arc are of kinds 6 and 7
   pub front-there : 2 ≤ words b
-  unfolding refusals formRefusals outOfOrder
-  front-there =
-      ltb-false (words b) 2
-      (or-left (ltb (words b) 2) (not (eqb (kind b 0) 1)) (or-left (ltb (words b) 2 || not (eqb (kind b 0) 1)) (not (eqb (kind b 1) 2))
-      (or-left (wrongFront b) _ (clear-at (refusals b) clear 1))))
+  front-there = clear.front-there b (none .order)
 
-  -- the words after the last arc are of kinds 6 and 7
   pub region-kinds : (k : ℕ) → k < words (regionWords b) → eqb (kind (regionWords b) k) 6 || eqb (kind (regionWords b) k) 7 ≡ true
-  unfolding refusals formRefusals outOfOrder
-  region-kinds k l =
-      not-false (eqb (kind (regionWords b) k) 6 || eqb (kind (regionWords b) k) 7)
-      (any-at (noRegionWord (regionWords b)) (words (regionWords b)) k (or-right (wrongFront b) _ (clear-at (refusals b) clear 1)) l)
+  region-kinds = clear.region-kinds b (none .order)
 
   -- nodes and source
   pub some-nodes : 0 < nodeCount b
-  unfolding refusals formRefusals countRefusals nodesOutside
-  some-nodes = ltb-false (nodeCount b) 1 (or-left (ltb (nodeCount b) 1) _ (clear-at (refusals b) clear 3))
+  some-nodes = clear.some-nodes b (none .nodes)
 
   pub few-nodes : nodeCount b ≤ mostNodes
-  unfolding refusals formRefusals countRefusals nodesOutside
-  few-nodes = ltb-false mostNodes (nodeCount b) (or-right (ltb (nodeCount b) 1) _ (clear-at (refusals b) clear 3))
+  few-nodes = clear.few-nodes b (none .nodes)
 
   pub source-in : source b < nodeCount b
-  unfolding refusals formRefusals countRefusals sourceOutside
-  source-in = leb-false (nodeCount b) (source b) (clear-at (refusals b) clear 4)
+  source-in = clear.source-in b (none .source)
 
   -- spans
-  span-inside : (k : ℕ) → k < spanCount b → spanOutside b k ≡ false
-  unfolding refusals formRefusals countRefusals spansOutside
-  span-inside k l = any-at (spanOutside b) (spanCount b) k (clear-at (refusals b) clear 5) l
-
   pub span-positive : (k : ℕ) → k < spanCount b → 0 < span b k
-  span-positive k l = ltb-false (span b k) 1 (or-left (ltb (span b k) 1) _ (span-inside k l))
+  span-positive = clear.span-positive b (none .spans)
 
   pub span-below : (k : ℕ) → k < spanCount b → span b k ≤ mostSpan
-  span-below k l = ltb-false mostSpan (span b k) (or-right (ltb (span b k) 1) _ (span-inside k l))
+  span-below = clear.span-below b (none .spans)
 
   -- how many spans, arcs and region words
-  not-too-many : tooMany b ≡ false
-  unfolding refusals formRefusals countRefusals
-  not-too-many = clear-at (refusals b) clear 6
-
   pub few-spans : spanCount b ≤ mostSpans
-  unfolding tooMany
-  few-spans = ltb-false mostSpans (spanCount b) (or-left (ltb mostSpans (spanCount b)) _
-      (or-left (ltb mostSpans (spanCount b) || ltb mostArcs (arcCount b)) _ not-too-many))
+  few-spans = clear.few-spans b (none .many)
 
   pub few-arcs : arcCount b ≤ mostArcs
-  unfolding tooMany
-  few-arcs =
-      ltb-false mostArcs (arcCount b)
-      (or-right (ltb mostSpans (spanCount b)) _ (or-left (ltb mostSpans (spanCount b) || ltb mostArcs (arcCount b)) _ not-too-many))
+  few-arcs = clear.few-arcs b (none .many)
 
   pub few-region-words : words (regionWords b) ≤ mostRegionWords
-  unfolding tooMany
-  few-region-words = ltb-false mostRegionWords (words (regionWords b)) (or-right (ltb mostSpans (spanCount b) || ltb mostArcs (arcCount b)) _ not-too-many)
+  few-region-words = clear.few-region-words b (none .many)
 
   -- arcs
-  end-inside : (a : ℕ) → a < arcCount b → endOutside b a ≡ false
-  unfolding refusals formRefusals countRefusals arcRefusals endsOutside
-  end-inside a l = any-at (endOutside b) (arcCount b) a (clear-at (refusals b) clear 7) l
-
   pub tail-in : (a : ℕ) → a < arcCount b → tail b a < nodeCount b
-  tail-in a l = leb-false (nodeCount b) (tail b a) (or-left (leb (nodeCount b) (tail b a)) _ (end-inside a l))
+  tail-in = clear.end-in b (none .ends) false
 
   pub head-in : (a : ℕ) → a < arcCount b → head b a < nodeCount b
-  head-in a l = leb-false (nodeCount b) (head b a) (or-right (leb (nodeCount b) (tail b a)) _ (end-inside a l))
-
-  pub end-in : (heads : Bool) (a : ℕ) → a < arcCount b → endOf heads b a < nodeCount b
-  end-in true a l = head-in a l
-  end-in false a l = tail-in a l
+  head-in = clear.end-in b (none .ends) true
 
   pub length-short : (a : ℕ) → a < arcCount b → arcLength b a ≤ mostLength
-  unfolding refusals formRefusals countRefusals arcRefusals lengthsOutside
-  length-short a l = ltb-false mostLength (arcLength b a) (any-at (tooLong b) (arcCount b) a (clear-at (refusals b) clear 8) l)
+  length-short = clear.length-short b (none .lengths)
 
   -- no node has more arcs each way than it may have
   not-crowded : (heads : Bool) → crowdedNodes heads b ≡ false
-  unfolding refusals formRefusals countRefusals arcRefusals tooManyAtNode
-  not-crowded true = or-right (crowdedNodes false b) (crowdedNodes true b) (clear-at (refusals b) clear 9)
-  not-crowded false = or-left (crowdedNodes false b) (crowdedNodes true b) (clear-at (refusals b) clear 9)
+  unfolding tooManyAtNode
+  not-crowded true = or-right (crowdedNodes false b) (crowdedNodes true b) (none .degrees)
+  not-crowded false = or-left (crowdedNodes false b) (crowdedNodes true b) (none .degrees)
 
   pub few-ends : (heads : Bool) (v : ℕ) → count (endsAt heads b v) (arcCount b) ≤ mostArcsEachWay
-  unfolding crowdedNodes
-  few-ends heads v =
-      ⊎-elim
-      (λ (l : v < nodeCount b). ltb-false mostArcsEachWay (count (endsAt heads b v) (arcCount b))
-      (any-at (crowded heads b) (nodeCount b) v (not-crowded heads) l))
-      (λ (l : nodeCount b ≤ v). omega (
-        arith,
-        count-out-all (endsAt heads b v) (arcCount b)
-            (λ a la. ne-eqb (endOf heads b a) v (λ e. omega (arith, end-in heads a la))),
-      ))
-      (lt-or-le v (nodeCount b))
+  few-ends heads = clear.few-ends b (none .ends) heads (not-crowded heads)
 
   -- parents fall and are inner
-  right-parents : wrongParents (regionWords b) ≡ false
-  unfolding refusals formRefusals countRefusals arcRefusals divisionRefusals
-  right-parents = clear-at (refusals b) clear 10
-
   pub nesting : Nesting (isLeaf (regionWords b)) (parent (regionWords b)) (regionCount (regionWords b))
-  nesting = Rattle.refusals.proofs.Parents.nesting (regionWords b) right-parents few-region-words
+  nesting = parents.nesting (regionWords b) (none .parents) few-region-words
 
   -- every leaf has an arc, and every arc exactly one leaf
-  right-leaves : wrongLeaves (regionWords b) (arcCount b) ≡ false
-  unfolding refusals formRefusals countRefusals arcRefusals divisionRefusals
-  right-leaves = clear-at (refusals b) clear 11
-
   pub leaf-arc : (k : ℕ) → k < words (regionWords b) → leafWord (regionWords b) k ≡ true → arcWord (regionWords b) k < arcCount b
-  unfolding wrongLeaves
-  leaf-arc k l leaf =
-      let d = regionWords b in
-      let here : leafWord d k && leb (arcCount b) (arcWord d k) ≡ false = any-at (noSuchArc d (arcCount b)) (words d) k
-      (or-left (any (noSuchArc d (arcCount b)) (words d)) _ right-leaves) l in
-      leb-false (arcCount b) (arcWord d k) (rw leaf at here)
+  leaf-arc = clear.leaf-arc (regionWords b) (arcCount b) (none .leaves)
 
   pub one-leaf : (a : ℕ) → a < arcCount b → count (leafOfArc (regionWords b) a) (words (regionWords b)) ≡ 1
-  unfolding wrongLeaves
-  one-leaf a l =
-      let d = regionWords b in
-      eqb-true (count (leafOfArc d a) (words d)) 1
-      (not-false (eqb (count (leafOfArc d a) (words d)) 1) (any-at (notOneLeaf d) (arcCount b) a
-      (or-right (any (noSuchArc d (arcCount b)) (words d)) _ right-leaves) l))
+  one-leaf = clear.one-leaf (regionWords b) (arcCount b) (none .leaves)
 
   -- every inner region but 0 has a child
   pub has-child : (k : ℕ) → k < words (regionWords b) → leafWord (regionWords b) k ≡ false → 0 < count (childOf (regionWords b) (suc k)) (words (regionWords b))
-  unfolding refusals formRefusals countRefusals arcRefusals divisionRefusals childlessRegions
-  has-child k l inner =
-      let d = regionWords b in
-      let here : not (leafWord d k) && eqb (count (childOf d (suc k)) (words d)) 0 ≡ false = any-at (childless d) (words d) k (clear-at (refusals b) clear 12)
-      l in
-      let some = eqb-false (count (childOf d (suc k)) (words d)) 0 (rw inner at here) in
-      omega arith
+  has-child = clear.has-child (regionWords b) (none .children)
 
-  -- spans are as many as region 0's height, and no region is higher
+  -- spans are as many as region 0's height, heights fall from parent to child, and none is above 15
   pub spans-height : spanCount b ≡ height (regionWords b) 0
-  unfolding refusals formRefusals countRefusals arcRefusals divisionRefusals spansDiffer
-  spans-height = eqb-true (spanCount b) (height (regionWords b) 0) (not-false (eqb (spanCount b) (height (regionWords b) 0)) (clear-at (refusals b) clear 13))
+  spans-height = clear.spans-height (regionWords b) (spanCount b) (none .height)
 
   pub height-falls : (r : ℕ) → 0 < r → r < regionCount (regionWords b) → height (regionWords b) r < height (regionWords b) (parent (regionWords b) r)
-  height-falls r pos l = child-lower _ _ _ nesting r pos l
+  height-falls = child-lower _ _ _ nesting
 
   pub height-most : (r : ℕ) → r < regionCount (regionWords b) → height (regionWords b) r ≤ mostSpans
-  height-most r l = omega (
-    arith,
-    root-highest (isLeaf (regionWords b)) (parent (regionWords b)) (regionCount (regionWords b)) nesting r l,
-    spans-height,
-    few-spans,
-  )
+  height-most r l =
+      let d = regionWords b in
+      omega (arith, root-highest (isLeaf d) (parent d) (regionCount d) nesting r l, spans-height, few-spans)

@@ -41,8 +41,7 @@ returns-3 c =
     rw (
       sym (some-word-fails .ensures) ∙ if1 .left,
       sym (some-word-fails2 .ensures) ∙ c .before .before .if2 .left,
-      sym
-          (c .before .some-arc-not-once .ensures) ∙ c .if3 .taken,
+      sym (c .before .some-arc-not-once .ensures) ∙ c .if3 .taken,
     )
 
 childless-regions-requires : tie.Need-childless-regions-requires
@@ -66,8 +65,7 @@ returns-4 c =
     rw (
       sym (some-word-fails .ensures) ∙ if1 .left,
       sym (some-word-fails2 .ensures) ∙ if2 .left,
-      sym (some-arc-not-once .ensures)
-          ∙ c .before .before .if3 .left,
+      sym (some-arc-not-once .ensures) ∙ c .before .before .if3 .left,
       sym (c .before .childless-regions .ensures) ∙ c .if4 .taken,
     )
 
@@ -100,8 +98,7 @@ returns-5 c =
       sym (some-word-fails .ensures) ∙ if1 .left,
       sym (some-word-fails2 .ensures) ∙ if2 .left,
       sym (some-arc-not-once .ensures) ∙ if3 .left,
-      sym
-          (childless-regions .ensures) ∙ c .before .before .if4 .left,
+      sym (childless-regions .ensures) ∙ c .before .before .if4 .left,
       ← c .before .root-height .ensures,
       ne-eqb _ _ (c .if5 .taken),
     )
@@ -122,8 +119,7 @@ returns-6 c =
       sym (some-word-fails .ensures) ∙ if1 .left,
       sym (some-word-fails2 .ensures) ∙ if2 .left,
       sym (some-arc-not-once .ensures) ∙ if3 .left,
-      sym
-          (childless-regions .ensures) ∙ c .before .before .if4 .left,
+      sym (childless-regions .ensures) ∙ c .before .before .if4 .left,
       ← c .before .root-height .ensures,
       eq-eqb _ _ (c .if5 .left),
     )

@@ -42,8 +42,7 @@ returns-3 c =
     rw (
       sym (some-arc-fails .ensures) ∙ if1 .left,
       sym (some-arc-fails2 .ensures) ∙ c .before .before .if2 .left,
-      sym (c .before .crowded-nodes .ensures)
-          ∙ c .if3 .taken,
+      sym (c .before .crowded-nodes .ensures) ∙ c .if3 .taken,
     )
 
 crowded-nodes-requires-2 : tie.Need-crowded-nodes-requires-2

@@ -4,7 +4,7 @@ use native.Mathlib.Omega.{arith}
 use Rattle.sheet.specs.Words.{words}
 use Rattle.sheet.proofs.Bounds.{arcs-few, region-words, regions-few}
 use Rattle.refusals.specs.Form.{bitSet}
-use Rattle.judge.proofs.Stages.{front-there}
+use Rattle.refusals.proofs.Clear.{front-there}
 use Rattle.judge.proofs.bit_set.Statement.{statement}
 use Rattle.judge.proofs.bit_set.Tie as tie
 

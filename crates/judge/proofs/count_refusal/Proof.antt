@@ -34,8 +34,7 @@ returns-3 c =
     rw (
       sym (nodes-outside .ensures) ∙ if1 .left,
       sym (source-outside .ensures) ∙ c .before .before .if2 .left,
-      sym (c .before .spans-outside .ensures)
-          ∙ c .if3 .taken,
+      sym (c .before .spans-outside .ensures) ∙ c .if3 .taken,
     )
 
 too-many-requires : tie.Need-too-many-requires
@@ -54,8 +53,7 @@ returns-4 c =
       sym (nodes-outside .ensures) ∙ if1 .left,
       sym (source-outside .ensures) ∙ if2 .left,
       sym (spans-outside .ensures) ∙ c .before .before .if3 .left,
-      sym
-          (c .before .too-many .ensures) ∙ c .if4 .taken,
+      sym (c .before .too-many .ensures) ∙ c .if4 .taken,
     )
 
 returns-5 : tie.Need-returns-5
@@ -71,8 +69,7 @@ returns-5 c =
       sym (nodes-outside .ensures) ∙ if1 .left,
       sym (source-outside .ensures) ∙ if2 .left,
       sym (spans-outside .ensures) ∙ c .before .before .if3 .left,
-      sym
-          (c .before .too-many .ensures) ∙ c .if4 .left,
+      sym (c .before .too-many .ensures) ∙ c .if4 .left,
     )
 
 pub count-refusal-spec : {M : Type 1} → statement M

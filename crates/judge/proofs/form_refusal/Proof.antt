@@ -3,7 +3,7 @@ use mathlib.Core.Path.{sym, _∙_}
 use borrow.Author.Needs.{needs}
 use native.Mathlib.Omega.{arith}
 use Rattle.refusals.specs.Judgement.{formRefusals}
-use Rattle.judge.proofs.Stages.{few-words}
+use Rattle.refusals.proofs.Clear.{few-words}
 use Rattle.judge.proofs.form_refusal.Statement.{statement}
 use Rattle.judge.proofs.form_refusal.Tie as tie
 

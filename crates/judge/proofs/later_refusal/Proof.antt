@@ -7,7 +7,7 @@ use Rattle.sheet.specs.Limits.{mostRegionWords}
 use Rattle.sheet.specs.Words.{words}
 use Rattle.sheet.specs.Answer.{numbered}
 use Rattle.sheet.proofs.Bounds.{region-words}
-use Rattle.judge.proofs.Stages.{form-front, few-nodes, few-arcs, few-region-words, count-stops, arc-stops, division-decides}
+use Rattle.judge.proofs.Stages.{form-front, count-nodes, count-arcs, count-region-words, count-stops, arc-stops, division-decides}
 use Rattle.judge.proofs.later_refusal.Statement.{statement}
 use Rattle.judge.proofs.later_refusal.Tie as tie
 
@@ -20,13 +20,13 @@ count-refusal-requires c κs = search needs
 returns : tie.Need-returns
 returns c =
     let pre = c .before .before .before .before .pre in
-    count-stops _ (pre) _ (c .if1 .taken) (c .before .count-refusal .ensures)
+    count-stops _ pre _ (c .if1 .taken) (c .before .count-refusal .ensures)
 
 arc-refusal-requires : tie.Need-arc-refusal-requires
 arc-refusal-requires c κs = (
   c .before .before .find-sections .ensures,
-  few-arcs _ (sym (c .before .count-refusal .ensures) ∙ ap numbered (c .if1 .left)),
-  few-nodes _ (sym (c .before .count-refusal .ensures) ∙ ap numbered (c .if1 .left)),
+  count-arcs _ (sym (c .before .count-refusal .ensures) ∙ ap numbered (c .if1 .left)),
+  count-nodes _ (sym (c .before .count-refusal .ensures) ∙ ap numbered (c .if1 .left)),
 )
 
 returns-2 : tie.Need-returns-2
@@ -34,7 +34,7 @@ returns-2 c =
     let earlier = c .before .before .before .before in
     let pre = earlier .before .before .pre in
     let count-refusal = c .before .before .before .count-refusal in
-    arc-stops _ (pre) (sym (count-refusal .ensures) ∙ ap numbered (c .before .before .if1 .left)) _ (c .if2 .taken) (c .before .arc-refusal .ensures)
+    arc-stops _ pre (sym (count-refusal .ensures) ∙ ap numbered (c .before .before .if1 .left)) _ (c .if2 .taken) (c .before .arc-refusal .ensures)
 
 region-words-requires : tie.Need-region-words-requires
 region-words-requires c κs = search needs
@@ -46,7 +46,7 @@ cast-division-refusal c =
     let args = earlier .before .before .before .before .args in
     let count-refusal = earlier .before .count-refusal in
     let if1 = earlier .if1 in
-    omega (arith, find-sections .ensures .arcs-all, few-arcs (args .s .now) (sym (count-refusal .ensures) ∙ ap numbered (if1 .left)))
+    omega (arith, find-sections .ensures .arcs-all, count-arcs (args .s .now) (sym (count-refusal .ensures) ∙ ap numbered (if1 .left)))
 
 division-refusal-requires : tie.Need-division-refusal-requires
 division-refusal-requires c κs =
@@ -56,8 +56,8 @@ division-refusal-requires c κs =
     let if1 = earlier .if1 in
     let find-sections = earlier .before .before .find-sections in
     let d : words (c .before .region-words .result .now) ≤ mostRegionWords = rw (c .before .region-words .ensures)
-    (few-region-words (args .s .now) (sym (count-refusal .ensures) ∙ ap numbered (if1 .left))) in
-    (d, omega (arith, find-sections .ensures .arcs-all, few-arcs (args .s .now) (sym (count-refusal .ensures) ∙ ap numbered (if1 .left))))
+    (count-region-words (args .s .now) (sym (count-refusal .ensures) ∙ ap numbered (if1 .left))) in
+    (d, omega (arith, find-sections .ensures .arcs-all, count-arcs (args .s .now) (sym (count-refusal .ensures) ∙ ap numbered (if1 .left))))
 
 returns-3 : tie.Need-returns-3
 returns-3 c =
@@ -73,7 +73,7 @@ returns-3 c =
     let at = find-sections .ensures in
     let d = c .before .before .region-words .ensures in
     c .division-refusal .ensures ∙ rw (d, at .arcs-all, at .spans-all)
-    (division-decides (args .s .now) (pre) (sym (count-refusal .ensures) ∙ ap numbered (if1 .left)) (sym (arc-refusal .ensures) ∙ ap numbered (if2 .left)))
+    (division-decides (args .s .now) pre (sym (count-refusal .ensures) ∙ ap numbered (if1 .left)) (sym (arc-refusal .ensures) ∙ ap numbered (if2 .left)))
 
 pub later-refusal-spec : {M : Type 1} → statement M
 later-refusal-spec =
