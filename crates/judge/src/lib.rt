@@ -117,7 +117,7 @@ fn end_outside(s: &[u8], at: Sections, a: Arc, head: bool) -> bool
     ensures { λ r. ⌜ r ≡ leb (nodeCount (now (s .entry))) (endOf head (now (s .entry)) (a .0)) ⌝ }
 {
     let v = sheet::end_at(s, at, a, head);
-    sheet::payload_at(s, 0) <= v.0 as u32
+    sheet::node_count(s) <= v.0 as u32
 }
 
 // Whether an arc fails the test.
@@ -170,7 +170,7 @@ fn nodes_outside(s: &[u8]) -> bool
     requires { ⌜ 2 ≤ words (now s) ⌝ }
     ensures { λ r. ⌜ r ≡ nodesOutside (now (s .entry)) ⌝ }
 {
-    let n = sheet::payload_at(s, 0);
+    let n = sheet::node_count(s);
     if n < 1 {
         return true;
     }
@@ -182,7 +182,7 @@ fn source_outside(s: &[u8]) -> bool
     requires { ⌜ 2 ≤ words (now s) ⌝ }
     ensures { λ r. ⌜ r ≡ sourceOutside (now (s .entry)) ⌝ }
 {
-    sheet::payload_at(s, 0) <= sheet::payload_at(s, 1)
+    sheet::node_count(s) <= sheet::source_number(s)
 }
 
 // Whether the span at place k is outside its limits.

@@ -5,7 +5,7 @@ ghost use Prim.Native.Nat.{ℕ, _+_, _-_, _*_, _≤_, _<_};
 ghost use lib.ListN.{length};
 ghost use lib.Dec.{eqb};
 ghost use Rattle.sheet.specs.Words.{words, word, kindOf, payloadOf, kind, payload};
-ghost use Rattle.sheet.specs.Sections.{Located, stepAt, spansFrom, arcsFrom, span, arcCount, regionWords};
+ghost use Rattle.sheet.specs.Sections.{Located, stepAt, nodeCount, source, spansFrom, arcsFrom, span, arcCount, regionWords};
 ghost use Rattle.sheet.specs.Arcs.{endsWord, arcLength, endOf};
 ghost use Rattle.sheet.specs.Regions.{leafWord, parentWord, arcWord, isLeaf};
 
@@ -166,6 +166,22 @@ pub fn find_sections(s: &[u8]) -> Sections
         spans: arcs.at - 2,
         arcs: (regions.at - arcs.at) / 2,
     }
+}
+
+// The node count.
+pub fn node_count(s: &[u8]) -> u32
+    requires { ⌜ 2 ≤ words (now s) ⌝ }
+    ensures { λ r. ⌜ r ≡ nodeCount (now (s .entry)) ⌝ }
+{
+    payload_at(s, 0)
+}
+
+// The source's number.
+pub fn source_number(s: &[u8]) -> u32
+    requires { ⌜ 2 ≤ words (now s) ⌝ }
+    ensures { λ r. ⌜ r ≡ source (now (s .entry)) ⌝ }
+{
+    payload_at(s, 1)
 }
 
 // The span at place k, which is for height k + 1.

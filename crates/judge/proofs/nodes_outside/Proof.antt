@@ -5,16 +5,16 @@ use Rattle.refusals.specs.Form.{nodesOutside}
 use Rattle.judge.proofs.nodes_outside.Statement.{statement}
 use Rattle.judge.proofs.nodes_outside.Tie as tie
 
-payload-at-requires : tie.Need-payload-at-requires
-payload-at-requires c κs = search needs
+node-count-requires : tie.Need-node-count-requires
+node-count-requires c κs = search needs
 
 returns : tie.Need-returns
 unfolding nodesOutside
-returns c = rw (← c .before .payload-at .ensures, lt-ltb _ _ (c .if1 .taken))
+returns c = rw (← c .before .node-count .ensures, lt-ltb _ _ (c .if1 .taken))
 
 returns-2 : tie.Need-returns-2
 unfolding nodesOutside
-returns-2 c = rw (← c .before .payload-at .ensures, le-ltb _ _ (c .if1 .left))
+returns-2 c = rw (← c .before .node-count .ensures, le-ltb _ _ (c .if1 .left))
 
 pub nodes-outside-spec : {M : Type 1} → statement M
-nodes-outside-spec = tie.close (tie.spec payload-at-requires returns returns-2)
+nodes-outside-spec = tie.close (tie.spec node-count-requires returns returns-2)

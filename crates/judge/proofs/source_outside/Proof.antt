@@ -4,15 +4,15 @@ use Rattle.refusals.specs.Form.{sourceOutside}
 use Rattle.judge.proofs.source_outside.Statement.{statement}
 use Rattle.judge.proofs.source_outside.Tie as tie
 
-payload-at-requires : tie.Need-payload-at-requires
-payload-at-requires c κs = search needs
+node-count-requires : tie.Need-node-count-requires
+node-count-requires c κs = search needs
 
-payload-at-requires-2 : tie.Need-payload-at-requires-2
-payload-at-requires-2 c κs = search needs
+source-number-requires : tie.Need-source-number-requires
+source-number-requires c κs = search needs
 
 returns : tie.Need-returns
 unfolding sourceOutside
-returns c = rw (← c .before .payload-at .ensures, ← c .payload-at2 .ensures)
+returns c = rw (← c .before .node-count .ensures, ← c .source-number .ensures)
 
 pub source-outside-spec : {M : Type 1} → statement M
-source-outside-spec = tie.close (tie.spec payload-at-requires payload-at-requires-2 returns)
+source-outside-spec = tie.close (tie.spec node-count-requires source-number-requires returns)
