@@ -18,7 +18,6 @@ use Rattle.refusals.specs.Nesting.{wrongParents, leafOfArc, childOf, notOneLeaf
 use Rattle.refusals.proofs.Parents.{parent-le}
 use Rattle.division.specs.declared.Counted.{Counted}
 use Rattle.division.specs.declared.Counted.the-variants.{Leaves, Children}
-use Rattle.division.specs.declared.Found.{Found}
 use Rattle.division.specs.declared.Found.the-variants.{At, Nothing}
 use Rattle.division.specs.Checks.{countedFor, isAt, hits}
 

@@ -17,12 +17,6 @@ pub or-right : (a b : Bool) → a || b ≡ false → b ≡ false
 or-right true b e = absurd (true≢false e)
 or-right false b e = e
 
-pub or-first : (a b : Bool) → a ≡ true → a || b ≡ true
-or-first a b e = rw e
-
-pub or-second : (a b c : Bool) → a ≡ false → b ≡ c → a || b ≡ c
-or-second a b c e h = rw e h
-
 pub and-left : (a b : Bool) → a && b ≡ true → a ≡ true
 and-left true b e = refl
 and-left false b e = e

@@ -1,7 +1,7 @@
 -- Words of which each may follow the one before it are in the order of the sheet: the spans, the arcs in pairs, and then region words alone.
 -- By recursion on the words from the back of the order to its front. Assumes nothing.
 use Prim.Native.Nat.{ℕ, zero, suc, _+_, _-_, _*_, _/_, _<_, _≤_}
-use mathlib.Core.Bool.{Bool, true, false, cond, not, _&&_, _||_}
+use mathlib.Core.Bool.{Bool, true, false, not, _&&_, _||_}
 use mathlib.Core.List.{List}
 use mathlib.Core.Logic.{_≢_, _⊎_, inl, inr, ⊎-elim}
 use mathlib.Core.Path.{_≡_, refl, sym, ap, _∙_}
@@ -12,7 +12,7 @@ use Rattle.indices.specs.Tests.{any, lead}
 use Rattle.indices.proofs.Steps.{eq-or-ne}
 use Rattle.indices.proofs.Tests.{any-ext, any-front, lead-ext, and-left, and-right}
 use Rattle.sheet.specs.Words.{words, kind}
-use Rattle.sheet.specs.Sections.{isSpan, spansFrom, spanCount, isArc, arcsFrom, arcsAt, arcCount, regionsAt, regionWords}
+use Rattle.sheet.specs.Sections.{isSpan, spansFrom, spanCount, isArc, arcsFrom, arcsAt, arcCount, regionWords}
 use Rattle.sheet.proofs.Bounds.{region-words, region-kind}
 use Rattle.refusals.specs.Form.{noRegionWord, outOfOrder}
 use Rattle.judge.specs.Kinds.{regionKind, arcOrRegion, mayFollow, mayEnd, followOn}

@@ -1,7 +1,7 @@
 -- What an accepted sheet ensures: none of the refusals applies to it. Assumes nothing.
 use Prim.Native.Nat.{ℕ, suc, _<_, _≤_}
 use mathlib.Core.Bool.{Bool, true, false, _||_}
-use mathlib.Core.List.{List, [], _∷_, _++_}
+use mathlib.Core.List.{List}
 use mathlib.Core.Path.{_≡_}
 use native.Mathlib.Omega.{arith}
 use lib.Dec.{eqb}
@@ -13,7 +13,7 @@ use Rattle.sheet.specs.Sections.{nodeCount, source, spanCount, span, arcCount, 
 use Rattle.sheet.specs.Arcs.{tail, head, arcLength}
 use Rattle.sheet.specs.Heights.{Nesting}
 use Rattle.sheet.specs.Regions.{regionCount, leafWord, arcWord, isLeaf, parent, height}
-use Rattle.sheet.specs.Answer.{accepted, lowest}
+use Rattle.sheet.specs.Answer.{accepted}
 use Rattle.sheet.proofs.Lowest.{clear-at}
 use Rattle.sheet.proofs.Heights.{child-lower, root-highest}
 use Rattle.refusals.specs.Form.{outOfOrder, nodesOutside, sourceOutside, spansOutside, tooMany}

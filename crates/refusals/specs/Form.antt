@@ -7,7 +7,7 @@ use lib.Dec.{ltb, leb, eqb}
 use Rattle.indices.specs.Tests.{any}
 use Rattle.sheet.specs.Limits.{mostBytes, mostNodes, mostSpans, mostSpan, mostArcs, mostRegionWords}
 use Rattle.sheet.specs.Words.{words, kind, payload}
-use Rattle.sheet.specs.Sections.{nodeCount, source, spanCount, span, arcsAt, arcCount, regionWords}
+use Rattle.sheet.specs.Sections.{nodeCount, source, spanCount, span, arcCount, regionWords}
 use Rattle.sheet.specs.Arcs.{endsWord}
 use Rattle.sheet.specs.Regions.{leafWord}
 

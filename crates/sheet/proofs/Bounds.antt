@@ -9,7 +9,7 @@ use lib.Seq.{take-all, getD-drop}
 use Rattle.indices.proofs.Tests.{lead-le}
 use Rattle.sheet.specs.declared.Sections.{Sections}
 use Rattle.sheet.specs.Words.{words, word, kindOf, kind}
-use Rattle.sheet.specs.Sections.{Located, isSpan, isArc, spansFrom, arcsFrom, spanCount, arcsAt, arcCount, regionsAt, regionWords}
+use Rattle.sheet.specs.Sections.{Located, isSpan, isArc, spansFrom, arcsFrom, arcsAt, arcCount, regionsAt, regionWords}
 
 pub spans-le : (b : List ℕ) (i : ℕ) → spansFrom b i ≤ words b - i
 unfolding spansFrom

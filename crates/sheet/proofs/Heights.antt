@@ -1,7 +1,7 @@
 -- Heights in a nesting whose parents fall: the rule as an equation without a bound on depth, and that a parent is higher than its child. Assumes nothing.
 use Prim.Native.Nat.{ℕ, zero, suc, _+_, _<_, _≤_}
 use mathlib.Core.Bool.{Bool, true, false, cond}
-use mathlib.Core.Path.{_≡_, refl, sym, ap, _∙_}
+use mathlib.Core.Path.{_≡_, refl, ap, _∙_}
 use borrow.Author.Tests.{eqb-true, eq-eqb}
 use native.Mathlib.Nat.{le-refl}
 use native.Mathlib.Omega.{arith}
