@@ -1,0 +1,93 @@
+-- `build_tree` meets its contract: the places of the tree are decided from the last one down. Assumes nothing.
+use Prim.Native.Nat.{ℕ}
+use mathlib.Core.Path.{_≡_, sym, _∙_}
+use borrow.Author.Needs.{needs}
+use native.Mathlib.Omega.{arith}
+use Rattle.procedure.specs.Division.{Division}
+use Rattle.queue.specs.Rows.{field}
+use Rattle.queue.proofs.Repair.{same-regions, Building, building-start, building-bounds, building-step, building-end}
+use Rattle.queue.proofs.Reading.{row-in}
+use Rattle.queue.proofs.build_tree.Statement.{statement}
+use Rattle.queue.proofs.build_tree.Tie as tie
+
+abbrev Inv-loop : tie.InvT-loop
+Inv-loop rows keys winners₀ start place₀ winners place = (d : Division) (r : ℕ) → start ≡ field rows r 2 → Building d r rows keys winners₀ place₀ → Building d r rows keys winners place
+
+abbrev μ-loop : tie.MeasureT-loop
+μ-loop rows keys winners₀ start place₀ winners place = place
+
+field-requires : tie.Need-field-requires Inv-loop μ-loop
+field-requires c κs =
+    let pre = c .before .before .before .pre in
+    (omega arith, row-in _ (pre .1 .laid .planned .counted) (pre .2))
+
+cast-start : tie.Need-cast-start Inv-loop μ-loop
+cast-start c = search needs
+
+field-requires-2 : tie.Need-field-requires-2 Inv-loop μ-loop
+field-requires-2 c κs =
+    let pre = c .before .before .before .before .pre in
+    (omega arith, row-in _ (pre .1 .laid .planned .counted) (pre .2))
+
+cast-place : tie.Need-cast-place Inv-loop μ-loop
+cast-place c = search needs
+
+loop-holds : tie.Need-loop-holds Inv-loop μ-loop
+loop-holds c = λ d r row B. B
+
+sub-place : tie.Need-sub-place Inv-loop μ-loop
+sub-place c = search needs
+
+decide-requires : tie.Need-decide-requires Inv-loop μ-loop
+decide-requires c κs =
+    let earlier = c .before .before .before .before in
+    let pre = earlier .before .before .before .before .pre in
+    let field = earlier .field in
+    let field2 = c .before .before .before .field2 in
+    let b = building-bounds (c .before .before .loop .inv (pre .0) _ (field .ensures) (building-start _ _ (pre .1) (pre .2) (field2 .ensures))) _ (field .ensures) (c .before .loop-test .taken) in (b .second, b .named)
+
+loop-less : tie.Need-loop-less Inv-loop μ-loop
+loop-less c =
+    let loop-test = c .before .before .before .before .loop-test in
+    omega (arith, loop-test .taken)
+
+loop-again : tie.Need-loop-again Inv-loop μ-loop
+loop-again c =
+    let earlier = c .before .before .before .before in
+    let loop = earlier .before .loop in
+    let loop-test = earlier .loop-test in
+    λ d r row B. building-step (loop .inv d r row B) _ row (loop-test .taken) _ (c .before .before .decide .ensures d)
+
+same-length : tie.Need-same-length Inv-loop μ-loop
+same-length c =
+    let earlier = c .before .before .before .before in
+    let pre = earlier .before .before .before .pre in
+    let field = c .before .before .before .field in
+    (c .before .loop .inv (pre .0) _ (field .ensures) (building-start _ _ (pre .1) (pre .2) (c .before .before .field2 .ensures))) .valid .laid .seated .all ∙ sym (pre .1 .laid .seated .all)
+
+returns : tie.Need-returns Inv-loop μ-loop
+returns c =
+    let earlier = c .before .before .before .before in
+    let pre = earlier .before .before .before .pre in
+    let field = c .before .before .before .field in
+    λ d B.
+    let inside = same-regions (B .laid .planned .counted) (pre .1 .laid .planned .counted) in
+    building-end (c .before .loop .inv d _ (field .ensures) (building-start _ _ B (omega (arith, pre .2)) (c .before .before .field2 .ensures))) (c .loop-test .left)
+
+pub build-tree-spec : {M : Type 1} → statement M
+build-tree-spec =
+    tie.close
+    (tie.spec
+    Inv-loop
+    μ-loop
+    field-requires
+    cast-start
+    field-requires-2
+    cast-place
+    loop-holds
+    sub-place
+    decide-requires
+    loop-less
+    loop-again
+    same-length
+    returns)
