@@ -1,19 +1,17 @@
 -- Links: each leads to the next index with the same value, so a walk along them meets all indices with one value, in order. Assumes nothing.
-use Prim.Native.Nat.{ℕ, zero, suc, _+_, _*_, _-_, _/_, _≤_, _<_}
-use mathlib.Core.Bool.{Bool, true, false}
+use Prim.Native.Nat.{ℕ, zero, suc, _+_, _*_, _-_, _≤_, _<_}
 use mathlib.Core.Path.{_≡_, refl, sym, ap, _∙_}
 use mathlib.Core.Logic.{_≢_, _⊎_, inl, inr, ⊎-elim}
 use mathlib.Core.List.{List}
 use native.Mathlib.Nat.{le-refl, le-trans}
 use native.Mathlib.Numerals.{add-one}
 use native.Mathlib.Omega.{arith}
-use borrow.Author.Tests.{eq-eqb, ne-eqb, eqb-true, eqb-false}
+use borrow.Author.Tests.{eq-eqb, ne-eqb}
 use lib.ListN.{length, set, replicate, length-set}
 use lib.Seq.{getD-set-other}
-use lib.Dec.{eqb}
 use Rattle.indices.specs.Columns.{at}
-use Rattle.indices.specs.Steps.{if_then_else_, upTo}
-use Rattle.indices.proofs.Steps.{eq-or-ne, true-or-false, set-elim}
+use Rattle.indices.specs.Steps.{upTo}
+use Rattle.indices.proofs.Steps.{eq-or-ne, set-elim}
 use Rattle.procedure.specs.Division.{Division}
 use Rattle.procedure.specs.State.{Queues}
 use Rattle.procedure.specs.Queues.{updateArc, updateOutgoing}

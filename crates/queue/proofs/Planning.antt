@@ -16,7 +16,7 @@ use Rattle.procedure.specs.Division.{Division, regions, parent, isChild}
 use Rattle.procedure.specs.WellFormed.{DivisionOk}
 use Rattle.theory.proofs.Chosen.{Child, parent-child}
 use Rattle.queue.specs.Rows.{field, rowCount}
-use Rattle.queue.specs.Trees.{childCount, lowerSiblings, treeStart, seat, place, ParentsOf, Counted, Ranked, Started, Planned, Seated, LaidOut}
+use Rattle.queue.specs.Trees.{childCount, lowerSiblings, treeStart, seat, place, ParentsOf, Counted, Ranked, Started, LaidOut}
 use Rattle.queue.proofs.Seats.{child-passes, other-fails, start-next, start-first, tree-room, seat-high, seat-one}
 use Rattle.queue.proofs.Trees.{place-in, place-same, place-other, named-set}
 use Rattle.queue.proofs.Filled.{filled-at, filled-length}

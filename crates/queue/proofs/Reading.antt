@@ -1,7 +1,7 @@
 -- What the code reads out of valid queues: the first-chosen child and the smallest key. Assumes nothing.
-use Prim.Native.Nat.{ℕ, _+_, _*_, _≤_, _<_}
+use Prim.Native.Nat.{ℕ, _+_, _<_}
 use mathlib.Core.Bool.{false}
-use mathlib.Core.Path.{_≡_, refl, sym, ap, _∙_}
+use mathlib.Core.Path.{_≡_, sym, ap, _∙_}
 use mathlib.Core.Logic.{_≢_}
 use mathlib.Core.List.{List}
 use native.Mathlib.Omega.{arith}
@@ -9,11 +9,10 @@ use lib.ListN.{length}
 use Rattle.indices.specs.Columns.{at}
 use Rattle.sheet.specs.Words.{top}
 use Rattle.procedure.specs.Division.{Division, regions, isLeaf}
-use Rattle.procedure.specs.State.{Queues}
 use Rattle.procedure.specs.Queues.{minItem, minKey}
 use Rattle.theory.proofs.Chosen.{minItem-first, minKey-item, minKey-none}
 use Rattle.queue.specs.Rows.{field, rowCount}
-use Rattle.queue.specs.Trees.{childCount, treeStart, Counted, QueuesOk}
+use Rattle.queue.specs.Trees.{childCount, Counted, QueuesOk}
 use Rattle.queue.proofs.Seats.{tree-room}
 use Rattle.queue.proofs.Trees.{minItem-place, minItem-childless}
 

@@ -1,9 +1,8 @@
 -- The loops over a tree's places, which are decided one by one: a repair from a place up, a tree built from its last place down. Assumes nothing.
-use Prim.Native.Nat.{ℕ, suc, _+_, _*_, _/_, _-_, _≤_, _<_}
-use mathlib.Core.Path.{_≡_, refl, sym, ap, _∙_}
+use Prim.Native.Nat.{ℕ, _+_, _*_, _/_, _-_, _≤_, _<_}
+use mathlib.Core.Path.{_≡_, refl, ap, _∙_}
 use mathlib.Core.Logic.{_≢_, _⊎_, inl, inr, ⊎-elim}
 use mathlib.Core.List.{List}
-use native.Mathlib.Nat.{le-refl}
 use native.Mathlib.Omega.{arith}
 use lib.ListN.{length, set}
 use Rattle.indices.specs.Columns.{at}
@@ -11,9 +10,9 @@ use Rattle.indices.proofs.Steps.{eq-or-ne, lt-or-le}
 use Rattle.procedure.specs.Division.{Division, regions, parent}
 use Rattle.theory.proofs.Chosen.{Child}
 use Rattle.queue.specs.Rows.{field}
-use Rattle.queue.specs.Trees.{childCount, treeStart, seat, Decided, Counted, LaidOut, QueuesOk, ValidBelow}
+use Rattle.queue.specs.Trees.{childCount, treeStart, Decided, Counted, LaidOut, QueuesOk, ValidBelow}
 use Rattle.queue.proofs.Seats.{tree-room, seat-low, seat-high, parent-in}
-use Rattle.queue.proofs.Trees.{Above, here, above-le, above-cases, OpenAbove, ValidBut, valid-all, valid-weaken, decided, written}
+use Rattle.queue.proofs.Trees.{here, above-le, above-cases, OpenAbove, ValidBut, valid-all, decided, written}
 
 -- rows are for one number of regions
 pub same-regions : {d d′ : Division} {rows : List ℕ} → Counted d rows → Counted d′ rows → regions d ≡ regions d′

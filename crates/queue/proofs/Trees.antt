@@ -10,11 +10,11 @@ use lib.ListN.{length, set, length-set}
 use lib.Seq.{getD-set-same, getD-set-other}
 use Rattle.indices.specs.Columns.{at}
 use Rattle.indices.proofs.Steps.{eq-or-ne, lt-or-le, set-elim}
-use Rattle.procedure.specs.Division.{Division, regions, parent, isLeaf}
+use Rattle.procedure.specs.Division.{Division, regions, parent}
 use Rattle.procedure.specs.Queues.{before, minItem}
 use Rattle.theory.proofs.Order.{before-irreflexive, before-transitive}
-use Rattle.theory.proofs.Chosen.{Child, First, minItem-first, first-one}
-use Rattle.queue.specs.Trees.{childCount, treeStart, seat, place, earlier, Wins, Planned, Seated, LaidOut, QueuesOk}
+use Rattle.theory.proofs.Chosen.{Child, minItem-first, first-one}
+use Rattle.queue.specs.Trees.{childCount, treeStart, seat, place, earlier, Wins, Seated, LaidOut, QueuesOk}
 use Rattle.queue.proofs.Pairs.{earlier-either, earlier-first, earlier-second, earlier-same}
 use Rattle.queue.proofs.Seats.{tree-room, trees-apart, seat-low, seat-high, place-child}
 
@@ -80,15 +80,6 @@ valid-all B none = record {
   laid = B .laid;
   keyed = B .keyed;
   wins = λ r p pos l. ⊎-elim (λ w. w) (λ o. absurd (none r p pos l o)) (B .rest r p pos l);
-}
-
--- more places are open
-pub valid-weaken : {d : Division} {rows keys winners : List ℕ} {Open Open′ : ℕ → ℕ → Type 0} → ValidBut d rows keys winners Open
-    → ((r p : ℕ) → 0 < p → p < childCount d r → Open r p → Open′ r p) → ValidBut d rows keys winners Open′
-valid-weaken B f = record {
-  laid = B .laid;
-  keyed = B .keyed;
-  rest = λ r p pos l. ⊎-elim (λ w. inl w) (λ o. inr (f r p pos l o)) (B .rest r p pos l);
 }
 
 -- place p of r's tree is decided again

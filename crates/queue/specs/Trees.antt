@@ -11,7 +11,6 @@ use Rattle.indices.specs.Columns.{at}
 use Rattle.indices.specs.Steps.{if_then_else_}
 use Rattle.indices.specs.Tests.{count}
 use Rattle.procedure.specs.Division.{Division, regions, parent, isLeaf, isChild}
-use Rattle.procedure.specs.State.{Queues}
 use Rattle.procedure.specs.Queues.{before, minKey}
 use Rattle.queue.specs.Rows.{field}
 

@@ -3,7 +3,6 @@ use Prim.Native.Nat.{ℕ, _-_, _<_}
 use mathlib.Core.Path.{sym, ap, _∙_}
 use mathlib.Core.List.{List}
 use native.Mathlib.Omega.{arith}
-use Rattle.indices.specs.Columns.{at}
 use Rattle.procedure.specs.Division.{Division, regions}
 use Rattle.queue.specs.Rows.{field}
 use Rattle.queue.specs.Trees.{Ranked}
@@ -22,7 +21,7 @@ abbrev μ-loop : tie.MeasureT-loop
 abbrev entry : (c : tie.In-loop Inv-loop μ-loop) → tie.Start Inv-loop μ-loop
 entry c = c .before .before .before
 
--- the invariant, of the division at hand
+-- the invariant for the given division
 now : (c : tie.In-loop Inv-loop μ-loop) → Laying (entry c .pre .0) (c .before .loop .rows) (c .before .loop .start) (c .before .loop .r)
 now c = c .before .loop .inv (entry c .pre .0) (entry c .pre .1)
 
