@@ -227,9 +227,10 @@ fn count_children(parents: &[u16], rows: &mut [u16])
         let i = c as usize;
         let parent = Region(parents[i]);
         let lower = children_of(rows, parent);
+        let counted = lower + 1;
         set_field(rows, c, PARENT, parent.0);
         set_field(rows, c, SEAT, lower);
-        set_field(rows, parent.0, CHILDREN, lower + 1);
+        set_field(rows, parent.0, CHILDREN, counted);
         c += 1;
     }
 }
@@ -285,10 +286,10 @@ fn build_tree(rows: &[u16], keys: &[u32], winners: &mut [u16], r: Region)
         → ValidBelow d (now (rows .entry)) (now (keys .entry)) (now (winners .exit)) (r .0 + 1)) ⌝ }
 {
     let start = start_of(rows, r) as usize;
-    let mut place = children_of(rows, r) as usize;
-    while 1 < place {
-        place -= 1;
-        decide(keys, winners, start, place);
+    let mut rest = children_of(rows, r) as usize;
+    while 1 < rest {
+        rest -= 1;
+        decide(keys, winners, start, rest);
     }
 }
 
@@ -328,7 +329,8 @@ pub fn link(arcs: &mut [u16], firsts: &mut [u16])
         a -= 1;
         let tail = tail_of(arcs, Arc(a));
         let v = tail.0 as usize;
-        set_field(arcs, a, NEXT, firsts[v]);
+        let next = firsts[v];
+        set_field(arcs, a, NEXT, next);
         firsts[v] = a;
     }
 }

@@ -11,11 +11,11 @@ use Rattle.queue.proofs.build_tree.Statement.{statement}
 use Rattle.queue.proofs.build_tree.Tie as tie
 
 abbrev Inv-loop : tie.InvT-loop
-Inv-loop rows keys winners₀ start place₀ winners place =
-    (d : Division) (r : ℕ) → start ≡ field rows r 2 → Building d r rows keys winners₀ place₀ → Building d r rows keys winners place
+Inv-loop rows keys winners₀ start rest₀ winners rest =
+    (d : Division) (r : ℕ) → start ≡ field rows r 2 → Building d r rows keys winners₀ rest₀ → Building d r rows keys winners rest
 
 abbrev μ-loop : tie.MeasureT-loop
-μ-loop rows keys winners₀ start place₀ winners place = place
+μ-loop rows keys winners₀ start rest₀ winners rest = rest
 
 start-of-requires : tie.Need-start-of-requires Inv-loop μ-loop
 start-of-requires c κs =
@@ -30,14 +30,14 @@ children-of-requires c κs =
     let pre = c .before .before .before .before .pre in
     row-in _ (pre .1 .laid .planned .counted) (pre .2)
 
-cast-place : tie.Need-cast-place Inv-loop μ-loop
-cast-place c = search needs
+cast-rest : tie.Need-cast-rest Inv-loop μ-loop
+cast-rest c = search needs
 
 loop-holds : tie.Need-loop-holds Inv-loop μ-loop
 loop-holds c = λ d r row B. B
 
-sub-place : tie.Need-sub-place Inv-loop μ-loop
-sub-place c = search needs
+sub-rest : tie.Need-sub-rest Inv-loop μ-loop
+sub-rest c = search needs
 
 decide-requires : tie.Need-decide-requires Inv-loop μ-loop
 decide-requires c κs =
@@ -88,9 +88,9 @@ build-tree-spec =
     start-of-requires
     cast-start
     children-of-requires
-    cast-place
+    cast-rest
     loop-holds
-    sub-place
+    sub-rest
     decide-requires
     loop-less
     loop-again

@@ -45,11 +45,11 @@ loop-holds c =
 cast-i : tie.Need-cast-i Inv-loop μ-loop
 cast-i c = search needs
 
-mul-set-field : tie.Need-mul-set-field Inv-loop μ-loop
-mul-set-field c = search needs
+mul-t14 : tie.Need-mul-t14 Inv-loop μ-loop
+mul-t14 c = search needs
 
-shared-slice-read-set-field : tie.Need-shared-slice-read-set-field Inv-loop μ-loop
-shared-slice-read-set-field c = search needs
+shared-slice-read-t16 : tie.Need-shared-slice-read-t16 Inv-loop μ-loop
+shared-slice-read-t16 c = search needs
 
 children-of-requires : tie.Need-children-of-requires Inv-loop μ-loop
 children-of-requires c κs =
@@ -58,6 +58,15 @@ children-of-requires c κs =
     let pre = early .before .before .pre in
     let pass = c .before .before in
     count-row (pre .1) (now pass) (inside pass)
+
+add-counted : tie.Need-add-counted Inv-loop μ-loop
+add-counted c =
+    let earlier = c .before .before .before .before in
+    let early = earlier .before .before .before .before in
+    let pre = early .before .before .before .pre in
+    let pass = c .before .before .before in
+    let b = count-bounds (pre .1) (now pass) (inside pass) _ (c .children-of .ensures) in
+    omega (arith, b .fits)
 
 set-field-requires : tie.Need-set-field-requires Inv-loop μ-loop
 set-field-requires c κs =
@@ -79,17 +88,6 @@ set-field-requires-2 c κs =
     let pass = early in
     let b = count-bounds (pre .1) (now pass) (inside pass) _ (children-of .ensures) in
     (omega arith, omega (arith, b .row, set-field .kept))
-
-add-set-field : tie.Need-add-set-field Inv-loop μ-loop
-add-set-field c =
-    let earlier = c .before .before .before .before in
-    let early = earlier .before .before .before .before in
-    let first = early .before .before .before .before in
-    let pre = first .before .before .before .before .before .before .before .before .pre in
-    let children-of = early .before .children-of in
-    let pass = first in
-    let b = count-bounds (pre .1) (now pass) (inside pass) _ (children-of .ensures) in
-    omega (arith, b .fits)
 
 set-field-requires-3 : tie.Need-set-field-requires-3 Inv-loop μ-loop
 set-field-requires-3 c κs =
@@ -153,12 +151,12 @@ count-children-spec =
     cast-n
     loop-holds
     cast-i
-    mul-set-field
-    shared-slice-read-set-field
+    mul-t14
+    shared-slice-read-t16
     children-of-requires
+    add-counted
     set-field-requires
     set-field-requires-2
-    add-set-field
     set-field-requires-3
     add-c
     loop-less

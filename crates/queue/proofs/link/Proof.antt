@@ -38,24 +38,23 @@ tail-of-requires c κs =
 cast-v : tie.Need-cast-v Inv-loop μ-loop
 cast-v c = search needs
 
-mul-set-field : tie.Need-mul-set-field Inv-loop μ-loop
-mul-set-field c =
+mul-next : tie.Need-mul-next Inv-loop μ-loop
+mul-next c =
     let earlier = c .before .before .before .before in
     let early = earlier .before .before .before .before in
+    let loop = earlier .loop in
+    let loop-test = c .before .before .before .loop-test in
+    let good = early .before .before .before .good in
+    let b = link-bounds (loop .inv) (loop-test .taken) in
+    omega (arith, b .tail-in, c .before .tail-of .ensures, good)
+
+slice-read-next : tie.Need-slice-read-next Inv-loop μ-loop
+slice-read-next c =
+    let earlier = c .before .before .before .before in
     let loop = earlier .before .loop in
     let loop-test = earlier .loop-test in
-    let good = early .before .before .before .before .good in
     let b = link-bounds (loop .inv) (loop-test .taken) in
-    omega (arith, b .tail-in, c .before .before .tail-of .ensures, good)
-
-slice-read-set-field : tie.Need-slice-read-set-field Inv-loop μ-loop
-slice-read-set-field c =
-    let earlier = c .before .before .before .before in
-    let loop = earlier .before .before .loop in
-    let loop-test = earlier .before .loop-test in
-    let tail-of = c .before .before .before .tail-of in
-    let b = link-bounds (loop .inv) (loop-test .taken) in
-    rw (tail-of .ensures) (b .tail-in)
+    rw (c .before .before .tail-of .ensures) (b .tail-in)
 
 set-field-requires : tie.Need-set-field-requires Inv-loop μ-loop
 set-field-requires c κs =
@@ -130,8 +129,8 @@ link-spec =
     sub-a
     tail-of-requires
     cast-v
-    mul-set-field
-    slice-read-set-field
+    mul-next
+    slice-read-next
     set-field-requires
     mul-firsts
     slice-write-firsts
