@@ -1,6 +1,7 @@
 -- `min_key` meets its contract: the smallest key is that of the first-chosen child. Assumes nothing.
 use mathlib.Core.Path.{sym}
 use borrow.Author.Needs.{needs}
+use native.Mathlib.Omega.{arith}
 use Rattle.sheet.specs.Words.{top}
 use Rattle.queue.proofs.Reading.{item-in, key-none, key-some}
 use Rattle.queue.proofs.min_key.Statement.{statement}
@@ -29,7 +30,8 @@ shared-slice-read-result c =
     let pre = earlier .before .before .before .before .pre in
     let min-item = earlier .min-item in
     let keys = args .keys .now in
-    item-in (pre .0) keys keys 0 _ _ (min-item .ensures (pre .0) keys (pre .1)) (pre .1 .keyed) (c .before .before .if1 .left)
+    let item = item-in (pre .0) keys keys 0 _ _ (min-item .ensures (pre .0) keys (pre .1)) (pre .1 .keyed) (c .before .before .if1 .left) in
+    omega (arith, pre .1 .keyed, pre .2)
 
 returns-2 : tie.Need-returns-2
 returns-2 c =

@@ -69,7 +69,7 @@ decide-requires c κs =
     let over = parent-of .ensures (pre .0) (pre .1 .laid .planned .counted) in
     let begin = repair-start _ _ _ _ (pre .1) (pre .2) (pre .3) over (seat-of .ensures) in
     let now = loop .inv (pre .0) (parent-of .result .0) (start-of .ensures) begin in
-    let b = repair-bounds now _ (start-of .ensures) (c .before .before .loop-test .taken) in
+    let b = repair-bounds now _ (start-of .ensures) (omega (arith, c .before .before .loop-test .taken)) in
     (b .second, b .named)
 
 loop-less : tie.Need-loop-less Inv-loop μ-loop
@@ -83,7 +83,7 @@ loop-again c =
     let earlier = c .before .before .before .before in
     let loop = earlier .before .before .loop in
     let loop-test = earlier .before .loop-test in
-    λ d r row R. repair-step (loop .inv d r row R) _ row (loop-test .taken) _ (c .before .before .decide .ensures d)
+    λ d r row R. repair-step (loop .inv d r row R) _ row (omega (arith, loop-test .taken)) _ (c .before .before .decide .ensures d)
 
 same-length : tie.Need-same-length Inv-loop μ-loop
 same-length c = simp length-set
@@ -113,7 +113,7 @@ returns c =
           let counted = Q .laid .planned .counted in
           let inside = same-regions counted (pre .1 .laid .planned .counted) in
           let begin = repair-start _ _ _ _ Q (pre .2) (omega (arith, pre .3)) (parent-of .ensures d counted) (c .before .before .seat-of .ensures) in
-          repair-end (c .before .loop .inv d (parent-of .result .0) (start-of .ensures) begin) (c .loop-test .left);
+          repair-end (c .before .loop .inv d (parent-of .result .0) (start-of .ensures) begin) (omega (arith, c .loop-test .left));
     }
 
 pub write-spec : {M : Type 1} → statement M
