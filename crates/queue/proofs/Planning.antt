@@ -26,6 +26,15 @@ field-elim : (P : ℕ → Type 0) (rows : List ℕ) (i j k x : ℕ) → 4 * i + 
     → P (field (set rows (4 * i + k) x) j k)
 field-elim P rows i j k x l f g = set-elim P rows (4 * i + k) (4 * j + k) x 0 l (λ e. f (omega arith)) (λ n. g (λ e. n (omega arith)))
 
+-- a store in one of the last two columns leaves parents and numbers of children as they were
+counted-set : {d : Division} {rows : List ℕ} (i k x : ℕ) → 1 < k → k < 4 → Counted d rows → Counted d (set rows (4 * i + k) x)
+counted-set {d} {rows} i k x l h C = record {
+  numbered = C .numbered;
+  all = simp length-set (C .all);
+  parents = λ c pos m. getD-set-other rows (4 * i + k) (4 * c + 0) x 0 (omega arith) ∙ C .parents c pos m;
+  counts = λ r m. getD-set-other rows (4 * i + k) (4 * r + 1) x 0 (omega arith) ∙ C .counts r m;
+}
+
 -- CHILDREN COUNTED
 
 -- the regions below c are counted
@@ -41,7 +50,7 @@ pub counting-start : {d : Division} {parents : List ℕ} (rows₀ rows : List �
     → rows ≡ replicate (length rows₀) 0 → Counting d rows 1
 counting-start {d} rows₀ rows P e f = record {
   above = omega arith;
-  within = P .root;
+  within = P .numbered .root;
   all = filled-length rows₀ rows 0 f ∙ e;
   parents = λ b l m. absurd (omega arith);
   counts = λ r l. filled-at rows₀ rows 0 f (4 * r + 1) (omega arith) ∙ sym (count-out (isChild d r) 0 refl ∙ count-none (isChild d r));
@@ -63,7 +72,7 @@ module _ {d : Division} {parents rows : List ℕ} {c : ℕ} (P : ParentsOf d par
   up-is = P .same c (C .above) l
 
   up-in : up < regions d
-  up-in = omega (arith, up-is, P .lower c (C .above) l)
+  up-in = omega (arith, up-is, P .numbered .lower c (C .above) l)
 
   pub count-row : at parents c < rowCount rows
   unfolding up
@@ -80,7 +89,7 @@ module _ {d : Division} {parents rows : List ℕ} {c : ℕ} (P : ParentsOf d par
     count-bounds = record {
       row = omega (arith, C .all);
       row-parent = count-row;
-      fits = omega (arith, lower-is, count-le (isChild d (parent d c)) c, P .few);
+      fits = omega (arith, lower-is, count-le (isChild d (parent d c)) c, P .numbered .few);
     }
 
     rows1 : List ℕ
@@ -133,9 +142,7 @@ counting-end {d} {parents} {rows} {c} P C l =
     record {
       counted =
           record {
-            root = P .root;
-            few = P .few;
-            lower = P .lower;
+            numbered = P .numbered;
             all = C .all;
             parents = λ b pos m. C .parents b pos (omega arith);
             counts = λ r m. C .counts r m ∙ ap (count (isChild d r)) e;
@@ -156,39 +163,20 @@ pub laying-start : {d : Division} {rows : List ℕ} → Ranked d rows → Laying
 laying-start {d} R = record { within = omega arith; ranked = R; next = sym (start-first d); starts = λ q l. absurd (omega arith) }
 
 module _ {d : Division} {rows : List ℕ} {start r : ℕ} (L : Laying d rows start r) (l : r < regions d) where
-  stored : List ℕ
-  stored = set rows (4 * r + 2) start
-
-  ranked-stored : Ranked d stored
-  unfolding stored
-  ranked-stored =
-      let R = L .ranked in
-      let C = R .counted in
-      record {
-        counted =
-            record {
-              root = C .root;
-              few = C .few;
-              lower = C .lower;
-              all = simp length-set (C .all);
-              parents = λ c pos m. getD-set-other rows (4 * r + 2) (4 * c + 0) start 0 (omega arith) ∙ C .parents c pos m;
-              counts = λ q m. getD-set-other rows (4 * r + 2) (4 * q + 1) start 0 (omega arith) ∙ C .counts q m;
-            };
-        ranks = λ c pos m. getD-set-other rows (4 * r + 2) (4 * c + 3) start 0 (omega arith) ∙ R .ranks c pos m;
-      }
-
-  pub laying-next : (x : ℕ) → x ≡ field (set rows (4 * r + 2) start) r 1 → start + 2 * x ≡ treeStart d (suc r)
-  unfolding stored
-  laying-next x e = omega (arith, e, ranked-stored .counted .counts r l, start-next d r, L .next)
+  laying-next : (x : ℕ) → x ≡ field (set rows (4 * r + 2) start) r 1 → start + 2 * x ≡ treeStart d (suc r)
+  laying-next x e = omega (arith, e, counted-set r 2 start (omega arith) (omega arith) (L .ranked .counted) .counts r l, start-next d r, L .next)
 
   pub laying-fits : (x : ℕ) → x ≡ field (set rows (4 * r + 2) start) r 1 → start + 2 * x < 65536
-  laying-fits x e = omega (arith, laying-next x e, start-next d r, tree-room d r, L .ranked .counted .few)
+  laying-fits x e = omega (arith, laying-next x e, start-next d r, tree-room d r, L .ranked .counted .numbered .few)
 
   pub laying-step : (x : ℕ) → x ≡ field (set rows (4 * r + 2) start) r 1 → Laying d (set rows (4 * r + 2) start) (start + 2 * x) (r + 1)
-  unfolding stored
   laying-step x e = rw (add-one r) (record {
     within = l;
-    ranked = ranked-stored;
+    ranked =
+        record {
+          counted = counted-set r 2 start (omega arith) (omega arith) (L .ranked .counted);
+          ranks = λ c pos m. getD-set-other rows (4 * r + 2) (4 * c + 3) start 0 (omega arith) ∙ L .ranked .ranks c pos m;
+        };
     next = laying-next x e;
     starts =
         λ q m.
@@ -217,14 +205,14 @@ pub seating-start : {d : Division} {rows : List ℕ} (winners₀ winners : List 
     → winners ≡ replicate (length winners₀) 0 → Seating d rows winners 1
 seating-start winners₀ winners S e f = record {
   above = omega arith;
-  within = S .ranked .counted .root;
+  within = S .ranked .counted .numbered .root;
   counted = S .ranked .counted;
   starts = S .starts;
   seats = λ b pos m. absurd (omega arith);
   ranks = λ b l m. S .ranked .ranks b (omega arith) m;
   wide = filled-length winners₀ winners 0 f ∙ e;
   named =
-      λ i l. omega (arith, filled-at winners₀ winners 0 f i (omega (arith, filled-length winners₀ winners 0 f)), S .ranked .counted .root);
+      λ i l. omega (arith, filled-at winners₀ winners 0 f i (omega (arith, filled-length winners₀ winners 0 f)), S .ranked .counted .numbered .root);
   stands = λ b pos m. absurd (omega arith);
 }
 
@@ -239,7 +227,7 @@ module _ {d : Division} {rows winners : List ℕ} {c : ℕ} (S : Seating d rows 
   child = parent-child d c (S .above) l
 
   parent-low : parent d c < regions d
-  parent-low = omega (arith, S .counted .lower c (S .above) l)
+  parent-low = omega (arith, S .counted .numbered .lower c (S .above) l)
 
   pub seat-row : up < rowCount rows
   seat-row = omega (arith, parent-is, parent-low, S .counted .all)
@@ -251,7 +239,7 @@ module _ {d : Division} {rows winners : List ℕ} {c : ℕ} (S : Seating d rows 
     p-is = omega (arith, ec, er, ap (λ (r : ℕ). field rows r 1) parent-is, S .counted .counts (parent d c) parent-low, S .ranks c (le-refl c) l)
 
     pub seat-fits : children + rank < 65536
-    seat-fits = omega (arith, p-is, seat-high d child, tree-room d (parent d c), S .counted .few)
+    seat-fits = omega (arith, p-is, seat-high d child, tree-room d (parent d c), S .counted .numbered .few)
 
     module _ (start : ℕ) (es : start ≡ field rows up 2) where
       i-is : start + (children + rank) ≡ treeStart d (parent d c) + seat d c
@@ -260,7 +248,7 @@ module _ {d : Division} {rows winners : List ℕ} {c : ℕ} (S : Seating d rows 
       pub seat-bounds : SeatBounds rows winners c (start + (children + rank))
       seat-bounds =
           let inside : start + (children + rank) < length winners = rw i-is (place-in d winners (S .wide) (parent d c) (seat d c) 0 (seat-high d child)) in
-          record { row = omega (arith, S .counted .all); fits = omega (arith, S .wide, S .counted .few); inside = inside }
+          record { row = omega (arith, S .counted .all); fits = omega (arith, S .wide, S .counted .numbered .few); inside = inside }
 
       stands-after : (b : ℕ) → 0 < b → b < suc c → place d (set winners (treeStart d (parent d c) + seat d c) c) (parent d b) (seat d b) ≡ b
       stands-after b pos m =
@@ -276,15 +264,7 @@ module _ {d : Division} {rows winners : List ℕ} {c : ℕ} (S : Seating d rows 
       seating-step = rw (add-one c, i-is) (record {
         above = omega arith;
         within = l;
-        counted =
-            record {
-              root = S .counted .root;
-              few = S .counted .few;
-              lower = S .counted .lower;
-              all = simp length-set (S .counted .all);
-              parents = λ b pos m. getD-set-other rows (4 * c + 3) (4 * b + 0) _ 0 (omega arith) ∙ S .counted .parents b pos m;
-              counts = λ r m. getD-set-other rows (4 * c + 3) (4 * r + 1) _ 0 (omega arith) ∙ S .counted .counts r m;
-            };
+        counted = counted-set c 3 (children + rank) (omega arith) (omega arith) (S .counted);
         starts = λ r m. getD-set-other rows (4 * c + 3) (4 * r + 2) _ 0 (omega arith) ∙ S .starts r m;
         seats =
             λ b pos m.
@@ -307,4 +287,8 @@ seating-end S l = record {
 pub division-parents : {m : ℕ} {d : Division} (parents : List ℕ) → DivisionOk m d → length parents ≡ regions d
     → ((c : ℕ) → 0 < c → c < regions d → at parents c ≡ parent d c) → ParentsOf d parents
 division-parents parents ok all same =
-    record { root = ok .nesting .root; few = omega (arith, ok .few-regions); lower = ok .nesting .lower; all = all; same = same }
+    record {
+      numbered = record { root = ok .nesting .root; few = omega (arith, ok .few-regions); lower = ok .nesting .lower };
+      all = all;
+      same = same;
+    }

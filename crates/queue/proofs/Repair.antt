@@ -27,7 +27,7 @@ pub record PlaceBounds (keys winners : List ℕ) (start p : ℕ) : Type 0 where
 module _ {d : Division} {rows keys winners : List ℕ} {Open : ℕ → ℕ → Type 0} (B : ValidBut d rows keys winners Open)
     (r start p : ℕ) (row : start ≡ field rows r 2) (pos : 0 < p) (hp : p < childCount d r) where
   begins : start ≡ treeStart d r
-  begins = row ∙ B .laid .planned .starts r (parent-in d (B .laid .planned .counted .lower) r (omega arith))
+  begins = row ∙ B .laid .planned .starts r (parent-in d (B .laid .planned .counted .numbered .lower) r (omega arith))
 
   pub place-bounds : PlaceBounds keys winners start p
   place-bounds = record {
@@ -139,5 +139,5 @@ pub valid-regions : {d : Division} {rows keys winners : List ℕ} {n : ℕ} → 
 valid-regions {d} B l = record {
   laid = B .laid;
   keyed = B .keyed;
-  wins = λ r p pos h. B .wins r p (omega (arith, parent-in d (B .laid .planned .counted .lower) r (omega arith))) pos h;
+  wins = λ r p pos h. B .wins r p (omega (arith, parent-in d (B .laid .planned .counted .numbered .lower) r (omega arith))) pos h;
 }

@@ -56,28 +56,31 @@ Decided d keys start p winners winners′ =
 abbrev pub IsMinKey : Division → List ℕ → ℕ → ℕ → Type 0
 IsMinKey d keys r k = isLeaf d r ≡ false → (own : List ℕ) (updates : ℕ) → k ≡ minKey d (record { own = own; keys = keys; updates = updates }) r
 
--- The list is the parents column of the division, but for region 0, which has no parent. Two places a region are counted by 16 bits.
-pub record ParentsOf (d : Division) (parents : List ℕ) : Type 0 where
+-- Every region but 0 has a lower parent, and two places for each are few enough to be counted by 16 bits.
+pub record Numbered (d : Division) : Type 0 where
   pub root : 0 < regions d
   pub few : 2 * regions d < 65536
   pub lower : (c : ℕ) → 0 < c → c < regions d → parent d c < c
+
+-- The list is the parents column of the division, but for region 0, which has no parent.
+pub record ParentsOf (d : Division) (parents : List ℕ) : Type 0 where
+  pub numbered : Numbered d
   pub all : length parents ≡ regions d
   pub same : (c : ℕ) → 0 < c → c < regions d → at parents c ≡ parent d c
 
 -- The rows of the regions, as far as parent and number of children go.
 pub record Counted (d : Division) (rows : List ℕ) : Type 0 where
-  pub root : 0 < regions d
-  pub few : 2 * regions d < 65536
-  pub lower : (c : ℕ) → 0 < c → c < regions d → parent d c < c
+  pub numbered : Numbered d
   pub all : length rows ≡ 4 * regions d
   pub parents : (c : ℕ) → 0 < c → c < regions d → field rows c 0 ≡ parent d c
   pub counts : (r : ℕ) → r < regions d → field rows r 1 ≡ childCount d r
 
--- The rows while they are filled: the last entry is how many siblings have a lower number.
+-- The rows while they are filled: the last entry is how many siblings have a lower number,
 pub record Ranked (d : Division) (rows : List ℕ) : Type 0 where
   pub counted : Counted d rows
   pub ranks : (c : ℕ) → 0 < c → c < regions d → field rows c 3 ≡ lowerSiblings d c
 
+-- and then the third is where the tree begins.
 pub record Started (d : Division) (rows : List ℕ) : Type 0 where
   pub ranked : Ranked d rows
   pub starts : (r : ℕ) → r < regions d → field rows r 2 ≡ treeStart d r

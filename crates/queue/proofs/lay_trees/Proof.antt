@@ -29,7 +29,7 @@ inside : (c : tie.In-loop Inv-loop μ-loop) → c .before .loop .r < regions (en
 inside c = omega (arith, c .loop-test .taken, entry c .pre .1 .counted .all)
 
 cast-n : tie.Need-cast-n Inv-loop μ-loop
-cast-n c = omega (arith, c .before .pre .1 .counted .all, c .before .pre .1 .counted .few)
+cast-n c = omega (arith, c .before .pre .1 .counted .all, c .before .pre .1 .counted .numbered .few)
 
 loop-holds : tie.Need-loop-holds Inv-loop μ-loop
 loop-holds c = λ d R. laying-start R

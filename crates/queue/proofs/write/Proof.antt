@@ -32,15 +32,15 @@ slice-write-keys c =
 parent-of-requires : tie.Need-parent-of-requires Inv-loop μ-loop
 parent-of-requires c κs =
     let pre = c .before .before .before .before .pre in
-    (pre .0, (pre .1 .laid .planned .counted), pre .2, pre .3)
+    (pre .0, pre .1 .laid .planned .counted, pre .2, pre .3)
 
 start-of-requires : tie.Need-start-of-requires Inv-loop μ-loop
 start-of-requires c κs =
     let earlier = c .before .before .before .before in
     let pre = earlier .before .pre in
-    let counted = (pre .1 .laid .planned .counted) in
+    let counted = pre .1 .laid .planned .counted in
     row-in _ counted
-    (omega (arith, c .parent-of .ensures (pre .0) counted, counted .lower _ (pre .2) (pre .3), pre .3))
+    (omega (arith, c .parent-of .ensures (pre .0) counted, counted .numbered .lower _ (pre .2) (pre .3), pre .3))
 
 cast-start : tie.Need-cast-start Inv-loop μ-loop
 cast-start c = search needs
