@@ -82,6 +82,10 @@ module _ (column : ℕ → ℕ) where
 
   -- A WALK
 
+  -- what is left of the indices falls with each link
+  pub walk-falls : {m n : ℕ} {first next : ℕ → ℕ} → Links column m n first next → (a : ℕ) → a < m → m - next a < m - a
+  walk-falls {m} L a l = omega (arith, L .nexts a l, next-from m (column a) (a + 1))
+
   module _ {S : Type 0} (step : ℕ → S → S) (v : ℕ) (s : S) where
     -- the steps at the indices below a at which the column has v
     abbrev pub stepsBelow : ℕ → S
@@ -145,10 +149,6 @@ module _ (column : ℕ → ℕ) where
             hit = next-has m v (a + 1) (omega arith);
             sofar = e ∙ ap (step a) (W .sofar) ∙ sym (steps-skip m (a + 1) ∙ ap stepsBelow (add-one a) ∙ steps-hit a h);
           })
-
-      -- what is left of the indices falls
-      pub walk-falls : (a : ℕ) → a < m → m - next a < m - a
-      walk-falls a l = omega (arith, L .nexts a l, next-from m (column a) (a + 1))
 
     -- at its end all steps are made
     pub walk-end : {m a : ℕ} {t : S} → Walk m a t → m ≤ a → t ≡ upTo m (stepAt column v step) s
