@@ -157,6 +157,19 @@ count-some p (suc n) l = at (p n) refl (count-some p n) l
     at true e rest l = (n, omega arith, e)
     at false e rest l = let q = rest (omega arith) in (q .0, omega arith, q .2)
 
+-- each number below the count is how many pass before an index that passes
+pub count-nth : (p : ℕ → Bool) (n k : ℕ) → k < count p n → (i : ℕ) × (i < n) × (p i ≡ true) × (count p i ≡ k)
+unfolding count
+count-nth p zero k l = absurd (not-suc-le-zero l)
+count-nth p (suc n) k l = at (p n) refl (count-nth p n k) l
+  where
+    at : (b : Bool) → p n ≡ b → (k < count p n → (i : ℕ) × (i < n) × (p i ≡ true) × (count p i ≡ k)) → k < count p n + cond b 1 0
+        → (i : ℕ) × (i < suc n) × (p i ≡ true) × (count p i ≡ k)
+    at true e rest l =
+        ⊎-elim (λ (w : k ≡ count p n). (n, omega arith, e, sym w)) (λ (w : k < count p n). let q = rest w in (q .0, omega arith, q .2, q .3))
+        (eq-or-lt-of-le (let m : k ≤ count p n = omega arith in m))
+    at false e rest l = let q = rest (omega arith) in (q .0, omega arith, q .2, q .3)
+
 -- where one is counted, no two indices pass
 pub count-once : (p : ℕ → Bool) (n : ℕ) → count p n ≡ 1 → (i j : ℕ) → i < n → j < n → p i ≡ true → p j ≡ true → i ≡ j
 count-once p n one i j li lj hi hj =

@@ -61,3 +61,9 @@ count-join p h p′ (suc n) e = omega (arith, count-join p h p′ n (λ i l t. e
     at : (x y z : Bool) → (x ≡ true → (y ≡ true) ⊎ (z ≡ true)) → cond x 1 0 ≤ cond y 1 0 + cond z 1 0
     at false y z f = omega arith
     at true y z f = ⊎-elim (λ (w : y ≡ true). rw w (omega arith)) (λ (w : z ≡ true). rw w (omega arith)) (f refl)
+
+-- p′ is passed by what passes p or h, and nothing passes both
+pub count-sum : (p h p′ : ℕ → Bool) (n : ℕ) → ((i : ℕ) → cond (p′ i) 1 0 ≡ cond (p i) 1 0 + cond (h i) 1 0) → count p′ n ≡ count p n + count h n
+unfolding count
+count-sum p h p′ zero e = refl
+count-sum p h p′ (suc n) e = omega (arith, count-sum p h p′ n e, e n)

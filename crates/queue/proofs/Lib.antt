@@ -1,0 +1,9 @@
+pub mod Pairs
+pub mod Comparison
+pub mod Seats
+pub mod Trees
+pub mod Repair
+pub mod Reading
+pub mod Filled
+pub mod Planning
+pub mod Links

@@ -1,0 +1,112 @@
+-- `lay_trees` meets its contract: the trees of the regions passed lie one after the other. Assumes nothing.
+use Prim.Native.Nat.{ℕ, _-_, _<_}
+use mathlib.Core.Path.{sym, ap, _∙_}
+use mathlib.Core.List.{List}
+use native.Mathlib.Omega.{arith}
+use Rattle.procedure.specs.Division.{Division, regions}
+use Rattle.queue.specs.Rows.{field}
+use Rattle.queue.specs.Trees.{Ranked}
+use Rattle.queue.proofs.Planning.{Laying, laying-start, laying-fits, laying-step, laying-end}
+use Rattle.queue.proofs.Reading.{row-in}
+use Rattle.queue.proofs.lay_trees.Statement.{statement}
+use Rattle.queue.proofs.lay_trees.Tie as tie
+
+abbrev Inv-loop : tie.InvT-loop
+Inv-loop rows₀ n start₀ r₀ rows start r = (d : Division) → Ranked d rows₀ → Laying d rows start r
+
+abbrev μ-loop : tie.MeasureT-loop
+μ-loop rows₀ n start₀ r₀ rows start r = n - r
+
+-- where the function begins
+abbrev entry : (c : tie.In-loop Inv-loop μ-loop) → tie.Start Inv-loop μ-loop
+entry c = c .before .before .before
+
+-- the invariant for the given division
+now : (c : tie.In-loop Inv-loop μ-loop) → Laying (entry c .pre .0) (c .before .loop .rows) (c .before .loop .start) (c .before .loop .r)
+now c = c .before .loop .inv (entry c .pre .0) (entry c .pre .1)
+
+inside : (c : tie.In-loop Inv-loop μ-loop) → c .before .loop .r < regions (entry c .pre .0)
+inside c = omega (arith, c .loop-test .taken, entry c .pre .1 .counted .all)
+
+cast-n : tie.Need-cast-n Inv-loop μ-loop
+cast-n c = omega (arith, c .before .pre .1 .counted .all, c .before .pre .1 .counted .numbered .few)
+
+loop-holds : tie.Need-loop-holds Inv-loop μ-loop
+loop-holds c = λ d R. laying-start R
+
+set-field-requires : tie.Need-set-field-requires Inv-loop μ-loop
+set-field-requires c κs =
+    let pass = c .before in
+    (omega arith, row-in _ (now pass .ranked .counted) (inside pass))
+
+children-of-requires : tie.Need-children-of-requires Inv-loop μ-loop
+children-of-requires c κs =
+    let earlier = c .before .before .before .before in
+    let set-field = c .before .before .before .set-field in
+    let pass = earlier .before in
+    omega (arith, row-in _ (now pass .ranked .counted) (inside pass), set-field .kept)
+
+mul-start : tie.Need-mul-start Inv-loop μ-loop
+mul-start c =
+    let earlier = c .before .before .before .before in
+    let loop = earlier .before .before .before .loop in
+    let set-field = earlier .set-field in
+    let pass = earlier .before .before in
+    let read = c .children-of .ensures ∙ ap (λ (l : List ℕ). field l (loop .r) 1) (set-field .ensures) in
+    omega (arith, laying-fits (now pass) (inside pass) (c .children-of .result) read)
+
+add-start : tie.Need-add-start Inv-loop μ-loop
+add-start c =
+    let earlier = c .before .before .before .before in
+    let loop = earlier .before .before .before .loop in
+    let set-field = earlier .set-field in
+    let pass = earlier .before .before in
+    let read = c .children-of .ensures ∙ ap (λ (l : List ℕ). field l (loop .r) 1) (set-field .ensures) in
+    omega (arith, laying-fits (now pass) (inside pass) (c .children-of .result) read)
+
+add-r : tie.Need-add-r Inv-loop μ-loop
+add-r c =
+    let earlier = c .before .before .before .before in
+    let loop-test = earlier .before .before .loop-test in
+    omega (arith, loop-test .taken)
+
+loop-less : tie.Need-loop-less Inv-loop μ-loop
+loop-less c =
+    let earlier = c .before .before .before .before in
+    let loop-test = earlier .before .before .loop-test in
+    omega (arith, loop-test .taken)
+
+loop-again : tie.Need-loop-again Inv-loop μ-loop
+loop-again c =
+    let earlier = c .before .before .before .before in
+    let loop = earlier .before .before .before .loop in
+    let set-field = earlier .set-field in
+    let loop-test = earlier .before .before .loop-test in
+    let read = c .children-of .ensures ∙ ap (λ (l : List ℕ). field l (loop .r) 1) (set-field .ensures) in
+    rw (set-field .ensures) (λ d R. laying-step (loop .inv d R) (omega (arith, loop-test .taken, R .counted .all)) _ read)
+
+same-length : tie.Need-same-length Inv-loop μ-loop
+same-length c =
+    let pre = c .before .before .before .pre in
+    c .before .loop .inv (pre .0) (pre .1) .ranked .counted .all ∙ sym (pre .1 .counted .all)
+
+returns : tie.Need-returns Inv-loop μ-loop
+returns c = λ d R. laying-end (c .before .loop .inv d R) (omega (arith, c .loop-test .left, R .counted .all))
+
+pub lay-trees-spec : {M : Type 1} → statement M
+lay-trees-spec =
+    tie.close
+    (tie.spec
+    Inv-loop
+    μ-loop
+    cast-n
+    loop-holds
+    set-field-requires
+    children-of-requires
+    mul-start
+    add-start
+    add-r
+    loop-less
+    loop-again
+    same-length
+    returns)
