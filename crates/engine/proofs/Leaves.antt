@@ -19,7 +19,7 @@ use Rattle.theory.proofs.Grows.{relax-grows}
 use Rattle.queue.specs.Rows.{field}
 use Rattle.engine.specs.declared.Counts.{Counts}
 use Rattle.engine.specs.Tables.{Tables, arcEntry}
-use Rattle.engine.specs.States.{queuesOf, stateOf, Updatable, UpdatingOutgoing, Queued, Represents, Processing, Computed}
+use Rattle.engine.specs.States.{leafCounted, queuesOf, stateOf, Updatable, UpdatingOutgoing, Queued, Represents, Processing, Computed}
 
 -- what the updates of arcs need of a represented state
 pub updatable : {g : Graph} {d : Division} {t : Tables} {s : State} {winners : List ℕ} → Represents g d t s winners
@@ -107,11 +107,11 @@ module _ {g : Graph} {d : Division} {t : Tables} {labels predecessors own keys w
       is-label = ez ∙ ap (at labels) (is-head to) ∙ ap (λ (b : ℕ). at labels (head g b)) is-arc
 
       -- where the sum is not below the head's label, the leaf's key alone changes
-      pub leaf-stays : z ≤ x + y → Computed g d t (processLeaf g d r s)
-          (stateOf labels predecessors (set own a top) keys (record { rounds = c .rounds; leaves = c .leaves + 1; inner = c .inner; updates = c .updates })) winners
-      leaf-stays l = record {
+      pub leaf-stays : z ≤ x + y → {n : Counts} → n ≡ leafCounted c (c .updates)
+          → Computed g d t (processLeaf g d r s) (stateOf labels predecessors (set own a top) keys n) winners
+      leaf-stays l counted = record {
         result =
-            rw (is-arc, add-one (c .leaves))
+            rw (counted, is-arc, add-one (c .leaves))
             (sym (leaf-cleared g d r s ∙ ap (cleared (arcOf d r)) (relax-stays g d (arcOf d r) s (omega (arith, is-sum, is-label)))));
         represents = record {
           tabled = P .represents .tabled;
@@ -152,18 +152,18 @@ module _ {g : Graph} {d : Division} {t : Tables} {labels predecessors own keys w
         is-cleared : cleared a (withQueues (updateOutgoing d (g .tails) v (x + y) (queuesOf own keys (c .updates)))) ≡ processLeaf g d r s
         is-cleared = rw (is-head-of, is-sum, is-arc) (sym is-lowered)
 
-        pub leaf-falls : {own′ keys′ winners′ : List ℕ} {n : ℕ}
-            → Queued d (t .rows) (updateOutgoing d (g .tails) v (x + y) (queuesOf own keys (c .updates))) (queuesOf own′ keys′ n) winners′
-            → length own′ ≡ length own
-            → Computed g d t (processLeaf g d r s)
-            (stateOf (set labels v (x + y)) (set predecessors v a) (set own′ a top) keys′
-            (record { rounds = c .rounds; leaves = c .leaves + 1; inner = c .inner; updates = n })) winners′
-        leaf-falls {own′} {keys′} {winners′} {n} Q e = record {
-          result = rw (add-one (c .leaves)) (ap (λ (q : Queues). cleared a (withQueues q)) (Q .result) ∙ is-cleared);
+        pub leaf-falls : {labels′ predecessors′ : List ℕ} → (labels′ ≡ set labels v (x + y)) × (predecessors′ ≡ set predecessors v a)
+            → {own′ keys′ winners′ : List ℕ} {updates : ℕ}
+            → Queued d (t .rows) (updateOutgoing d (g .tails) v (x + y) (queuesOf own keys (c .updates))) (queuesOf own′ keys′ updates) winners′
+            → length own′ ≡ length own → {n : Counts} → n ≡ leafCounted c updates
+            → Computed g d t (processLeaf g d r s) (stateOf labels′ predecessors′ (set own′ a top) keys′ n) winners′
+        leaf-falls low {own′} Q e counted = record {
+          result =
+              rw (low .0, low .1, counted, add-one (c .leaves)) (ap (λ (q : Queues). cleared a (withQueues q)) (Q .result) ∙ is-cleared);
           represents = record {
             tabled = P .represents .tabled;
-            labelled = length-set labels v (x + y) ∙ P .represents .labelled;
-            fed = length-set predecessors v a ∙ P .represents .fed;
+            labelled = ap length (low .0) ∙ length-set labels v (x + y) ∙ P .represents .labelled;
+            fed = ap length (low .1) ∙ length-set predecessors v a ∙ P .represents .fed;
             owned = length-set own′ a top ∙ e ∙ P .represents .owned;
             queues = Q .valid;
           };

@@ -25,7 +25,7 @@ use Rattle.theory.proofs.Final.{rounds-in-parts, after-small}
 use Rattle.queue.specs.Trees.{Written}
 use Rattle.engine.specs.declared.Counts.{Counts}
 use Rattle.engine.specs.Tables.{Tables, noArc, arcEntry, heightEntry}
-use Rattle.engine.specs.States.{queuesOf, stateOf, Keyed, Represents, Processing, Computed}
+use Rattle.engine.specs.States.{roundCounted, innerCounted, queuesOf, stateOf, Keyed, Represents, Processing, Computed}
 use Rattle.engine.proofs.Regions.{entry-inner, entry-leaf, before-height}
 use Rattle.engine.proofs.Beginning.{few-out}
 
@@ -61,6 +61,10 @@ rewritten-key : (g : Graph) (d : Division) (x : ℕ) (labels predecessors own ke
 unfolding rewriteKey
 rewritten-key g d x labels predecessors own keys c = refl
 
+inner-counted : (g : Graph) (d : Division) (s : State) → countInner g d s .inner ≡ suc (s .inner)
+unfolding countInner
+inner-counted g d s = refl
+
 -- the loop's beginning
 pub record Framed (g : Graph) (d : Division) (t : Tables) (r left₀ : ℕ) (s₀ : State) (winners₀ : List ℕ) : Type 0 where
   pub represents : Represents g d t s₀ winners₀
@@ -87,13 +91,22 @@ module _ {g : Graph} {d : Division} {t : Tables} {labels predecessors own keys w
         omega (arith, heights, root-highest (isLeaf d) (parent d) (regions d) (ok .division .nesting) r (P .in-range), ok .attention .each-height),
       )
 
-  module _ {left : ℕ} (span : left ≡ at (t .spans) (heightEntry (t .regionRows) r - 1)) where
+  pub inner-count-fits : c .inner + 1 < 18446744073709551616
+  inner-count-fits =
+      let s = stateOf labels predecessors own keys c in
+      let ok = P .represents .tabled .ok .division in
+      let more = children-grow g d ok (t .spans) (spanOf d (t .spans) r) r (countInner g d s) inner in
+      let all = rw (process-inner g d (t .spans) ok r s (P .in-range) inner) at (P .small) in
+      omega (arith, inner-counted g d s, more .inner, all .inner)
+
+  -- left is its span, and n the counts with the region counted
+  module _ {left : ℕ} (span : left ≡ at (t .spans) (heightEntry (t .regionRows) r - 1)) {n : Counts} (counted : n ≡ innerCounted c) where
     abbrev begun : State
-    begun = stateOf labels predecessors own keys (record { rounds = c .rounds; leaves = c .leaves; inner = c .inner + 1; updates = c .updates })
+    begun = stateOf labels predecessors own keys n
 
     is-begun : begun ≡ countInner g d (stateOf labels predecessors own keys c)
     unfolding countInner
-    is-begun = rw (add-one (c .inner))
+    is-begun = rw (counted, add-one (c .inner))
 
     is-span : left ≡ spanOf d (t .spans) r
     is-span = span ∙ ap (at (t .spans)) (before-height (heightEntry (t .regionRows) r)) ∙ rw heights
@@ -121,9 +134,6 @@ module _ {g : Graph} {d : Division} {t : Tables} {labels predecessors own keys w
       inner = inner;
       small = rw turns-all (P .small);
     }
-
-    pub inner-count-fits : c .inner + 1 < 18446744073709551616
-    inner-count-fits = omega (arith, children-grow g d (P .represents .tabled .ok .division) (t .spans) left r begun inner .inner, framed .small .inner)
 
 module _ {g : Graph} {d : Division} {t : Tables} {r left₀ : ℕ} {s₀ : State} {winners₀ : List ℕ} (F : Framed g d t r left₀ s₀ winners₀) {left : ℕ} {s : State}
     {winners : List ℕ} (L : Looping g d t (alive g d r) (turn g d t r) left₀ s₀ left s winners) {least : ℕ} (key : least ≡ minKey d (s .queues) r) where
@@ -223,34 +233,46 @@ module _ {g : Graph} {d : Division} {t : Tables} {s : State} {winners : List ℕ
 -- THE ROUNDS
 module _ {g : Graph} {d : Division} {t : Tables} {labels predecessors own keys winners : List ℕ} {c : Counts}
     (P : Processing g d t (stateOf labels predecessors own keys c) winners 0 (round g d (t .spans) (stateOf labels predecessors own keys c))) where
-  -- the state with the round counted
-  abbrev entered : State
-  entered = stateOf labels predecessors own keys (record { rounds = c .rounds + 1; leaves = c .leaves; inner = c .inner; updates = c .updates })
+  round-counted : {n : Counts} → n ≡ roundCounted c → stateOf labels predecessors own keys n ≡ countRound g d (stateOf labels predecessors own keys c)
+  unfolding countRound
+  round-counted counted = rw (counted, add-one (c .rounds))
 
-  is-round : process g d (t .spans) 0 entered ≡ round g d (t .spans) (stateOf labels predecessors own keys c)
-  unfolding round countRound
-  is-round = rw (add-one (c .rounds))
-
-  pub round-asks : Processing g d t entered winners 0 (process g d (t .spans) 0 entered)
-  round-asks = record {
-    represents = record {
-      tabled = P .represents .tabled;
-      labelled = P .represents .labelled;
-      fed = P .represents .fed;
-      owned = P .represents .owned;
-      queues = P .represents .queues;
-    };
-    in-range = P .in-range;
-    small = rw is-round (P .small);
-  }
+  by-process : process g d (t .spans) 0 (countRound g d (stateOf labels predecessors own keys c)) ≡ round g d (t .spans) (stateOf labels predecessors own keys c)
+  unfolding round
+  by-process = refl
 
   pub round-count-fits : c .rounds + 1 < 18446744073709551616
   round-count-fits =
-      omega (arith, process-grows g d (P .represents .tabled .ok .division) (t .spans) 0 entered (P .in-range) .rounds, round-asks .small .rounds)
+      let s = countRound g d (stateOf labels predecessors own keys c) in
+      let more = process-grows g d (P .represents .tabled .ok .division) (t .spans) 0 s (P .in-range) in
+      let one = ap (λ (w : State). w .rounds) (round-counted refl) in
+      let all = ap (λ (w : State). w .rounds) by-process in
+      omega (arith, more .rounds, one, all, P .small .rounds)
 
-  pub round-made : {s : State} {winners′ : List ℕ} → Computed g d t (process g d (t .spans) 0 entered) s winners′
-      → Computed g d t (round g d (t .spans) (stateOf labels predecessors own keys c)) s winners′
-  round-made W = record { result = W .result ∙ is-round; represents = W .represents }
+  -- n is the counts with the round counted
+  module _ {n : Counts} (counted : n ≡ roundCounted c) where
+    abbrev entered : State
+    entered = stateOf labels predecessors own keys n
+
+    is-round : process g d (t .spans) 0 entered ≡ round g d (t .spans) (stateOf labels predecessors own keys c)
+    is-round = rw (round-counted counted) by-process
+
+    pub round-asks : Processing g d t entered winners 0 (process g d (t .spans) 0 entered)
+    round-asks = record {
+      represents = record {
+        tabled = P .represents .tabled;
+        labelled = P .represents .labelled;
+        fed = P .represents .fed;
+        owned = P .represents .owned;
+        queues = P .represents .queues;
+      };
+      in-range = P .in-range;
+      small = rw is-round (P .small);
+    }
+
+    pub round-made : {s : State} {winners′ : List ℕ} → Computed g d t (process g d (t .spans) 0 entered) s winners′
+        → Computed g d t (round g d (t .spans) (stateOf labels predecessors own keys c)) s winners′
+    round-made W = record { result = W .result ∙ is-round; represents = W .represents }
 
 -- a run goes on
 abbrev pub running : Graph → Division → State → Bool

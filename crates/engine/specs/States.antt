@@ -1,5 +1,5 @@
 -- The slices that a run changes, with the tables, as a state of the procedure; and what each function asks and gives. Definitions; assumes nothing.
-use Prim.Native.Nat.{ℕ, _^_, _≤_, _<_}
+use Prim.Native.Nat.{ℕ, _+_, _^_, _≤_, _<_}
 use mathlib.Core.Path.{_≡_}
 use mathlib.Core.List.{List}
 use lib.ListN.{length}
@@ -13,6 +13,16 @@ use Rattle.theory.specs.Counts.{Small}
 use Rattle.queue.specs.Trees.{LaidOut, QueuesOk}
 use Rattle.engine.specs.declared.Counts.{Counts}
 use Rattle.engine.specs.Tables.{Tables, ArcRows, ArcLinks, RegionRows, Tabled}
+
+-- a round, a leaf and an inner region counted
+abbrev pub roundCounted : Counts → Counts
+roundCounted c = record { rounds = c .rounds + 1; leaves = c .leaves; inner = c .inner; updates = c .updates }
+
+abbrev pub leafCounted : Counts → ℕ → Counts
+leafCounted c updates = record { rounds = c .rounds; leaves = c .leaves + 1; inner = c .inner; updates = updates }
+
+abbrev pub innerCounted : Counts → Counts
+innerCounted c = record { rounds = c .rounds; leaves = c .leaves; inner = c .inner + 1; updates = c .updates }
 
 -- the queues and the state that the slices and the counts are
 abbrev pub queuesOf : List ℕ → List ℕ → ℕ → Queues

@@ -1,11 +1,10 @@
 // The procedure over slices that the caller lends: updates, the working of a leaf and of a region, the start and the rounds. Each function computes its
-// definition. A function that calls itself takes few slices, since every slice is two words a call: `update` takes the rows and the queues alone, as own
-// keys are a leaf's and an update leaves the leaf at once. What a region or an arc is lies in rows, so that six slices hold all that a run only reads.
+// definition. What a run only reads lies in rows, so that six slices hold it all: a slice is two words of every call.
 ghost use mathlib.Core.Path.{_≡_};
 ghost use mathlib.Core.Bool.{true, false, not};
 ghost use mathlib.Core.List.{List};
 ghost use Prim.Native.Nat.{ℕ, _+_, _-_, _*_, _≤_, _<_};
-ghost use lib.ListN.{length};
+ghost use lib.ListN.{length, set};
 ghost use Rattle.indices.specs.Columns.{at};
 ghost use Rattle.indices.specs.Steps.{times};
 ghost use Rattle.procedure.specs.Graph.{Graph};
@@ -14,7 +13,8 @@ ghost use Rattle.procedure.specs.Queues.{minKey, update, updateArc, updateOutgo
 ghost use Rattle.procedure.specs.Procedure.{processLeaf, process, ended, start, round, after};
 ghost use Rattle.queue.specs.Trees.{QueuesOk};
 ghost use Rattle.engine.specs.Tables.{tablesOf, arcEntry, heightEntry};
-ghost use Rattle.engine.specs.States.{queuesOf, stateOf, Updating, UpdatingArc, UpdatingOutgoing, Queued, Represents, Keyed, Processing, Computed, Blank};
+ghost use Rattle.engine.specs.States.{roundCounted, leafCounted, innerCounted, queuesOf, stateOf};
+ghost use Rattle.engine.specs.States.{Updating, UpdatingArc, UpdatingOutgoing, Queued, Keyed, Represents, Processing, Computed, Blank};
 use queue::NONE;
 use sheet::Arc;
 use sheet::Node;
@@ -30,6 +30,43 @@ pub struct Counts {
 
 // In place of an inner region's arc.
 const INNER: u16 = 65535;
+
+fn count_round(c: Counts) -> Counts
+    requires { ⌜ c .rounds + 1 < 18446744073709551616 ⌝ }
+    ensures { λ n. ⌜ n ≡ roundCounted c ⌝ }
+{
+    Counts {
+        rounds: c.rounds + 1,
+        leaves: c.leaves,
+        inner: c.inner,
+        updates: c.updates,
+    }
+}
+
+// A leaf, with the updates after its working.
+fn count_leaf(c: Counts, updates: u64) -> Counts
+    requires { ⌜ c .leaves + 1 < 18446744073709551616 ⌝ }
+    ensures { λ n. ⌜ n ≡ leafCounted c updates ⌝ }
+{
+    Counts {
+        rounds: c.rounds,
+        leaves: c.leaves + 1,
+        inner: c.inner,
+        updates: updates,
+    }
+}
+
+fn count_inner(c: Counts) -> Counts
+    requires { ⌜ c .inner + 1 < 18446744073709551616 ⌝ }
+    ensures { λ n. ⌜ n ≡ innerCounted c ⌝ }
+{
+    Counts {
+        rounds: c.rounds,
+        leaves: c.leaves,
+        inner: c.inner + 1,
+        updates: c.updates,
+    }
+}
 
 fn wide(x: u32) -> u64
     ensures { λ r. ⌜ (r ≡ x) × (r < 4294967296) ⌝ }
@@ -56,7 +93,28 @@ fn span_of(spans: &[u32], regions: &[u16], r: Region) -> u32
     spans[height - 1]
 }
 
-// Updates item `item` of region r, which is inner, with a key.
+// The smallest key of any region.
+fn key_of(
+    rows: &[u16],
+    regions: &[u16],
+    own: &[u32],
+    keys: &[u32],
+    winners: &[u16],
+    r: Region,
+) -> u32
+    requires { ⌜ ((m : ℕ) × (d : Division) × Keyed m d (now rows) (now regions) (now own) (now keys) (now winners) (r .0)) ⌝ }
+    ensures { λ k. ⌜ ((m : ℕ) (d : Division) (updates : ℕ) → Keyed m d (now (rows .entry)) (now (regions .entry)) (now (own .entry)) (now (keys .entry)) (now (winners .entry)) (r .0)
+        → k ≡ minKey d (queuesOf (now (own .entry)) (now (keys .entry)) updates) (r .0)) ⌝ }
+{
+    let a = arc_of(regions, r);
+    if a.0 == INNER {
+        return queue::min_key(rows, keys, winners, r);
+    }
+    let i = a.0 as usize;
+    own[i]
+}
+
+// Updates item `item` of region r, which is inner, with a key. Own keys are the leaves', so they do not travel up.
 fn update(
     rows: &[u16],
     keys: &mut [u32],
@@ -67,7 +125,8 @@ fn update(
     count: u64,
 ) -> u64
     requires { ⌜ ((d : Division) × (own : List ℕ) × Updating d (now rows) (queuesOf own (now keys) count) (now winners) (r .0) (item .0) key) ⌝ }
-    ensures { λ n. ⌜ ((d : Division) (own : List ℕ) → Updating d (now (rows .entry)) (queuesOf own (now (keys .entry)) count) (now (winners .entry)) (r .0) (item .0) key → Queued d (now (rows .entry)) (update d (r .0) (item .0) key (queuesOf own (now (keys .entry)) count)) (queuesOf own (now (keys .exit)) n) (now (winners .exit))) ⌝ }
+    ensures { λ n. ⌜ ((d : Division) (own : List ℕ) → Updating d (now (rows .entry)) (queuesOf own (now (keys .entry)) count) (now (winners .entry)) (r .0) (item .0) key
+        → Queued d (now (rows .entry)) (update d (r .0) (item .0) key (queuesOf own (now (keys .entry)) count)) (queuesOf own (now (keys .exit)) n) (now (winners .exit))) ⌝ }
 {
     let old = queue::min_key(rows, keys, winners, r);
     queue::write(rows, keys, winners, item, key);
@@ -100,8 +159,11 @@ fn update_arc(
     key: u32,
     count: u64,
 ) -> u64
-    requires { ⌜ ((g : Graph) × (d : Division) × UpdatingArc g d (now rows) (now arcs) (queuesOf (now own) (now keys) count) (now winners) (a .0) key) ⌝ }
-    ensures { λ n. ⌜ ((g : Graph) (d : Division) → UpdatingArc g d (now (rows .entry)) (now (arcs .entry)) (queuesOf (now (own .entry)) (now (keys .entry)) count) (now (winners .entry)) (a .0) key → Queued d (now (rows .entry)) (updateArc d (a .0) key (queuesOf (now (own .entry)) (now (keys .entry)) count)) (queuesOf (now (own .exit)) (now (keys .exit)) n) (now (winners .exit))) ⌝ }
+    requires { ⌜ (let q = queuesOf (now own) (now keys) count in
+        (g : Graph) × (d : Division) × UpdatingArc g d (now rows) (now arcs) q (now winners) (a .0) key) ⌝ }
+    ensures { λ n. ⌜ (let q = queuesOf (now (own .entry)) (now (keys .entry)) count in
+        (g : Graph) (d : Division) → UpdatingArc g d (now (rows .entry)) (now (arcs .entry)) q (now (winners .entry)) (a .0) key
+        → Queued d (now (rows .entry)) (updateArc d (a .0) key q) (queuesOf (now (own .exit)) (now (keys .exit)) n) (now (winners .exit))) ⌝ }
 {
     let i = a.0 as usize;
     let old = own[i];
@@ -133,8 +195,11 @@ fn update_outgoing(
     key: u32,
     count: u64,
 ) -> u64
-    requires { ⌜ ((g : Graph) × (d : Division) × UpdatingOutgoing g d (now rows) (now arcs) (now firsts) (queuesOf (now own) (now keys) count) (now winners) (v .0) key) ⌝ }
-    ensures { λ n. ⌜ ((g : Graph) (d : Division) → UpdatingOutgoing g d (now (rows .entry)) (now (arcs .entry)) (now (firsts .entry)) (queuesOf (now (own .entry)) (now (keys .entry)) count) (now (winners .entry)) (v .0) key → Queued d (now (rows .entry)) (updateOutgoing d (g .tails) (v .0) key (queuesOf (now (own .entry)) (now (keys .entry)) count)) (queuesOf (now (own .exit)) (now (keys .exit)) n) (now (winners .exit))) ⌝ }
+    requires { ⌜ (let q = queuesOf (now own) (now keys) count in
+        (g : Graph) × (d : Division) × UpdatingOutgoing g d (now rows) (now arcs) (now firsts) q (now winners) (v .0) key) ⌝ }
+    ensures { λ n. ⌜ (let q = queuesOf (now (own .entry)) (now (keys .entry)) count in
+        (g : Graph) (d : Division) → UpdatingOutgoing g d (now (rows .entry)) (now (arcs .entry)) (now (firsts .entry)) q (now (winners .entry)) (v .0) key
+        → Queued d (now (rows .entry)) (updateOutgoing d (g .tails) (v .0) key q) (queuesOf (now (own .exit)) (now (keys .exit)) n) (now (winners .exit))) ⌝ }
 {
     let none = own.len() as u16;
     let mut a = queue::first_of(firsts, v);
@@ -146,13 +211,22 @@ fn update_outgoing(
     n
 }
 
+// The label of v becomes `label`, and a its predecessor.
+fn lower_label(labels: &mut [u32], predecessors: &mut [u32], v: Node, label: u32, a: Arc)
+    requires { ⌜ (v .0 < length (now labels)) × (v .0 < length (now predecessors)) ⌝ }
+    ensures { λ _. ⌜ (now (labels .exit) ≡ set (now (labels .entry)) (v .0) label) × (now (predecessors .exit) ≡ set (now (predecessors .entry)) (v .0) (a .0)) ⌝ }
+{
+    let i = v.0 as usize;
+    labels[i] = label;
+    predecessors[i] = a.0 as u32;
+}
+
 // Works the leaf r.
 fn process_leaf(
     rows: &[u16],
     arcs: &[u16],
     firsts: &[u16],
     lengths: &[u32],
-    spans: &[u32],
     regions: &[u16],
     labels: &mut [u32],
     predecessors: &mut [u32],
@@ -162,58 +236,31 @@ fn process_leaf(
     r: Region,
     c: Counts,
 ) -> Counts
-    requires { ⌜ ((g : Graph) × (d : Division) × Processing g d (tablesOf (now rows) (now arcs) (now firsts) (now lengths) (now spans) (now regions)) (stateOf (now labels) (now predecessors) (now own) (now keys) c) (now winners) (r .0) (processLeaf g d (r .0) (stateOf (now labels) (now predecessors) (now own) (now keys) c)) × (isLeaf d (r .0) ≡ true)) ⌝ }
-    ensures { λ n. ⌜ ((g : Graph) (d : Division) → Processing g d (tablesOf (now (rows .entry)) (now (arcs .entry)) (now (firsts .entry)) (now (lengths .entry)) (now (spans .entry)) (now (regions .entry))) (stateOf (now (labels .entry)) (now (predecessors .entry)) (now (own .entry)) (now (keys .entry)) c) (now (winners .entry)) (r .0) (processLeaf g d (r .0) (stateOf (now (labels .entry)) (now (predecessors .entry)) (now (own .entry)) (now (keys .entry)) c)) → (isLeaf d (r .0) ≡ true) → Computed g d (tablesOf (now (rows .entry)) (now (arcs .entry)) (now (firsts .entry)) (now (lengths .entry)) (now (spans .entry)) (now (regions .entry))) (processLeaf g d (r .0) (stateOf (now (labels .entry)) (now (predecessors .entry)) (now (own .entry)) (now (keys .entry)) c)) (stateOf (now (labels .exit)) (now (predecessors .exit)) (now (own .exit)) (now (keys .exit)) n) (now (winners .exit))) ⌝ }
+    requires { ⌜ (let s = stateOf (now labels) (now predecessors) (now own) (now keys) c in
+        (g : Graph) × (d : Division) × (spans : List ℕ) × Processing g d (tablesOf (now rows) (now arcs) (now firsts) (now lengths) spans (now regions)) s (now winners) (r .0) (processLeaf g d (r .0) s) × isLeaf d (r .0) ≡ true) ⌝ }
+    ensures { λ n. ⌜ (let s = stateOf (now (labels .entry)) (now (predecessors .entry)) (now (own .entry)) (now (keys .entry)) c in
+        let s′ = stateOf (now (labels .exit)) (now (predecessors .exit)) (now (own .exit)) (now (keys .exit)) n in
+        (g : Graph) (d : Division) (spans : List ℕ) → Processing g d (tablesOf (now (rows .entry)) (now (arcs .entry)) (now (firsts .entry)) (now (lengths .entry)) spans (now (regions .entry))) s (now (winners .entry)) (r .0) (processLeaf g d (r .0) s) → isLeaf d (r .0) ≡ true
+        → Computed g d (tablesOf (now (rows .entry)) (now (arcs .entry)) (now (firsts .entry)) (now (lengths .entry)) spans (now (regions .entry))) (processLeaf g d (r .0) s) s′ (now (winners .exit))) ⌝ }
 {
     let a = arc_of(regions, r);
     let i = a.0 as usize;
-    let u = queue::tail_of(arcs, a).0 as usize;
-    let head = queue::head_of(arcs, a);
-    let v = head.0 as usize;
-    let sum = wide(labels[u]) + wide(lengths[i]);
-    if wide(labels[v]) <= sum {
+    let tail = queue::tail_of(arcs, a).0 as usize;
+    let v = queue::head_of(arcs, a);
+    let head = v.0 as usize;
+    let sum = wide(labels[tail]) + wide(lengths[i]);
+    if wide(labels[head]) <= sum {
         own[i] = NONE;
-        return Counts {
-            rounds: c.rounds,
-            leaves: c.leaves + 1,
-            inner: c.inner,
-            updates: c.updates,
-        };
+        return count_leaf(c, c.updates);
     }
     let key = sum as u32;
-    labels[v] = key;
-    predecessors[v] = a.0 as u32;
-    let n = update_outgoing(rows, arcs, firsts, own, keys, winners, head, key, c.updates);
+    lower_label(labels, predecessors, v, key, a);
+    let n = update_outgoing(rows, arcs, firsts, own, keys, winners, v, key, c.updates);
     own[i] = NONE;
-    Counts {
-        rounds: c.rounds,
-        leaves: c.leaves + 1,
-        inner: c.inner,
-        updates: n,
-    }
+    count_leaf(c, n)
 }
 
-// The smallest key of any region.
-fn key_of(
-    rows: &[u16],
-    regions: &[u16],
-    own: &[u32],
-    keys: &[u32],
-    winners: &[u16],
-    r: Region,
-) -> u32
-    requires { ⌜ ((m : ℕ) × (d : Division) × Keyed m d (now rows) (now regions) (now own) (now keys) (now winners) (r .0)) ⌝ }
-    ensures { λ k. ⌜ ((m : ℕ) (d : Division) (updates : ℕ) → Keyed m d (now (rows .entry)) (now (regions .entry)) (now (own .entry)) (now (keys .entry)) (now (winners .entry)) (r .0) → k ≡ minKey d (queuesOf (now (own .entry)) (now (keys .entry)) updates) (r .0)) ⌝ }
-{
-    let a = arc_of(regions, r);
-    if a.0 == INNER {
-        return queue::min_key(rows, keys, winners, r);
-    }
-    let i = a.0 as usize;
-    own[i]
-}
-
-// Works region r.
+// Works region r: a leaf, or an inner region by its loop.
 fn process_region(
     rows: &[u16],
     arcs: &[u16],
@@ -229,8 +276,14 @@ fn process_region(
     r: Region,
     c: Counts,
 ) -> Counts
-    requires { ⌜ ((g : Graph) × (d : Division) × Processing g d (tablesOf (now rows) (now arcs) (now firsts) (now lengths) (now spans) (now regions)) (stateOf (now labels) (now predecessors) (now own) (now keys) c) (now winners) (r .0) (process g d (now spans) (r .0) (stateOf (now labels) (now predecessors) (now own) (now keys) c))) ⌝ }
-    ensures { λ n. ⌜ ((g : Graph) (d : Division) → Processing g d (tablesOf (now (rows .entry)) (now (arcs .entry)) (now (firsts .entry)) (now (lengths .entry)) (now (spans .entry)) (now (regions .entry))) (stateOf (now (labels .entry)) (now (predecessors .entry)) (now (own .entry)) (now (keys .entry)) c) (now (winners .entry)) (r .0) (process g d (now (spans .entry)) (r .0) (stateOf (now (labels .entry)) (now (predecessors .entry)) (now (own .entry)) (now (keys .entry)) c)) → Computed g d (tablesOf (now (rows .entry)) (now (arcs .entry)) (now (firsts .entry)) (now (lengths .entry)) (now (spans .entry)) (now (regions .entry))) (process g d (now (spans .entry)) (r .0) (stateOf (now (labels .entry)) (now (predecessors .entry)) (now (own .entry)) (now (keys .entry)) c)) (stateOf (now (labels .exit)) (now (predecessors .exit)) (now (own .exit)) (now (keys .exit)) n) (now (winners .exit))) ⌝ }
+    requires { ⌜ (let t = tablesOf (now rows) (now arcs) (now firsts) (now lengths) (now spans) (now regions) in
+        let s = stateOf (now labels) (now predecessors) (now own) (now keys) c in
+        (g : Graph) × (d : Division) × Processing g d t s (now winners) (r .0) (process g d (t .spans) (r .0) s)) ⌝ }
+    ensures { λ n. ⌜ (let t = tablesOf (now (rows .entry)) (now (arcs .entry)) (now (firsts .entry)) (now (lengths .entry)) (now (spans .entry)) (now (regions .entry)) in
+        let s = stateOf (now (labels .entry)) (now (predecessors .entry)) (now (own .entry)) (now (keys .entry)) c in
+        let s′ = stateOf (now (labels .exit)) (now (predecessors .exit)) (now (own .exit)) (now (keys .exit)) n in
+        (g : Graph) (d : Division) → Processing g d t s (now (winners .entry)) (r .0) (process g d (t .spans) (r .0) s)
+        → Computed g d t (process g d (t .spans) (r .0) s) s′ (now (winners .exit))) ⌝ }
 {
     let a = arc_of(regions, r);
     if a.0 == INNER {
@@ -255,7 +308,6 @@ fn process_region(
         arcs,
         firsts,
         lengths,
-        spans,
         regions,
         labels,
         predecessors,
@@ -283,16 +335,17 @@ fn process_inner(
     r: Region,
     c: Counts,
 ) -> Counts
-    requires { ⌜ ((g : Graph) × (d : Division) × Processing g d (tablesOf (now rows) (now arcs) (now firsts) (now lengths) (now spans) (now regions)) (stateOf (now labels) (now predecessors) (now own) (now keys) c) (now winners) (r .0) (process g d (now spans) (r .0) (stateOf (now labels) (now predecessors) (now own) (now keys) c)) × (isLeaf d (r .0) ≡ false)) ⌝ }
-    ensures { λ n. ⌜ ((g : Graph) (d : Division) → Processing g d (tablesOf (now (rows .entry)) (now (arcs .entry)) (now (firsts .entry)) (now (lengths .entry)) (now (spans .entry)) (now (regions .entry))) (stateOf (now (labels .entry)) (now (predecessors .entry)) (now (own .entry)) (now (keys .entry)) c) (now (winners .entry)) (r .0) (process g d (now (spans .entry)) (r .0) (stateOf (now (labels .entry)) (now (predecessors .entry)) (now (own .entry)) (now (keys .entry)) c)) → (isLeaf d (r .0) ≡ false) → Computed g d (tablesOf (now (rows .entry)) (now (arcs .entry)) (now (firsts .entry)) (now (lengths .entry)) (now (spans .entry)) (now (regions .entry))) (process g d (now (spans .entry)) (r .0) (stateOf (now (labels .entry)) (now (predecessors .entry)) (now (own .entry)) (now (keys .entry)) c)) (stateOf (now (labels .exit)) (now (predecessors .exit)) (now (own .exit)) (now (keys .exit)) n) (now (winners .exit))) ⌝ }
+    requires { ⌜ (let t = tablesOf (now rows) (now arcs) (now firsts) (now lengths) (now spans) (now regions) in
+        let s = stateOf (now labels) (now predecessors) (now own) (now keys) c in
+        (g : Graph) × (d : Division) × Processing g d t s (now winners) (r .0) (process g d (t .spans) (r .0) s) × isLeaf d (r .0) ≡ false) ⌝ }
+    ensures { λ n. ⌜ (let t = tablesOf (now (rows .entry)) (now (arcs .entry)) (now (firsts .entry)) (now (lengths .entry)) (now (spans .entry)) (now (regions .entry)) in
+        let s = stateOf (now (labels .entry)) (now (predecessors .entry)) (now (own .entry)) (now (keys .entry)) c in
+        let s′ = stateOf (now (labels .exit)) (now (predecessors .exit)) (now (own .exit)) (now (keys .exit)) n in
+        (g : Graph) (d : Division) → Processing g d t s (now (winners .entry)) (r .0) (process g d (t .spans) (r .0) s) → isLeaf d (r .0) ≡ false
+        → Computed g d t (process g d (t .spans) (r .0) s) s′ (now (winners .exit))) ⌝ }
 {
     let mut left = span_of(spans, regions, r);
-    let mut n = Counts {
-        rounds: c.rounds,
-        leaves: c.leaves,
-        inner: c.inner + 1,
-        updates: c.updates,
-    };
+    let mut n = count_inner(c);
     while 0 < left {
         let least = queue::min_key(rows, keys, winners, r);
         if NONE <= least {
@@ -321,14 +374,11 @@ fn process_inner(
     n
 }
 
-// The state before the first round, made in slices that may hold anything.
+// The state before the first round, made in slices that may hold anything. Lengths, spans and the regions' rows are not read.
 pub fn start(
     rows: &[u16],
     arcs: &[u16],
     firsts: &[u16],
-    lengths: &[u32],
-    spans: &[u32],
-    regions: &[u16],
     labels: &mut [u32],
     predecessors: &mut [u32],
     own: &mut [u32],
@@ -336,15 +386,21 @@ pub fn start(
     winners: &mut [u16],
     source: Node,
 ) -> Counts
-    requires { ⌜ ((g : Graph) × (d : Division) × Blank g d (tablesOf (now rows) (now arcs) (now firsts) (now lengths) (now spans) (now regions)) (now labels) (now predecessors) (now own) (now keys) (now winners) × (source .0 ≡ g .source)) ⌝ }
-    ensures { λ n. ⌜ ((g : Graph) (d : Division) → Blank g d (tablesOf (now (rows .entry)) (now (arcs .entry)) (now (firsts .entry)) (now (lengths .entry)) (now (spans .entry)) (now (regions .entry))) (now (labels .entry)) (now (predecessors .entry)) (now (own .entry)) (now (keys .entry)) (now (winners .entry)) → source .0 ≡ g .source → Computed g d (tablesOf (now (rows .entry)) (now (arcs .entry)) (now (firsts .entry)) (now (lengths .entry)) (now (spans .entry)) (now (regions .entry))) (start g d (now (spans .entry))) (stateOf (now (labels .exit)) (now (predecessors .exit)) (now (own .exit)) (now (keys .exit)) n) (now (winners .exit))) ⌝ }
+    requires { ⌜ ((g : Graph) × (d : Division) × (lengths : List ℕ) × (spans : List ℕ) × (regions : List ℕ)
+        × Blank g d (tablesOf (now rows) (now arcs) (now firsts) lengths spans regions) (now labels) (now predecessors) (now own) (now keys) (now winners)
+        × (source .0 ≡ g .source)) ⌝ }
+    ensures { λ n. ⌜ (let s = stateOf (now (labels .exit)) (now (predecessors .exit)) (now (own .exit)) (now (keys .exit)) n in
+        (g : Graph) (d : Division) (lengths spans regions : List ℕ)
+        → Blank g d (tablesOf (now (rows .entry)) (now (arcs .entry)) (now (firsts .entry)) lengths spans regions) (now (labels .entry)) (now (predecessors .entry)) (now (own .entry)) (now (keys .entry)) (now (winners .entry))
+        → source .0 ≡ g .source
+        → Computed g d (tablesOf (now (rows .entry)) (now (arcs .entry)) (now (firsts .entry)) lengths spans regions) (start g d spans) s (now (winners .exit))) ⌝ }
 {
     queue::fill_keys(labels, NONE);
     queue::fill_keys(predecessors, NONE);
     queue::fill_keys(own, NONE);
     queue::clear(rows, keys, winners);
-    let s = source.0 as usize;
-    labels[s] = 0;
+    let i = source.0 as usize;
+    labels[i] = 0;
     let n = update_outgoing(rows, arcs, firsts, own, keys, winners, source, 0, 0);
     Counts {
         rounds: 0,
@@ -357,12 +413,13 @@ pub fn start(
 // Whether the run has ended.
 pub fn has_ended(rows: &[u16], keys: &[u32], winners: &[u16]) -> bool
     requires { ⌜ ((d : Division) × QueuesOk d (now rows) (now keys) (now winners)) ⌝ }
-    ensures { λ b. ⌜ ((g : Graph) (d : Division) (labels predecessors own : List ℕ) (c : Counts) → QueuesOk d (now (rows .entry)) (now (keys .entry)) (now (winners .entry)) → isLeaf d 0 ≡ false → b ≡ ended g d (stateOf labels predecessors own (now (keys .entry)) c)) ⌝ }
+    ensures { λ b. ⌜ ((g : Graph) (d : Division) (labels predecessors own : List ℕ) (c : Counts) → QueuesOk d (now (rows .entry)) (now (keys .entry)) (now (winners .entry))
+        → isLeaf d 0 ≡ false → b ≡ ended g d (stateOf labels predecessors own (now (keys .entry)) c)) ⌝ }
 {
     NONE <= queue::min_key(rows, keys, winners, Region(0))
 }
 
-// One round.
+// One round: one working of region 0.
 fn round(
     rows: &[u16],
     arcs: &[u16],
@@ -377,15 +434,15 @@ fn round(
     winners: &mut [u16],
     c: Counts,
 ) -> Counts
-    requires { ⌜ ((g : Graph) × (d : Division) × Processing g d (tablesOf (now rows) (now arcs) (now firsts) (now lengths) (now spans) (now regions)) (stateOf (now labels) (now predecessors) (now own) (now keys) c) (now winners) 0 (round g d (now spans) (stateOf (now labels) (now predecessors) (now own) (now keys) c))) ⌝ }
-    ensures { λ n. ⌜ ((g : Graph) (d : Division) → Processing g d (tablesOf (now (rows .entry)) (now (arcs .entry)) (now (firsts .entry)) (now (lengths .entry)) (now (spans .entry)) (now (regions .entry))) (stateOf (now (labels .entry)) (now (predecessors .entry)) (now (own .entry)) (now (keys .entry)) c) (now (winners .entry)) 0 (round g d (now (spans .entry)) (stateOf (now (labels .entry)) (now (predecessors .entry)) (now (own .entry)) (now (keys .entry)) c)) → Computed g d (tablesOf (now (rows .entry)) (now (arcs .entry)) (now (firsts .entry)) (now (lengths .entry)) (now (spans .entry)) (now (regions .entry))) (round g d (now (spans .entry)) (stateOf (now (labels .entry)) (now (predecessors .entry)) (now (own .entry)) (now (keys .entry)) c)) (stateOf (now (labels .exit)) (now (predecessors .exit)) (now (own .exit)) (now (keys .exit)) n) (now (winners .exit))) ⌝ }
+    requires { ⌜ (let t = tablesOf (now rows) (now arcs) (now firsts) (now lengths) (now spans) (now regions) in
+        let s = stateOf (now labels) (now predecessors) (now own) (now keys) c in
+        (g : Graph) × (d : Division) × Processing g d t s (now winners) 0 (round g d (t .spans) s)) ⌝ }
+    ensures { λ n. ⌜ (let t = tablesOf (now (rows .entry)) (now (arcs .entry)) (now (firsts .entry)) (now (lengths .entry)) (now (spans .entry)) (now (regions .entry)) in
+        let s = stateOf (now (labels .entry)) (now (predecessors .entry)) (now (own .entry)) (now (keys .entry)) c in
+        let s′ = stateOf (now (labels .exit)) (now (predecessors .exit)) (now (own .exit)) (now (keys .exit)) n in
+        (g : Graph) (d : Division) → Processing g d t s (now (winners .entry)) 0 (round g d (t .spans) s)
+        → Computed g d t (round g d (t .spans) s) s′ (now (winners .exit))) ⌝ }
 {
-    let n = Counts {
-        rounds: c.rounds + 1,
-        leaves: c.leaves,
-        inner: c.inner,
-        updates: c.updates,
-    };
     process_region(
         rows,
         arcs,
@@ -399,7 +456,7 @@ fn round(
         keys,
         winners,
         Region(0),
-        n,
+        count_round(c),
     )
 }
 
@@ -419,8 +476,14 @@ pub fn rounds(
     limit: u64,
     c: Counts,
 ) -> Counts
-    requires { ⌜ ((g : Graph) × (d : Division) × (k : ℕ) × Represents g d (tablesOf (now rows) (now arcs) (now firsts) (now lengths) (now spans) (now regions)) (stateOf (now labels) (now predecessors) (now own) (now keys) c) (now winners) × ((stateOf (now labels) (now predecessors) (now own) (now keys) c) ≡ after g d (now spans) k)) ⌝ }
-    ensures { λ n. ⌜ ((g : Graph) (d : Division) (k : ℕ) → Represents g d (tablesOf (now (rows .entry)) (now (arcs .entry)) (now (firsts .entry)) (now (lengths .entry)) (now (spans .entry)) (now (regions .entry))) (stateOf (now (labels .entry)) (now (predecessors .entry)) (now (own .entry)) (now (keys .entry)) c) (now (winners .entry)) → (stateOf (now (labels .entry)) (now (predecessors .entry)) (now (own .entry)) (now (keys .entry)) c) ≡ after g d (now (spans .entry)) k → Computed g d (tablesOf (now (rows .entry)) (now (arcs .entry)) (now (firsts .entry)) (now (lengths .entry)) (now (spans .entry)) (now (regions .entry))) (times limit (λ s. not (ended g d s)) (round g d (now (spans .entry))) (stateOf (now (labels .entry)) (now (predecessors .entry)) (now (own .entry)) (now (keys .entry)) c)) (stateOf (now (labels .exit)) (now (predecessors .exit)) (now (own .exit)) (now (keys .exit)) n) (now (winners .exit))) ⌝ }
+    requires { ⌜ (let t = tablesOf (now rows) (now arcs) (now firsts) (now lengths) (now spans) (now regions) in
+        let s = stateOf (now labels) (now predecessors) (now own) (now keys) c in
+        (g : Graph) × (d : Division) × (k : ℕ) × Represents g d t s (now winners) × (s ≡ after g d (t .spans) k)) ⌝ }
+    ensures { λ n. ⌜ (let t = tablesOf (now (rows .entry)) (now (arcs .entry)) (now (firsts .entry)) (now (lengths .entry)) (now (spans .entry)) (now (regions .entry)) in
+        let s = stateOf (now (labels .entry)) (now (predecessors .entry)) (now (own .entry)) (now (keys .entry)) c in
+        let s′ = stateOf (now (labels .exit)) (now (predecessors .exit)) (now (own .exit)) (now (keys .exit)) n in
+        (g : Graph) (d : Division) (k : ℕ) → Represents g d t s (now (winners .entry)) → s ≡ after g d (t .spans) k
+        → Computed g d t (times limit (λ s. not (ended g d s)) (round g d (t .spans)) s) s′ (now (winners .exit))) ⌝ }
 {
     let mut left = limit;
     let mut n = c;

@@ -19,6 +19,7 @@ use Rattle.engine.proofs.process_region.Reads as process-region
 use Rattle.engine.proofs.process_region.Kinds as process-region-kinds
 use Rattle.engine.proofs.+process_inner+process_region.Lts-process_region as process-region-lts
 use Rattle.engine.proofs.arc_of.Reads as arc-of-reads
+use Rattle.engine.proofs.count_inner.Reads as count-inner-reads
 use Rattle.engine.proofs.key_of.Reads as key-of-reads
 use Rattle.engine.proofs.process_leaf.Reads as process-leaf-reads
 use Rattle.engine.proofs.span_of.Reads as span-of-reads
@@ -76,7 +77,7 @@ abbrev process-inner-μ-loop : process-inner-lts.MeasureT-loop
 process-inner-μ-loop rows arcs firsts lengths spans regions labels₀ predecessors₀ own₀ keys₀ winners₀ r left₀ n₀ labels predecessors own keys winners left n = left
 
 abbrev process-inner-heard : ℕ → process-inner-lts.Claims
-process-inner-heard t = (span-of-reads.Asked, span-of-reads.Learnt, min-key-reads.Asked, min-key-reads.Learnt, min-item-reads.Asked, min-item-reads.Learnt, process-region-below t, process-region.Post, key-of-reads.Asked, key-of-reads.Learnt, write-reads.Asked, write-reads.Learnt)
+process-inner-heard t = (span-of-reads.Asked, span-of-reads.Learnt, count-inner-reads.Asked, count-inner-reads.Learnt, min-key-reads.Asked, min-key-reads.Learnt, min-item-reads.Asked, min-item-reads.Learnt, process-region-below t, process-region.Post, key-of-reads.Asked, key-of-reads.Learnt, write-reads.Asked, write-reads.Learnt)
 
 abbrev process-region-heard : ℕ → process-region-lts.Claims
 process-region-heard t = (arc-of-reads.Asked, arc-of-reads.Learnt, process-inner-below t, process-inner.Post, process-leaf-reads.Asked, process-leaf-reads.Learnt)
@@ -88,13 +89,12 @@ process-inner-span-of-requires t c κs =
     let pre = early .before .before .before .pre in
     span-asks (pre .1 .2) (pre .1 .3)
 
-process-inner-add-t19 : (t : ℕ) → process-inner-lts.Need-add-t19 (process-inner-heard t) (process-inner-at t) process-inner.Post process-inner-Inv-loop process-inner-μ-loop
-process-inner-add-t19 t c =
+process-inner-count-inner-requires : (t : ℕ) → process-inner-lts.Need-count-inner-requires (process-inner-heard t) (process-inner-at t) process-inner.Post process-inner-Inv-loop process-inner-μ-loop
+process-inner-count-inner-requires t c κs =
     let earlier = c .before .before .before .before in
     let early = earlier .before .before .before .before in
-    let prior = early .before .before .before .before in
-    let pre = prior .before .pre in
-    record { fits = inner-count-fits (pre .1 .2) (pre .1 .3) (c .before .span-of .ensures) }
+    let pre = early .before .before .before .before .pre in
+    inner-count-fits (pre .1 .2) (pre .1 .3)
 
 process-inner-loop-holds : (t : ℕ) → process-inner-lts.Need-loop-holds (process-inner-heard t) (process-inner-at t) process-inner.Post process-inner-Inv-loop process-inner-μ-loop
 process-inner-loop-holds t c = λ g d F. framed-first F
@@ -104,11 +104,12 @@ process-inner-min-key-requires t c κs =
     let earlier = c .before .before .before .before .before .before .before .before in
     let early = earlier .before .before .before .before .before .before .before .before in
     let loop = c .before .before .before .loop in
+    let count-inner = c .before .before .before .before .count-inner in
     let span-of = c .before .before .before .before .before .span-of in
     let pre = early .before .pre in
     let G = pre .1 .0 in
     let D = pre .1 .1 in
-    let F = framed (pre .1 .2) (pre .1 .3) (span-of .ensures) in
+    let F = framed (pre .1 .2) (pre .1 .3) (span-of .ensures) (count-inner .ensures) in
     let L = loop .inv G D F in
     (D, L .represents .queues, F .in-range)
 
@@ -117,67 +118,74 @@ process-inner-same-length t c =
     let earlier = c .before .before .before .before .before .before .before .before in
     let early = earlier .before .before .before .before .before .before .before .before in
     let loop = c .before .before .before .before .before .loop in
+    let count-inner = c .before .before .before .before .before .before .count-inner in
     let span-of = c .before .before .before .before .before .before .before .span-of in
     let pre = early .before .before .before .pre in
-    loop .inv (pre .1 .0) (pre .1 .1) (framed (pre .1 .2) (pre .1 .3) (span-of .ensures)) .represents .labelled ∙ sym (pre .1 .2 .represents .labelled)
+    loop .inv (pre .1 .0) (pre .1 .1) (framed (pre .1 .2) (pre .1 .3) (span-of .ensures) (count-inner .ensures)) .represents .labelled ∙ sym (pre .1 .2 .represents .labelled)
 
 process-inner-same-length-2 : (t : ℕ) → process-inner-lts.Need-same-length-2 (process-inner-heard t) (process-inner-at t) process-inner.Post process-inner-Inv-loop process-inner-μ-loop
 process-inner-same-length-2 t c =
     let earlier = c .before .before .before .before .before .before .before .before in
     let early = earlier .before .before .before .before .before .before .before .before in
     let loop = c .before .before .before .before .before .loop in
+    let count-inner = c .before .before .before .before .before .before .count-inner in
     let span-of = c .before .before .before .before .before .before .before .span-of in
     let pre = early .before .before .before .pre in
-    loop .inv (pre .1 .0) (pre .1 .1) (framed (pre .1 .2) (pre .1 .3) (span-of .ensures)) .represents .fed ∙ sym (pre .1 .2 .represents .fed)
+    loop .inv (pre .1 .0) (pre .1 .1) (framed (pre .1 .2) (pre .1 .3) (span-of .ensures) (count-inner .ensures)) .represents .fed ∙ sym (pre .1 .2 .represents .fed)
 
 process-inner-same-length-3 : (t : ℕ) → process-inner-lts.Need-same-length-3 (process-inner-heard t) (process-inner-at t) process-inner.Post process-inner-Inv-loop process-inner-μ-loop
 process-inner-same-length-3 t c =
     let earlier = c .before .before .before .before .before .before .before .before in
     let early = earlier .before .before .before .before .before .before .before .before in
     let loop = c .before .before .before .before .before .loop in
+    let count-inner = c .before .before .before .before .before .before .count-inner in
     let span-of = c .before .before .before .before .before .before .before .span-of in
     let pre = early .before .before .before .pre in
-    loop .inv (pre .1 .0) (pre .1 .1) (framed (pre .1 .2) (pre .1 .3) (span-of .ensures)) .represents .owned ∙ sym (pre .1 .2 .represents .owned)
+    loop .inv (pre .1 .0) (pre .1 .1) (framed (pre .1 .2) (pre .1 .3) (span-of .ensures) (count-inner .ensures)) .represents .owned ∙ sym (pre .1 .2 .represents .owned)
 
 process-inner-same-length-4 : (t : ℕ) → process-inner-lts.Need-same-length-4 (process-inner-heard t) (process-inner-at t) process-inner.Post process-inner-Inv-loop process-inner-μ-loop
 process-inner-same-length-4 t c =
     let earlier = c .before .before .before .before .before .before .before .before in
     let early = earlier .before .before .before .before .before .before .before .before in
     let loop = c .before .before .before .before .before .loop in
+    let count-inner = c .before .before .before .before .before .before .count-inner in
     let span-of = c .before .before .before .before .before .before .before .span-of in
     let pre = early .before .before .before .pre in
-    loop .inv (pre .1 .0) (pre .1 .1) (framed (pre .1 .2) (pre .1 .3) (span-of .ensures)) .represents .queues .keyed ∙ sym (pre .1 .2 .represents .queues .keyed)
+    loop .inv (pre .1 .0) (pre .1 .1) (framed (pre .1 .2) (pre .1 .3) (span-of .ensures) (count-inner .ensures)) .represents .queues .keyed ∙ sym (pre .1 .2 .represents .queues .keyed)
 
 process-inner-same-length-5 : (t : ℕ) → process-inner-lts.Need-same-length-5 (process-inner-heard t) (process-inner-at t) process-inner.Post process-inner-Inv-loop process-inner-μ-loop
 process-inner-same-length-5 t c =
     let earlier = c .before .before .before .before .before .before .before .before in
     let early = earlier .before .before .before .before .before .before .before .before in
     let loop = c .before .before .before .before .before .loop in
+    let count-inner = c .before .before .before .before .before .before .count-inner in
     let span-of = c .before .before .before .before .before .before .before .span-of in
     let pre = early .before .before .before .pre in
-    loop .inv (pre .1 .0) (pre .1 .1) (framed (pre .1 .2) (pre .1 .3) (span-of .ensures)) .represents .queues .laid .seated .all ∙ sym (pre .1 .2 .represents .queues .laid .seated .all)
+    loop .inv (pre .1 .0) (pre .1 .1) (framed (pre .1 .2) (pre .1 .3) (span-of .ensures) (count-inner .ensures)) .represents .queues .laid .seated .all ∙ sym (pre .1 .2 .represents .queues .laid .seated .all)
 
 process-inner-returns : (t : ℕ) → process-inner-lts.Need-returns (process-inner-heard t) (process-inner-at t) process-inner.Post process-inner-Inv-loop process-inner-μ-loop
 unfolding top
 process-inner-returns t c =
     let earlier = c .before .before .before .before in
     let loop = earlier .before .loop in
+    let count-inner = earlier .before .before .count-inner in
     let span-of = earlier .before .before .before .span-of in
     λ g d P inner.
-    let F = framed P inner (span-of .ensures) in
+    let F = framed P inner (span-of .ensures) (count-inner .ensures) in
     let L = loop .inv g d F in
-    turns-worked P inner (span-of .ensures) (turns-none F L (c .before .min-key .ensures d _ _ (L .represents .queues) inner) (c .if1 .taken))
+    turns-worked P inner (span-of .ensures) (count-inner .ensures) (turns-none F L (c .before .min-key .ensures d _ _ (L .represents .queues) inner) (c .if1 .taken))
 
 process-inner-min-item-requires : (t : ℕ) → process-inner-lts.Need-min-item-requires (process-inner-heard t) (process-inner-at t) process-inner.Post process-inner-Inv-loop process-inner-μ-loop
 process-inner-min-item-requires t c κs =
     let earlier = c .before .before .before .before .before .before .before .before in
     let early = earlier .before .before .before .before .before .before .before .before in
     let loop = c .before .before .before .before .before .before .loop in
+    let count-inner = c .before .before .before .before .before .before .before .count-inner in
     let span-of = earlier .span-of in
     let pre = early .before .before .before .before .pre in
     let G = pre .1 .0 in
     let D = pre .1 .1 in
-    let F = framed (pre .1 .2) (pre .1 .3) (span-of .ensures) in
+    let F = framed (pre .1 .2) (pre .1 .3) (span-of .ensures) (count-inner .ensures) in
     let L = loop .inv G D F in
     (D, _, L .represents .queues, F .in-range)
 
@@ -192,11 +200,12 @@ process-inner-process-region-requires t c κs =
     let min-key = earlier .min-key in
     let loop-test = earlier .before .before .before .loop-test in
     let loop = earlier .before .before .before .before .loop in
+    let count-inner = earlier .before .before .before .before .before .count-inner in
     let span-of = earlier .before .before .before .before .before .before .span-of in
     let pre = prior .before .before .pre in
     let G = pre .1 .0 in
     let D = pre .1 .1 in
-    let F = framed (pre .1 .2) (pre .1 .3) (span-of .ensures) in
+    let F = framed (pre .1 .2) (pre .1 .3) (span-of .ensures) (count-inner .ensures) in
     let L = loop .inv G D F in
     let key = min-key .ensures D _ _ (L .represents .queues) (F .inner) in
     let item = min-item .ensures D _ (L .represents .queues) in (
@@ -217,11 +226,12 @@ process-inner-key-of-requires t c κs =
     let min-key = early .before .before .before .before .before .before .min-key in
     let loop-test = prior .before .loop-test in
     let loop = prior .before .before .loop in
+    let count-inner = prior .before .before .before .count-inner in
     let span-of = prior .before .before .before .before .span-of in
     let pre = first .before .before .before .before .before .before .before .before .pre in
     let G = pre .1 .0 in
     let D = pre .1 .1 in
-    let F = framed (pre .1 .2) (pre .1 .3) (span-of .ensures) in
+    let F = framed (pre .1 .2) (pre .1 .3) (span-of .ensures) (count-inner .ensures) in
     let L = loop .inv G D F in
     let key = min-key .ensures D _ _ (L .represents .queues) (F .inner) in
     let item = min-item .ensures D _ (L .represents .queues) in
@@ -243,11 +253,12 @@ process-inner-write-requires t c κs =
     let min-key = prior .before .min-key in
     let loop-test = prior .before .before .before .before .loop-test in
     let loop = prior .before .before .before .before .before .loop in
+    let count-inner = prior .before .before .before .before .before .before .count-inner in
     let span-of = prior .before .before .before .before .before .before .before .span-of in
     let pre = initial .before .before .before .pre in
     let G = pre .1 .0 in
     let D = pre .1 .1 in
-    let F = framed (pre .1 .2) (pre .1 .3) (span-of .ensures) in
+    let F = framed (pre .1 .2) (pre .1 .3) (span-of .ensures) (count-inner .ensures) in
     let L = loop .inv G D F in
     let key = min-key .ensures D _ _ (L .represents .queues) (F .inner) in
     let item = min-item .ensures D _ (L .represents .queues) in
@@ -303,7 +314,7 @@ process-inner-same-length-6 t c =
     let prior = early .before .before .before .before in
     let span-of = c .before .before .before .span-of in
     let pre = prior .before .before .before .pre in
-    c .before .loop .inv (pre .1 .0) (pre .1 .1) (framed (pre .1 .2) (pre .1 .3) (span-of .ensures)) .represents .labelled ∙ sym (pre .1 .2 .represents .labelled)
+    c .before .loop .inv (pre .1 .0) (pre .1 .1) (framed (pre .1 .2) (pre .1 .3) (span-of .ensures) (c .before .before .count-inner .ensures)) .represents .labelled ∙ sym (pre .1 .2 .represents .labelled)
 
 process-inner-same-length-7 : (t : ℕ) → process-inner-lts.Need-same-length-7 (process-inner-heard t) (process-inner-at t) process-inner.Post process-inner-Inv-loop process-inner-μ-loop
 process-inner-same-length-7 t c =
@@ -312,7 +323,7 @@ process-inner-same-length-7 t c =
     let prior = early .before .before .before .before in
     let span-of = c .before .before .before .span-of in
     let pre = prior .before .before .before .pre in
-    c .before .loop .inv (pre .1 .0) (pre .1 .1) (framed (pre .1 .2) (pre .1 .3) (span-of .ensures)) .represents .fed ∙ sym (pre .1 .2 .represents .fed)
+    c .before .loop .inv (pre .1 .0) (pre .1 .1) (framed (pre .1 .2) (pre .1 .3) (span-of .ensures) (c .before .before .count-inner .ensures)) .represents .fed ∙ sym (pre .1 .2 .represents .fed)
 
 process-inner-same-length-8 : (t : ℕ) → process-inner-lts.Need-same-length-8 (process-inner-heard t) (process-inner-at t) process-inner.Post process-inner-Inv-loop process-inner-μ-loop
 process-inner-same-length-8 t c =
@@ -321,7 +332,7 @@ process-inner-same-length-8 t c =
     let prior = early .before .before .before .before in
     let span-of = c .before .before .before .span-of in
     let pre = prior .before .before .before .pre in
-    c .before .loop .inv (pre .1 .0) (pre .1 .1) (framed (pre .1 .2) (pre .1 .3) (span-of .ensures)) .represents .owned ∙ sym (pre .1 .2 .represents .owned)
+    c .before .loop .inv (pre .1 .0) (pre .1 .1) (framed (pre .1 .2) (pre .1 .3) (span-of .ensures) (c .before .before .count-inner .ensures)) .represents .owned ∙ sym (pre .1 .2 .represents .owned)
 
 process-inner-same-length-9 : (t : ℕ) → process-inner-lts.Need-same-length-9 (process-inner-heard t) (process-inner-at t) process-inner.Post process-inner-Inv-loop process-inner-μ-loop
 process-inner-same-length-9 t c =
@@ -330,7 +341,7 @@ process-inner-same-length-9 t c =
     let prior = early .before .before .before .before in
     let span-of = c .before .before .before .span-of in
     let pre = prior .before .before .before .pre in
-    c .before .loop .inv (pre .1 .0) (pre .1 .1) (framed (pre .1 .2) (pre .1 .3) (span-of .ensures)) .represents .queues .keyed ∙ sym (pre .1 .2 .represents .queues .keyed)
+    c .before .loop .inv (pre .1 .0) (pre .1 .1) (framed (pre .1 .2) (pre .1 .3) (span-of .ensures) (c .before .before .count-inner .ensures)) .represents .queues .keyed ∙ sym (pre .1 .2 .represents .queues .keyed)
 
 process-inner-same-length-10 : (t : ℕ) → process-inner-lts.Need-same-length-10 (process-inner-heard t) (process-inner-at t) process-inner.Post process-inner-Inv-loop process-inner-μ-loop
 process-inner-same-length-10 t c =
@@ -339,13 +350,13 @@ process-inner-same-length-10 t c =
     let prior = early .before .before .before .before in
     let span-of = c .before .before .before .span-of in
     let pre = prior .before .before .before .pre in
-    c .before .loop .inv (pre .1 .0) (pre .1 .1) (framed (pre .1 .2) (pre .1 .3) (span-of .ensures)) .represents .queues .laid .seated .all ∙ sym (pre .1 .2 .represents .queues .laid .seated .all)
+    c .before .loop .inv (pre .1 .0) (pre .1 .1) (framed (pre .1 .2) (pre .1 .3) (span-of .ensures) (c .before .before .count-inner .ensures)) .represents .queues .laid .seated .all ∙ sym (pre .1 .2 .represents .queues .laid .seated .all)
 
 process-inner-returns-2 : (t : ℕ) → process-inner-lts.Need-returns-2 (process-inner-heard t) (process-inner-at t) process-inner.Post process-inner-Inv-loop process-inner-μ-loop
 process-inner-returns-2 t c =
     let span-of = c .before .before .before .span-of in
     λ g d P inner.
-    turns-worked P inner (span-of .ensures) (loop-spent (c .before .loop .inv g d (framed P inner (span-of .ensures))) (c .loop-test .left))
+    turns-worked P inner (span-of .ensures) (c .before .before .count-inner .ensures) (loop-spent (c .before .loop .inv g d (framed P inner (span-of .ensures) (c .before .before .count-inner .ensures))) (c .loop-test .left))
 
 process-region-arc-of-requires : (t : ℕ) → process-region-lts.Need-arc-of-requires (process-region-heard t) (process-region-at t) process-region.Post
 process-region-arc-of-requires t c κs =
@@ -415,42 +426,42 @@ process-region-process-leaf-requires t c κs =
     let arc-of = c .before .before .before .before .before .before .before .arc-of in
     let pre = early .before .before .before .pre in
     let P = pre .1 .2 in
-    (pre .1 .0, pre .1 .1, leaf-asks P (arc-of .ensures) (if1 .left), region-leaf P (arc-of .ensures) (if1 .left))
+    (pre .1 .0, pre .1 .1, _, leaf-asks P (arc-of .ensures) (if1 .left), region-leaf P (arc-of .ensures) (if1 .left))
 
 process-region-same-length-6 : (t : ℕ) → process-region-lts.Need-same-length-6 (process-region-heard t) (process-region-at t) process-region.Post
 process-region-same-length-6 t c =
     let earlier = c .before .before .before .before in
     let early = earlier .before .before .before .before in
     let process-leaf = early .before .before .process-leaf in
-    process-leaf .kept .1 .1 .1 .1 .1 .1 .0
+    process-leaf .kept .1 .1 .1 .1 .1 .0
 
 process-region-same-length-7 : (t : ℕ) → process-region-lts.Need-same-length-7 (process-region-heard t) (process-region-at t) process-region.Post
 process-region-same-length-7 t c =
     let earlier = c .before .before .before .before in
     let early = earlier .before .before .before .before in
     let process-leaf = early .before .before .process-leaf in
-    process-leaf .kept .1 .1 .1 .1 .1 .1 .1 .0
+    process-leaf .kept .1 .1 .1 .1 .1 .1 .0
 
 process-region-same-length-8 : (t : ℕ) → process-region-lts.Need-same-length-8 (process-region-heard t) (process-region-at t) process-region.Post
 process-region-same-length-8 t c =
     let earlier = c .before .before .before .before in
     let early = earlier .before .before .before .before in
     let process-leaf = early .before .before .process-leaf in
-    process-leaf .kept .1 .1 .1 .1 .1 .1 .1 .1 .0
+    process-leaf .kept .1 .1 .1 .1 .1 .1 .1 .0
 
 process-region-same-length-9 : (t : ℕ) → process-region-lts.Need-same-length-9 (process-region-heard t) (process-region-at t) process-region.Post
 process-region-same-length-9 t c =
     let earlier = c .before .before .before .before in
     let early = earlier .before .before .before .before in
     let process-leaf = early .before .before .process-leaf in
-    process-leaf .kept .1 .1 .1 .1 .1 .1 .1 .1 .1 .0
+    process-leaf .kept .1 .1 .1 .1 .1 .1 .1 .1 .0
 
 process-region-same-length-10 : (t : ℕ) → process-region-lts.Need-same-length-10 (process-region-heard t) (process-region-at t) process-region.Post
 process-region-same-length-10 t c =
     let earlier = c .before .before .before .before in
     let early = earlier .before .before .before .before in
     let process-leaf = early .before .before .process-leaf in
-    process-leaf .kept .1 .1 .1 .1 .1 .1 .1 .1 .1 .1 .0
+    process-leaf .kept .1 .1 .1 .1 .1 .1 .1 .1 .1 .0
 
 process-region-returns-2 : (t : ℕ) → process-region-lts.Need-returns-2 (process-region-heard t) (process-region-at t) process-region.Post
 process-region-returns-2 t c =
@@ -461,13 +472,15 @@ process-region-returns-2 t c =
     let arc-of = early .before .before .arc-of in
     λ g d P.
     leaf-worked P (arc-of .ensures) (if1 .left)
-    (process-leaf .ensures g d (leaf-asks P (arc-of .ensures) (if1 .left)) (region-leaf P (arc-of .ensures) (if1 .left)))
+    (process-leaf .ensures g d _ (leaf-asks P (arc-of .ensures) (if1 .left)) (region-leaf P (arc-of .ensures) (if1 .left)))
 
 pub +process-inner+process-region-spec : {M : Type 1} → statement M
 +process-inner+process-region-spec =
     close μ-process-inner μ-process-region (λ t. process-inner-lts.spec (
       span-of-reads.Asked,
       span-of-reads.Learnt,
+      count-inner-reads.Asked,
+      count-inner-reads.Learnt,
       min-key-reads.Asked,
       min-key-reads.Learnt,
       min-item-reads.Asked,
@@ -484,7 +497,7 @@ pub +process-inner+process-region-spec : {M : Type 1} → statement M
     process-inner-Inv-loop
     process-inner-μ-loop
     (process-inner-span-of-requires t)
-    (process-inner-add-t19 t)
+    (process-inner-count-inner-requires t)
     (process-inner-loop-holds t)
     (process-inner-min-key-requires t)
     (process-inner-same-length t)

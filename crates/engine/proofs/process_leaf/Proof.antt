@@ -16,12 +16,11 @@ tail-of-requires : tie.Need-tail-of-requires
 tail-of-requires c κs =
     let earlier = c .before .before .before .before in
     let early = earlier .before .before .before .before in
-    let prior = early .before .before .before .before in
-    let pre = prior .before .pre in
-    leaf-row-in (pre .2) (pre .3) (c .before .arc-of .ensures)
+    let pre = early .before .before .before .before .pre in
+    leaf-row-in (pre .3) (pre .4) (c .before .arc-of .ensures)
 
-cast-u : tie.Need-cast-u
-cast-u c = search needs
+cast-tail : tie.Need-cast-tail
+cast-tail c = search needs
 
 head-of-requires : tie.Need-head-of-requires
 head-of-requires c κs =
@@ -29,11 +28,11 @@ head-of-requires c κs =
     let early = earlier .before .before .before .before in
     let prior = early .before .before .before .before in
     let arc-of = c .before .before .before .arc-of in
-    let pre = prior .before .before .before .pre in
-    leaf-row-in (pre .2) (pre .3) (arc-of .ensures)
+    let pre = prior .before .before .pre in
+    leaf-row-in (pre .3) (pre .4) (arc-of .ensures)
 
-cast-v : tie.Need-cast-v
-cast-v c = search needs
+cast-head : tie.Need-cast-head
+cast-head c = search needs
 
 mul-wide : tie.Need-mul-wide
 mul-wide c = search needs
@@ -44,8 +43,8 @@ slice-read-wide c =
     let early = earlier .before .before .before .before .before .before .before .before in
     let tail-of = c .before .before .before .before .tail-of in
     let arc-of = c .before .before .before .before .before .before .arc-of in
-    let pre = early .before .before .pre in
-    leaf-tail-in (pre .2) (pre .3) (arc-of .ensures) (tail-of .ensures)
+    let pre = early .before .pre in
+    leaf-tail-in (pre .3) (pre .4) (arc-of .ensures) (tail-of .ensures)
 
 wide-requires : tie.Need-wide-requires
 wide-requires c κs = search needs
@@ -58,8 +57,8 @@ shared-slice-read-wide c =
     let earlier = c .before .before .before .before .before .before .before .before in
     let early = earlier .before .before .before .before .before .before .before .before in
     let arc-of = earlier .arc-of in
-    let pre = early .before .before .before .before .pre in
-    leaf-length-in (pre .2) (pre .3) (arc-of .ensures)
+    let pre = early .before .before .before .pre in
+    leaf-length-in (pre .3) (pre .4) (arc-of .ensures)
 
 wide-requires-2 : tie.Need-wide-requires-2
 wide-requires-2 c κs = search needs
@@ -76,8 +75,8 @@ slice-read-wide-2 c =
     let early = earlier .before .before .before .before .before .before .before .before in
     let head-of = c .before .before .before .before .before .before .head-of in
     let arc-of = earlier .before .before .arc-of in
-    let pre = early .before .before .before .before .before .before .pre in
-    leaf-head-in (pre .2) (pre .3) (arc-of .ensures) (head-of .ensures)
+    let pre = early .before .before .before .before .before .pre in
+    leaf-head-in (pre .3) (pre .4) (arc-of .ensures) (head-of .ensures)
 
 wide-requires-3 : tie.Need-wide-requires-3
 wide-requires-3 c κs = search needs
@@ -90,16 +89,15 @@ slice-write-own c =
     let earlier = c .before .before .before .before .before .before .before .before in
     let early = earlier .before .before .before .before .before .before .before .before in
     let arc-of = earlier .before .before .before .before .arc-of in
-    let pre = early .before .before .before .before .before .before .before .before .pre in
-    leaf-own-in (pre .2) (pre .3) (arc-of .ensures)
+    let pre = early .before .before .before .before .before .before .before .pre in
+    leaf-own-in (pre .3) (pre .4) (arc-of .ensures)
 
-add-t35 : tie.Need-add-t35
-add-t35 c =
+count-leaf-requires : tie.Need-count-leaf-requires
+count-leaf-requires c κs =
     let earlier = c .before .before .before .before .before .before .before .before in
     let early = earlier .before .before .before .before .before .before .before .before in
-    let prior = early .before .before .before .before .before .before .before .before in
-    let pre = prior .before .pre in
-    record { fits = leaf-count-fits (pre .2) (pre .3) }
+    let pre = early .before .before .before .before .before .before .before .pre in
+    leaf-count-fits (pre .3) (pre .4)
 
 same-length : tie.Need-same-length
 same-length c = search needs
@@ -115,56 +113,46 @@ returns c =
     let head-of = early .before .head-of in
     let tail-of = early .before .before .before .tail-of in
     let arc-of = prior .before .arc-of in
-    λ g d P leaf. leaf-stays P leaf (arc-of .ensures) (tail-of .ensures) (head-of .ensures) (wide .ensures .0) (wide2 .ensures .0) (c .before .before .wide3 .ensures .0) (c .before .if1 .taken)
+    λ g d spans P leaf. leaf-stays P leaf (arc-of .ensures) (tail-of .ensures) (head-of .ensures) (wide .ensures .0) (wide2 .ensures .0) (c .before .before .wide3 .ensures .0) (c .before .if1 .taken) (c .count-leaf .ensures)
 
 cast-key : tie.Need-cast-key
 cast-key c = search needs
 
-mul-labels : tie.Need-mul-labels
-mul-labels c = search needs
-
-slice-write-labels : tie.Need-slice-write-labels
-slice-write-labels c =
-    let earlier = c .before .before .before .before .before .before .before .before in
-    let early = earlier .before .before .before .before .before .before .before .before in
-    let head-of = earlier .head-of in
-    let arc-of = earlier .before .before .before .before .arc-of in
-    let pre = early .before .before .before .before .before .before .before .before .pre in
-    leaf-head-in (pre .2) (pre .3) (arc-of .ensures) (head-of .ensures)
-
-cast-predecessors : tie.Need-cast-predecessors
-cast-predecessors c = search needs
-
-mul-predecessors : tie.Need-mul-predecessors
-mul-predecessors c = search needs
-
-slice-write-predecessors : tie.Need-slice-write-predecessors
-slice-write-predecessors c =
+lower-label-requires : tie.Need-lower-label-requires
+lower-label-requires c κs =
     let earlier = c .before .before .before .before .before .before .before .before in
     let early = earlier .before .before .before .before .before .before .before .before in
     let prior = early .before .before .before .before .before .before .before .before in
-    let head-of = earlier .before .head-of in
-    let arc-of = earlier .before .before .before .before .before .arc-of in
+    let head-of = earlier .before .before .head-of in
+    let arc-of = earlier .before .before .before .before .before .before .arc-of in
     let pre = prior .before .pre in
-    leaf-head-fed (pre .2) (pre .3) (arc-of .ensures) (head-of .ensures)
+    (leaf-head-in (pre .3) (pre .4) (arc-of .ensures) (head-of .ensures), leaf-head-fed (pre .3) (pre .4) (arc-of .ensures) (head-of .ensures))
 
 update-outgoing-requires : tie.Need-update-outgoing-requires
 update-outgoing-requires c κs =
     let earlier = c .before .before .before .before .before .before .before .before in
     let early = earlier .before .before .before .before .before .before .before .before in
     let prior = early .before .before .before .before .before .before .before .before in
-    let if1 = c .before .before .before .before .if1 in
-    let wide3 = c .before .before .before .before .before .wide3 in
-    let wide2 = c .before .before .before .before .before .before .before .wide2 in
-    let wide = earlier .before .wide in
-    let head-of = earlier .before .before .before .before .head-of in
-    let tail-of = earlier .before .before .before .before .before .before .tail-of in
-    let arc-of = early .arc-of in
-    let pre = prior .before .before .before .before .pre in
-    (pre .0, pre .1, leaf-asks (pre .2) (pre .3) (arc-of .ensures) (tail-of .ensures) (head-of .ensures) (wide .ensures .0) (wide2 .ensures .0) (wide3 .ensures .0) (if1 .left))
+    let first = prior .before .before .before .before .before .before .before .before in
+    let if1 = earlier .before .before .if1 in
+    let wide3 = earlier .before .before .before .wide3 in
+    let wide2 = earlier .before .before .before .before .before .wide2 in
+    let wide = earlier .before .before .before .before .before .before .before .wide in
+    let head-of = early .before .before .head-of in
+    let tail-of = early .before .before .before .before .tail-of in
+    let arc-of = early .before .before .before .before .before .before .arc-of in
+    let pre = first .before .pre in
+    (pre .0, pre .1, leaf-asks (pre .3) (pre .4) (arc-of .ensures) (tail-of .ensures) (head-of .ensures) (wide .ensures .0) (wide2 .ensures .0) (wide3 .ensures .0) (if1 .left))
 
 mul-own-2 : tie.Need-mul-own-2
-mul-own-2 c = search needs
+mul-own-2 c =
+    let earlier = c .before .before .before .before .before .before .before .before in
+    let early = earlier .before .before .before .before .before .before .before .before in
+    let prior = early .before .before .before .before .before .before .before .before in
+    let first = prior .before .before .before .before .before .before .before .before in
+    let arc-of = prior .before .before .before .before .before .arc-of in
+    let pre = first .before .before .before .before .before .before .before .before .pre in
+    omega (arith, leaf-own-in (pre .3) (pre .4) (arc-of .ensures), pre .3 .represents .owned, pre .3 .represents .tabled .ok .graph .few-arcs)
 
 slice-write-own-2 : tie.Need-slice-write-own-2
 slice-write-own-2 c =
@@ -173,18 +161,18 @@ slice-write-own-2 c =
     let prior = early .before .before .before .before .before .before .before .before in
     let first = prior .before .before .before .before .before .before .before .before in
     let update-outgoing = c .before .before .before .before .before .before .update-outgoing in
-    let arc-of = early .before .before .before .before .before .before .before .arc-of in
-    let pre = first .before .before .before .pre in
-    omega (arith, leaf-own-in (pre .2) (pre .3) (arc-of .ensures), update-outgoing .kept .1 .1 .1 .0)
+    let arc-of = prior .before .before .before .before .before .arc-of in
+    let pre = first .before .before .before .before .before .before .before .before .pre in
+    omega (arith, leaf-own-in (pre .3) (pre .4) (arc-of .ensures), update-outgoing .kept .1 .1 .1 .0)
 
-add-t27 : tie.Need-add-t27
-add-t27 c =
+count-leaf-requires-2 : tie.Need-count-leaf-requires-2
+count-leaf-requires-2 c κs =
     let earlier = c .before .before .before .before .before .before .before .before in
     let early = earlier .before .before .before .before .before .before .before .before in
     let prior = early .before .before .before .before .before .before .before .before in
     let first = prior .before .before .before .before .before .before .before .before in
-    let pre = first .before .before .before .before .pre in
-    record { fits = leaf-count-fits (pre .2) (pre .3) }
+    let pre = first .before .before .before .before .before .before .before .before .pre in
+    leaf-count-fits (pre .3) (pre .4)
 
 same-length-2 : tie.Need-same-length-2
 same-length-2 c = search needs
@@ -206,17 +194,20 @@ unfolding top
 returns-2 c =
     let earlier = c .before .before .before .before .before .before .before .before in
     let early = earlier .before .before .before .before .before .before .before .before in
+    let prior = early .before .before .before .before .before .before .before .before in
     let update-outgoing = c .before .before .before .before .before .before .before .update-outgoing in
-    let if1 = earlier .before .before .before .before .if1 in
-    let wide3 = earlier .before .before .before .before .before .wide3 in
-    let wide2 = earlier .before .before .before .before .before .before .before .wide2 in
-    let wide = early .before .wide in
-    let head-of = early .before .before .before .before .head-of in
-    let tail-of = early .before .before .before .before .before .before .tail-of in
-    let arc-of = early .before .before .before .before .before .before .before .before .arc-of in
-    λ g d P leaf.
+    let lower-label = earlier .before .before .before .before .before .before .before .lower-label in
+    let if1 = early .before .before .if1 in
+    let wide3 = early .before .before .before .wide3 in
+    let wide2 = early .before .before .before .before .before .wide2 in
+    let wide = early .before .before .before .before .before .before .before .wide in
+    let head-of = prior .before .before .head-of in
+    let tail-of = prior .before .before .before .before .tail-of in
+    let arc-of = prior .before .before .before .before .before .before .arc-of in
+    λ g d spans P leaf.
     let asks = leaf-asks P leaf (arc-of .ensures) (tail-of .ensures) (head-of .ensures) (wide .ensures .0) (wide2 .ensures .0) (wide3 .ensures .0) (if1 .left) in
-    leaf-falls P leaf (arc-of .ensures) (tail-of .ensures) (head-of .ensures) (wide .ensures .0) (wide2 .ensures .0) (wide3 .ensures .0) (if1 .left) (update-outgoing .ensures g d asks) (update-outgoing .kept .1 .1 .1 .0)
+    let Q = update-outgoing .ensures g d asks in
+    leaf-falls P leaf (arc-of .ensures) (tail-of .ensures) (head-of .ensures) (wide .ensures .0) (wide2 .ensures .0) (wide3 .ensures .0) (if1 .left) (lower-label .ensures) Q (update-outgoing .kept .1 .1 .1 .0) (c .count-leaf2 .ensures)
 
 pub process-leaf-spec : {M : Type 1} → statement M
 process-leaf-spec =
@@ -225,9 +216,9 @@ process-leaf-spec =
     arc-of-requires
     cast-i
     tail-of-requires
-    cast-u
+    cast-tail
     head-of-requires
-    cast-v
+    cast-head
     mul-wide
     slice-read-wide
     wide-requires
@@ -240,19 +231,15 @@ process-leaf-spec =
     wide-requires-3
     mul-own
     slice-write-own
-    add-t35
+    count-leaf-requires
     same-length
     returns
     cast-key
-    mul-labels
-    slice-write-labels
-    cast-predecessors
-    mul-predecessors
-    slice-write-predecessors
+    lower-label-requires
     update-outgoing-requires
     mul-own-2
     slice-write-own-2
-    add-t27
+    count-leaf-requires-2
     same-length-2
     same-length-3
     same-length-4

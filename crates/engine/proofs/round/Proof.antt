@@ -4,19 +4,20 @@ use Rattle.engine.proofs.Loops.{round-asks, round-count-fits, round-mad
 use Rattle.engine.proofs.round.Statement.{statement}
 use Rattle.engine.proofs.round.Tie as tie
 
-add-t14 : tie.Need-add-t14
-add-t14 c =
+count-round-requires : tie.Need-count-round-requires
+count-round-requires c κs =
     let earlier = c .before .before .before .before in
     let early = earlier .before .before .before .before in
-    let pre = early .before .before .before .before .pre in
-    record { fits = round-count-fits (pre .2) }
+    let prior = early .before .before .before .before in
+    let pre = prior .before .before .before .before .pre in
+    round-count-fits (pre .2)
 
 process-region-requires : tie.Need-process-region-requires
 process-region-requires c κs =
     let earlier = c .before .before .before .before .before .before .before .before in
     let early = earlier .before .before .before .before .before .before .before .before in
     let pre = early .before .pre in
-    (pre .0, pre .1, round-asks (pre .2))
+    (pre .0, pre .1, round-asks (pre .2) (c .count-round .ensures))
 
 same-length : tie.Need-same-length
 same-length c = search needs
@@ -38,13 +39,14 @@ returns c =
     let earlier = c .before .before .before .before in
     let early = earlier .before .before .before .before in
     let process-region = early .before .before .process-region in
-    λ g d P. round-made P (process-region .ensures g d (round-asks P))
+    let count-round = early .before .before .before .count-round in
+    λ g d P. round-made P (count-round .ensures) (process-region .ensures g d (round-asks P (count-round .ensures)))
 
 pub round-spec : {M : Type 1} → statement M
 round-spec =
     tie.close
     (tie.spec
-    add-t14
+    count-round-requires
     process-region-requires
     same-length
     same-length-2

@@ -18,8 +18,8 @@ fill-keys-requires-3 c κs = search needs
 clear-requires : tie.Need-clear-requires
 clear-requires c κs = search needs
 
-cast-s : tie.Need-cast-s
-cast-s c = search needs
+cast-i : tie.Need-cast-i
+cast-i c = search needs
 
 mul-labels : tie.Need-mul-labels
 mul-labels c = search needs
@@ -30,8 +30,8 @@ slice-write-labels c =
     let early = earlier .before .before .before .before .before .before .before .before in
     let prior = early .before .before .before .before .before .before .before .before in
     let fill-keys = early .before .before .fill-keys in
-    let pre = prior .before .before .before .before .before .before .before .pre in
-    omega (arith, source-in (pre .2) (pre .3), fill-keys .kept .0)
+    let pre = prior .before .before .before .before .pre in
+    omega (arith, source-in (pre .5) (pre .6), fill-keys .kept .0)
 
 update-outgoing-requires : tie.Need-update-outgoing-requires
 unfolding top
@@ -39,13 +39,12 @@ update-outgoing-requires c κs =
     let earlier = c .before .before .before .before .before .before .before .before in
     let early = earlier .before .before .before .before .before .before .before .before in
     let prior = early .before .before .before .before .before .before .before .before in
-    let first = prior .before .before .before .before .before .before .before .before in
     let clear = earlier .clear in
     let fill-keys3 = earlier .before .before .before .before .before .fill-keys3 in
     let fill-keys2 = early .before .fill-keys2 in
     let fill-keys = early .before .before .before .before .before .fill-keys in
-    let pre = first .before .before .pre in
-    (pre .0, pre .1, start-asks (pre .2) (pre .3) (fill-keys .ensures) (fill-keys2 .ensures) (fill-keys3 .ensures) (clear .ensures .0) (clear .ensures .1 (pre .1) (pre .2 .laid)))
+    let pre = prior .before .before .before .before .before .before .before .pre in
+    (pre .0, pre .1, start-asks (pre .5) (pre .6) (fill-keys .ensures) (fill-keys2 .ensures) (fill-keys3 .ensures) (clear .ensures .0) (clear .ensures .1 (pre .1) (pre .5 .laid)))
 
 same-length : tie.Need-same-length
 same-length c = search needs
@@ -73,7 +72,7 @@ returns c =
     let fill-keys3 = early .before .before .before .before .fill-keys3 in
     let fill-keys2 = prior .fill-keys2 in
     let fill-keys = prior .before .before .before .before .fill-keys in
-    λ g d B source.
+    λ g d lengths spans regions B source.
     let Q = clear .ensures .1 d (B .laid) in
     started B source (fill-keys .ensures) (fill-keys2 .ensures) (fill-keys3 .ensures) (clear .ensures .0) Q (update-outgoing .ensures g d (start-asks B source (fill-keys .ensures) (fill-keys2 .ensures) (fill-keys3 .ensures) (clear .ensures .0) Q)) (update-outgoing .kept .1 .1 .1 .0)
 
@@ -85,7 +84,7 @@ start-spec =
     fill-keys-requires-2
     fill-keys-requires-3
     clear-requires
-    cast-s
+    cast-i
     mul-labels
     slice-write-labels
     update-outgoing-requires
