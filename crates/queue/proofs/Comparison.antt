@@ -1,13 +1,13 @@
 -- The comparison of two items by one number each, key * 65536 + region: it is the order among items. Assumes nothing.
 use Prim.Native.Nat.{ℕ, _+_, _*_, _≤_, _<_}
 use mathlib.Core.Bool.{true, false}
-use mathlib.Core.Path.{_≡_, refl, sym, _∙_}
+use mathlib.Core.Path.{_≡_, _∙_}
 use mathlib.Core.Logic.{_≢_, ⊎-elim}
 use mathlib.Core.List.{List}
 use native.Mathlib.Omega.{arith}
 use borrow.Author.Tests.{lt-ltb, le-ltb}
 use Rattle.indices.specs.Columns.{at}
-use Rattle.indices.proofs.Steps.{eq-or-ne, lt-or-le}
+use Rattle.indices.proofs.Steps.{eq-or-ne}
 use Rattle.procedure.specs.Division.{Division}
 use Rattle.procedure.specs.Queues.{before}
 use Rattle.theory.proofs.Order.{before-lower, before-tie, before-higher}

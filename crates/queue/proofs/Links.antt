@@ -1,21 +1,21 @@
--- Links through a column: each leads to the next index with the same value, so that a walk along them meets the indices with one value, in order.
--- Assumes nothing.
-use Prim.Native.Nat.{ℕ, zero, suc, _+_, _*_, _-_, _/_, _≤_, _<_}
-use mathlib.Core.Bool.{Bool, true, false}
+-- Links: each leads to the next index with the same value, so a walk along them meets all indices with one value, in order. Assumes nothing.
+use Prim.Native.Nat.{ℕ, zero, suc, _+_, _*_, _-_, _≤_, _<_}
 use mathlib.Core.Path.{_≡_, refl, sym, ap, _∙_}
 use mathlib.Core.Logic.{_≢_, _⊎_, inl, inr, ⊎-elim}
 use mathlib.Core.List.{List}
 use native.Mathlib.Nat.{le-refl, le-trans}
 use native.Mathlib.Numerals.{add-one}
 use native.Mathlib.Omega.{arith}
-use borrow.Author.Tests.{eq-eqb, ne-eqb, eqb-true, eqb-false}
+use borrow.Author.Tests.{eq-eqb, ne-eqb}
 use lib.ListN.{length, set, replicate, length-set}
 use lib.Seq.{getD-set-other}
-use lib.Dec.{eqb}
 use Rattle.indices.specs.Columns.{at}
-use Rattle.indices.specs.Steps.{if_then_else_, upTo}
-use Rattle.indices.proofs.Steps.{eq-or-ne, true-or-false, set-elim}
-use Rattle.queue.specs.Rows.{field}
+use Rattle.indices.specs.Steps.{upTo}
+use Rattle.indices.proofs.Steps.{eq-or-ne, set-elim}
+use Rattle.procedure.specs.Division.{Division}
+use Rattle.procedure.specs.State.{Queues}
+use Rattle.procedure.specs.Queues.{updateArc, updateOutgoing}
+use Rattle.queue.specs.Rows.{field, rowCount, rowTail, rowNext}
 use Rattle.queue.specs.Links.{nextFor, nextFrom, Links, stepAt, Linkable, Linked}
 use Rattle.queue.proofs.Filled.{filled-at, filled-length}
 
@@ -82,6 +82,10 @@ module _ (column : ℕ → ℕ) where
 
   -- A WALK
 
+  -- what is left of the indices falls with each link
+  pub walk-falls : {m n : ℕ} {first next : ℕ → ℕ} → Links column m n first next → (a : ℕ) → a < m → m - next a < m - a
+  walk-falls {m} L a l = omega (arith, L .nexts a l, next-from m (column a) (a + 1))
+
   module _ {S : Type 0} (step : ℕ → S → S) (v : ℕ) (s : S) where
     -- the steps at the indices below a at which the column has v
     abbrev pub stepsBelow : ℕ → S
@@ -103,7 +107,8 @@ module _ (column : ℕ → ℕ) where
     steps-skip-for zero a = rw (for-none v a)
     steps-skip-for (suc n) a = go (steps-skip-for n (suc a)) (eq-or-ne (column a) v)
       where
-        go : stepsBelow (nextFor column v n (suc a)) ≡ stepsBelow (suc a) → (column a ≡ v) ⊎ (column a ≢ v) → stepsBelow (nextFor column v (suc n) a) ≡ stepsBelow a
+        go : stepsBelow (nextFor column v n (suc a)) ≡ stepsBelow (suc a) → (column a ≡ v) ⊎ (column a ≢ v)
+            → stepsBelow (nextFor column v (suc n) a) ≡ stepsBelow a
         go ih (inl e) = rw (for-hit v n a e)
         go ih (inr e) = rw (for-miss v n a e) (ih ∙ steps-miss a e)
 
@@ -145,61 +150,87 @@ module _ (column : ℕ → ℕ) where
             sofar = e ∙ ap (step a) (W .sofar) ∙ sym (steps-skip m (a + 1) ∙ ap stepsBelow (add-one a) ∙ steps-hit a h);
           })
 
-      -- what is left of the indices falls
-      pub walk-falls : (a : ℕ) → a < m → m - next a < m - a
-      walk-falls a l = omega (arith, L .nexts a l, next-from m (column a) (a + 1))
-
     -- at its end all steps are made
     pub walk-end : {m a : ℕ} {t : S} → Walk m a t → m ≤ a → t ≡ upTo m (stepAt column v step) s
     walk-end {m} {a} W l = let e : a ≡ m = omega (arith, W .within) in rw e at (W .sofar)
 
     -- a number that no step lowers is, after the step at a, at most what it is at the end
-    pub walk-part : (f : S → ℕ) → ((a : ℕ) (t : S) → f t ≤ f (step a t)) → {m a : ℕ} {t : S} → Walk m a t → a < m → f (step a t) ≤ f (upTo m (stepAt column v step) s)
+    pub walk-part : (f : S → ℕ) → ((a : ℕ) (t : S) → f t ≤ f (step a t)) → {m a : ℕ} {t : S} → Walk m a t → a < m
+        → f (step a t) ≤ f (upTo m (stepAt column v step) s)
     walk-part f up {m} {a} W l =
         let e : suc a + (m - suc a) ≡ m = omega arith in
         rw (W .sofar, ← steps-hit a (W .hit l)) (rw e at (steps-grow f up (suc a) (m - suc a)))
+
+-- ANOTHER COLUMN WITH THE SAME VALUES
+
+module _ (column column′ : ℕ → ℕ) where
+  for-same : (v n a : ℕ) → ((i : ℕ) → a ≤ i → i < a + n → column′ i ≡ column i) → nextFor column′ v n a ≡ nextFor column v n a
+  for-same v zero a same = for-none column′ v a ∙ sym (for-none column v a)
+  for-same v (suc n) a same =
+      go (for-same v n (suc a) (λ i l h. same i (omega arith) (omega arith))) (same a (le-refl a) (omega arith)) (eq-or-ne (column a) v)
+    where
+      go : nextFor column′ v n (suc a) ≡ nextFor column v n (suc a) → column′ a ≡ column a → (column a ≡ v) ⊎ (column a ≢ v)
+          → nextFor column′ v (suc n) a ≡ nextFor column v (suc n) a
+      go rest e (inl h) = for-hit column′ v n a (e ∙ h) ∙ sym (for-hit column v n a h)
+      go rest e (inr h) = for-miss column′ v n a (λ s. h (sym e ∙ s)) ∙ rest ∙ sym (for-miss column v n a h)
+
+  -- links through one column are links through a column with the same values
+  pub links-same : {m n : ℕ} {first next : ℕ → ℕ} → ((a : ℕ) → a < m → column′ a ≡ column a) → Links column m n first next → Links column′ m n first next
+  unfolding nextFrom
+  links-same {m} same L = record {
+    short = L .short;
+    below = λ a l. rw (same a l) (L .below a l);
+    firsts = λ v l. L .firsts v l ∙ sym (for-same v (m - 0) 0 (λ i h k. same i (omega arith)));
+    nexts = λ a l. rw (same a l) (L .nexts a l ∙ sym (for-same (column a) (m - (a + 1)) (a + 1) (λ i h k. same i (omega arith))));
+  }
+
+-- the steps of a walk over the tails are the update of a node's outgoing arcs
+pub outgoing-steps : (d : Division) (tails : List ℕ) (v k : ℕ) (q : Queues)
+    → upTo (length tails) (stepAt (at tails) v (λ a. updateArc d a k)) q ≡ updateOutgoing d tails v k q
+unfolding updateOutgoing
+outgoing-steps d tails v k q = refl
 
 -- LINKS FILLED FROM THE BACK
 
 -- the arcs from a on are linked
 pub record Linking (arcs₀ : List ℕ) (n : ℕ) (arcs firsts : List ℕ) (a : ℕ) : Type 0 where
-  pub able : (i : ℕ) → i < length arcs₀ / 4 → field arcs₀ i 0 < n
-  pub within : a ≤ length arcs₀ / 4
+  pub able : (i : ℕ) → i < rowCount arcs₀ → rowTail arcs₀ i < n
+  pub within : a ≤ rowCount arcs₀
   pub long : length arcs ≡ length arcs₀
   pub wide : length firsts ≡ n
   pub kept : (i k : ℕ) → k < 3 → field arcs i k ≡ field arcs₀ i k
-  pub first : (v : ℕ) → v < n → at firsts v ≡ nextFrom (λ i. field arcs₀ i 0) (length arcs₀ / 4) v a
-  pub next : (i : ℕ) → a ≤ i → i < length arcs₀ / 4 → field arcs i 3 ≡ nextFrom (λ i. field arcs₀ i 0) (length arcs₀ / 4) (field arcs₀ i 0) (i + 1)
+  pub first : (v : ℕ) → v < n → at firsts v ≡ nextFrom (rowTail arcs₀) (rowCount arcs₀) v a
+  pub next : (i : ℕ) → a ≤ i → i < rowCount arcs₀ → rowNext arcs i ≡ nextFrom (rowTail arcs₀) (rowCount arcs₀) (rowTail arcs₀ i) (i + 1)
 
-pub linking-start : (arcs firsts₀ firsts : List ℕ) → Linkable arcs firsts₀ → firsts ≡ replicate (length firsts₀) (length arcs / 4)
-    → Linking arcs (length firsts) arcs firsts (length arcs / 4)
+pub linking-start : (arcs firsts₀ firsts : List ℕ) → Linkable arcs firsts₀ → firsts ≡ replicate (length firsts₀) (rowCount arcs)
+    → Linking arcs (length firsts) arcs firsts (rowCount arcs)
 linking-start arcs firsts₀ firsts A e =
-    let l = filled-length firsts₀ firsts (length arcs / 4) e in
+    let l = filled-length firsts₀ firsts (rowCount arcs) e in
     record {
       able = λ i h. omega (arith, A .below i h);
-      within = le-refl (length arcs / 4);
+      within = le-refl (rowCount arcs);
       long = refl;
       wide = refl;
       kept = λ i k h. refl;
-      first = λ v h. filled-at firsts₀ firsts (length arcs / 4) e v (omega arith) ∙ sym (next-end (λ i. field arcs i 0) (length arcs / 4) v);
+      first = λ v h. filled-at firsts₀ firsts (rowCount arcs) e v (omega arith) ∙ sym (next-end (rowTail arcs) (rowCount arcs) v);
       next = λ i m h. absurd (omega arith);
     }
 
 pub record LinkBounds (arcs firsts : List ℕ) (b : ℕ) : Type 0 where
-  pub row : 4 * b + 3 < length arcs
-  pub tail-in : field arcs b 0 < length firsts
+  pub row : b < rowCount arcs
+  pub tail-in : rowTail arcs b < length firsts
 
 module _ {arcs₀ arcs firsts : List ℕ} {n a : ℕ} (L : Linking arcs₀ n arcs firsts a) (pos : 0 < a) where
-  b-in : a - 1 < length arcs₀ / 4
+  b-in : a - 1 < rowCount arcs₀
   b-in = omega (arith, L .within)
 
-  tail-low : field arcs₀ (a - 1) 0 < length firsts
+  tail-low : rowTail arcs₀ (a - 1) < length firsts
   tail-low = omega (arith, L .able (a - 1) b-in, L .wide)
 
   pub link-bounds : LinkBounds arcs firsts (a - 1)
   link-bounds = record { row = omega (arith, b-in, L .long); tail-in = rw (L .kept (a - 1) 0 (omega arith)) tail-low }
 
-  pub linking-step : (tail : ℕ) → tail ≡ field arcs (a - 1) 0
+  pub linking-step : (tail : ℕ) → tail ≡ rowTail arcs (a - 1)
       → Linking arcs₀ n (set arcs (4 * (a - 1) + 3) (at firsts tail)) (set firsts tail (a - 1)) (a - 1)
   linking-step tail e = rw (e ∙ L .kept (a - 1) 0 (omega arith)) (record {
     able = L .able;
@@ -220,19 +251,21 @@ module _ {arcs₀ arcs firsts : List ℕ} {n a : ℕ} (L : Linking arcs₀ n arc
   })
     where
       m : ℕ
-      m = length arcs₀ / 4
+      m = rowCount arcs₀
 
       column : ℕ → ℕ
-      column i = field arcs₀ i 0
+      column i = rowTail arcs₀ i
 
       back : a - 1 + 1 ≡ a
       back = omega arith
 
-pub linking-end : {arcs₀ arcs firsts : List ℕ} {n a : ℕ} → length arcs₀ / 4 < 65536 → Linking arcs₀ n arcs firsts a → a ≤ 0 → Linked arcs₀ arcs firsts
+pub linking-end : {arcs₀ arcs firsts : List ℕ} {n a : ℕ} → rowCount arcs₀ < 65536 → Linking arcs₀ n arcs firsts a → a ≤ 0 → Linked arcs₀ arcs firsts
 linking-end {arcs₀} {arcs} {firsts} {n} {a} short L l =
     let e : a ≡ 0 = omega arith in
     record {
-      kept = L .kept;
+      tails = λ a. L .kept a 0 (omega arith);
+      heads = λ a. L .kept a 1 (omega arith);
+      leaves = λ a. L .kept a 2 (omega arith);
       links =
           rw (L .wide)
           (record { short = short; below = L .able; firsts = λ v h. rw e at (L .first v h); nexts = λ i h. L .next i (omega arith) h });

@@ -13,16 +13,27 @@ use Rattle.indices.specs.Tests.{count}
 use Rattle.indices.proofs.Tests.{count-none, count-in, count-out, count-le}
 use Rattle.indices.proofs.Steps.{eq-or-ne, set-elim}
 use Rattle.procedure.specs.Division.{Division, regions, parent, isChild}
+use Rattle.procedure.specs.WellFormed.{DivisionOk}
 use Rattle.theory.proofs.Chosen.{Child, parent-child}
-use Rattle.queue.specs.Rows.{field}
-use Rattle.queue.specs.Trees.{childCount, elders, treeStart, seat, place, ParentsOf, Counted, Ranked, Started, Planned, Seated, LaidOut}
+use Rattle.queue.specs.Rows.{field, rowCount}
+use Rattle.queue.specs.Trees.{childCount, lowerSiblings, treeStart, seat, place, ParentsOf, Counted, Ranked, Started, LaidOut}
 use Rattle.queue.proofs.Seats.{child-passes, other-fails, start-next, start-first, tree-room, seat-high, seat-one}
 use Rattle.queue.proofs.Trees.{place-in, place-same, place-other, named-set}
 use Rattle.queue.proofs.Filled.{filled-at, filled-length}
 
 -- to prove P of an entry after a store in the same column, prove it of the value stored and of the entries of other rows
-field-elim : (P : ℕ → Type 0) (rows : List ℕ) (i j k x : ℕ) → 4 * i + k < length rows → (j ≡ i → P x) → (j ≢ i → P (field rows j k)) → P (field (set rows (4 * i + k) x) j k)
+field-elim : (P : ℕ → Type 0) (rows : List ℕ) (i j k x : ℕ) → 4 * i + k < length rows → (j ≡ i → P x) → (j ≢ i → P (field rows j k))
+    → P (field (set rows (4 * i + k) x) j k)
 field-elim P rows i j k x l f g = set-elim P rows (4 * i + k) (4 * j + k) x 0 l (λ e. f (omega arith)) (λ n. g (λ e. n (omega arith)))
+
+-- a store in one of the last two columns leaves parents and numbers of children as they were
+counted-set : {d : Division} {rows : List ℕ} (i k x : ℕ) → 1 < k → k < 4 → Counted d rows → Counted d (set rows (4 * i + k) x)
+counted-set {d} {rows} i k x l h C = record {
+  numbered = C .numbered;
+  all = simp length-set (C .all);
+  parents = λ c pos m. getD-set-other rows (4 * i + k) (4 * c + 0) x 0 (omega arith) ∙ C .parents c pos m;
+  counts = λ r m. getD-set-other rows (4 * i + k) (4 * r + 1) x 0 (omega arith) ∙ C .counts r m;
+}
 
 -- CHILDREN COUNTED
 
@@ -33,81 +44,96 @@ pub record Counting (d : Division) (rows : List ℕ) (c : ℕ) : Type 0 where
   pub all : length rows ≡ 4 * regions d
   pub parents : (b : ℕ) → 0 < b → b < c → field rows b 0 ≡ parent d b
   pub counts : (r : ℕ) → r < regions d → field rows r 1 ≡ count (isChild d r) c
-  pub ranks : (b : ℕ) → 0 < b → b < c → field rows b 3 ≡ elders d b
+  pub ranks : (b : ℕ) → 0 < b → b < c → field rows b 3 ≡ lowerSiblings d b
 
-pub counting-start : {d : Division} {parents : List ℕ} (rows₀ rows : List ℕ) → ParentsOf d parents → length rows₀ ≡ 4 * regions d → rows ≡ replicate (length rows₀) 0
-    → Counting d rows 1
+pub counting-start : {d : Division} {parents : List ℕ} (rows₀ rows : List ℕ) → ParentsOf d parents → length rows₀ ≡ 4 * regions d
+    → rows ≡ replicate (length rows₀) 0 → Counting d rows 1
 counting-start {d} rows₀ rows P e f = record {
   above = omega arith;
-  within = P .root;
+  within = P .numbered .root;
   all = filled-length rows₀ rows 0 f ∙ e;
   parents = λ b l m. absurd (omega arith);
   counts = λ r l. filled-at rows₀ rows 0 f (4 * r + 1) (omega arith) ∙ sym (count-out (isChild d r) 0 refl ∙ count-none (isChild d r));
   ranks = λ b l m. absurd (omega arith);
 }
 
-pub record CountBounds (rows : List ℕ) (c up e : ℕ) : Type 0 where
-  pub row : 4 * c + 3 < length rows
-  pub row-up : 4 * up + 3 < length rows
-  pub fits : e < 65535
+pub record CountBounds (rows : List ℕ) (c up lower : ℕ) : Type 0 where
+  pub row : c < rowCount rows
+  pub row-parent : up < rowCount rows
+  pub fits : lower < 65535
 
--- region c is counted: its parent is `up`, which had e children so far
-module _ {d : Division} {parents rows : List ℕ} {c : ℕ} (P : ParentsOf d parents) (C : Counting d rows c) (l : c < regions d) (up : ℕ) (eu : up ≡ at parents c) where
+-- region c is counted
+module _ {d : Division} {parents rows : List ℕ} {c : ℕ} (P : ParentsOf d parents) (C : Counting d rows c) (l : c < regions d) where
+  up : ℕ
+  up = at parents c
+
   up-is : up ≡ parent d c
-  up-is = eu ∙ P .same c (C .above) l
+  unfolding up
+  up-is = P .same c (C .above) l
 
   up-in : up < regions d
-  up-in = omega (arith, up-is, P .lower c (C .above) l)
+  up-in = omega (arith, up-is, P .numbered .lower c (C .above) l)
 
-  pub count-row : 4 * up + 3 < length rows
+  pub count-row : at parents c < rowCount rows
+  unfolding up
   count-row = omega (arith, up-in, C .all)
 
-  module _ (e : ℕ) (ee : e ≡ field rows up 1) where
-    e-is : e ≡ count (isChild d (parent d c)) c
-    e-is = ee ∙ C .counts up up-in ∙ ap (λ (r : ℕ). count (isChild d r) c) up-is
+  -- its parent had so many children below c
+  module _ (lower : ℕ) (el : lower ≡ field rows (at parents c) 1) where
+    lower-is : lower ≡ lowerSiblings d c
+    unfolding up lowerSiblings
+    lower-is = el ∙ C .counts up up-in ∙ ap (λ (r : ℕ). count (isChild d r) c) up-is
 
-    e-rank : e ≡ elders d c
-    unfolding elders
-    e-rank = e-is
-
-    pub count-bounds : CountBounds rows c up e
+    pub count-bounds : CountBounds rows c (at parents c) lower
+    unfolding lowerSiblings
     count-bounds = record {
       row = omega (arith, C .all);
-      row-up = count-row;
-      fits = omega (arith, e-is, count-le (isChild d (parent d c)) c, P .few);
+      row-parent = count-row;
+      fits = omega (arith, lower-is, count-le (isChild d (parent d c)) c, P .numbered .few);
     }
 
-    pub counting-step : Counting d (set (set (set rows (4 * c + 0) up) (4 * c + 3) e) (4 * up + 1) (e + 1)) (c + 1)
+    rows1 : List ℕ
+    rows1 = set rows (4 * c + 0) up
+
+    rows2 : List ℕ
+    rows2 = set rows1 (4 * c + 3) lower
+
+    parents-after : (b : ℕ) → 0 < b → b < suc c → field (set rows2 (4 * up + 1) (lower + 1)) b 0 ≡ parent d b
+    unfolding rows1 rows2
+    parents-after b pos m =
+        getD-set-other rows2 (4 * up + 1) (4 * b + 0) (lower + 1) 0 (omega arith) ∙ getD-set-other rows1 (4 * c + 3) (4 * b + 0) lower 0 (omega arith)
+        ∙ field-elim (λ z. z ≡ parent d b) rows c b 0 up (omega (arith, C .all)) (λ s. up-is ∙ ap (parent d) (sym s))
+        (λ n. C .parents b pos (omega arith))
+
+    counts-after : (r : ℕ) → r < regions d → field (set rows2 (4 * up + 1) (lower + 1)) r 1 ≡ count (isChild d r) (suc c)
+    unfolding up rows1 rows2
+    counts-after r m =
+        field-elim (λ z. z ≡ count (isChild d r) (suc c)) rows2 up r 1 (lower + 1) (simp length-set (omega (arith, C .all, up-in)))
+        (λ s.
+        let h : Child d r c = record { in-range = l; positive = C .above; under = sym up-is ∙ sym s } in
+        let i : count (isChild d r) (suc c) ≡ count (isChild d r) c + 1 = rw (add-one c) at (count-in (isChild d r) c (child-passes d h)) in
+        omega (arith, el, ap (λ (z : ℕ). field rows z 1) s, C .counts r m))
+        (λ n.
+        getD-set-other rows1 (4 * c + 3) (4 * r + 1) lower 0 (omega arith) ∙ getD-set-other rows (4 * c + 0) (4 * r + 1) up 0 (omega arith)
+        ∙ C .counts r m ∙ sym (rw (add-one c) at (count-out (isChild d r) c (other-fails d r c (λ s. n (sym s ∙ sym up-is))))))
+
+    ranks-after : (b : ℕ) → 0 < b → b < suc c → field (set rows2 (4 * up + 1) (lower + 1)) b 3 ≡ lowerSiblings d b
+    unfolding rows1 rows2
+    ranks-after b pos m =
+        getD-set-other rows2 (4 * up + 1) (4 * b + 3) (lower + 1) 0 (omega arith)
+        ∙ field-elim (λ z. z ≡ lowerSiblings d b) rows1 c b 3 lower (simp length-set (omega (arith, C .all))) (λ s. rw s lower-is)
+        (λ n. getD-set-other rows (4 * c + 0) (4 * b + 3) up 0 (omega arith) ∙ C .ranks b pos (omega arith))
+
+    pub counting-step : Counting d (set (set (set rows (4 * c + 0) (at parents c)) (4 * c + 3) lower) (4 * at parents c + 1) (lower + 1)) (c + 1)
+    unfolding up rows1 rows2
     counting-step = rw (add-one c) (record {
       above = omega arith;
       within = l;
       all = simp length-set (C .all);
-      parents =
-          λ b pos m.
-          getD-set-other rows2 (4 * up + 1) (4 * b + 0) (e + 1) 0 (omega arith) ∙ getD-set-other rows1 (4 * c + 3) (4 * b + 0) e 0 (omega arith)
-          ∙ field-elim (λ z. z ≡ parent d b) rows c b 0 up (omega (arith, C .all)) (λ s. up-is ∙ ap (parent d) (sym s)) (λ n. C .parents b pos (omega arith));
-      counts =
-          λ r m.
-          field-elim (λ z. z ≡ count (isChild d r) (suc c)) rows2 up r 1 (e + 1) (simp length-set (omega (arith, C .all, up-in)))
-          (λ s.
-          let h : Child d r c = record { in-range = l; positive = C .above; under = sym up-is ∙ sym s } in
-          let i : count (isChild d r) (suc c) ≡ count (isChild d r) c + 1 = rw (add-one c) at (count-in (isChild d r) c (child-passes d h)) in
-          omega (arith, ee, ap (λ (z : ℕ). field rows z 1) s, C .counts r m))
-          (λ n.
-          getD-set-other rows1 (4 * c + 3) (4 * r + 1) e 0 (omega arith) ∙ getD-set-other rows (4 * c + 0) (4 * r + 1) up 0 (omega arith)
-          ∙ C .counts r m ∙ sym (rw (add-one c) at (count-out (isChild d r) c (other-fails d r c (λ s. n (sym s ∙ sym up-is))))));
-      ranks =
-          λ b pos m.
-          getD-set-other rows2 (4 * up + 1) (4 * b + 3) (e + 1) 0 (omega arith)
-          ∙ field-elim (λ z. z ≡ elders d b) rows1 c b 3 e (simp length-set (omega (arith, C .all))) (λ s. rw s e-rank)
-          (λ n. getD-set-other rows (4 * c + 0) (4 * b + 3) up 0 (omega arith) ∙ C .ranks b pos (omega arith));
+      parents = parents-after;
+      counts = counts-after;
+      ranks = ranks-after;
     })
-      where
-        rows1 : List ℕ
-        rows1 = set rows (4 * c + 0) up
-
-        rows2 : List ℕ
-        rows2 = set (set rows (4 * c + 0) up) (4 * c + 3) e
 
 pub counting-end : {d : Division} {parents rows : List ℕ} {c : ℕ} → ParentsOf d parents → Counting d rows c → regions d ≤ c → Ranked d rows
 unfolding childCount
@@ -116,9 +142,7 @@ counting-end {d} {parents} {rows} {c} P C l =
     record {
       counted =
           record {
-            root = P .root;
-            few = P .few;
-            lower = P .lower;
+            numbered = P .numbered;
             all = C .all;
             parents = λ b pos m. C .parents b pos (omega arith);
             counts = λ r m. C .counts r m ∙ ap (count (isChild d r)) e;
@@ -139,39 +163,20 @@ pub laying-start : {d : Division} {rows : List ℕ} → Ranked d rows → Laying
 laying-start {d} R = record { within = omega arith; ranked = R; next = sym (start-first d); starts = λ q l. absurd (omega arith) }
 
 module _ {d : Division} {rows : List ℕ} {start r : ℕ} (L : Laying d rows start r) (l : r < regions d) where
-  stored : List ℕ
-  stored = set rows (4 * r + 2) start
-
-  ranked-stored : Ranked d stored
-  unfolding stored
-  ranked-stored =
-      let R = L .ranked in
-      let C = R .counted in
-      record {
-        counted =
-            record {
-              root = C .root;
-              few = C .few;
-              lower = C .lower;
-              all = simp length-set (C .all);
-              parents = λ c pos m. getD-set-other rows (4 * r + 2) (4 * c + 0) start 0 (omega arith) ∙ C .parents c pos m;
-              counts = λ q m. getD-set-other rows (4 * r + 2) (4 * q + 1) start 0 (omega arith) ∙ C .counts q m;
-            };
-        ranks = λ c pos m. getD-set-other rows (4 * r + 2) (4 * c + 3) start 0 (omega arith) ∙ R .ranks c pos m;
-      }
-
-  pub laying-next : (x : ℕ) → x ≡ field (set rows (4 * r + 2) start) r 1 → start + 2 * x ≡ treeStart d (suc r)
-  unfolding stored
-  laying-next x e = omega (arith, e, ranked-stored .counted .counts r l, start-next d r, L .next)
+  laying-next : (x : ℕ) → x ≡ field (set rows (4 * r + 2) start) r 1 → start + 2 * x ≡ treeStart d (suc r)
+  laying-next x e = omega (arith, e, counted-set r 2 start (omega arith) (omega arith) (L .ranked .counted) .counts r l, start-next d r, L .next)
 
   pub laying-fits : (x : ℕ) → x ≡ field (set rows (4 * r + 2) start) r 1 → start + 2 * x < 65536
-  laying-fits x e = omega (arith, laying-next x e, start-next d r, tree-room d r, L .ranked .counted .few)
+  laying-fits x e = omega (arith, laying-next x e, start-next d r, tree-room d r, L .ranked .counted .numbered .few)
 
   pub laying-step : (x : ℕ) → x ≡ field (set rows (4 * r + 2) start) r 1 → Laying d (set rows (4 * r + 2) start) (start + 2 * x) (r + 1)
-  unfolding stored
   laying-step x e = rw (add-one r) (record {
     within = l;
-    ranked = ranked-stored;
+    ranked =
+        record {
+          counted = counted-set r 2 start (omega arith) (omega arith) (L .ranked .counted);
+          ranks = λ c pos m. getD-set-other rows (4 * r + 2) (4 * c + 3) start 0 (omega arith) ∙ L .ranked .ranks c pos m;
+        };
     next = laying-next x e;
     starts =
         λ q m.
@@ -191,7 +196,7 @@ pub record Seating (d : Division) (rows winners : List ℕ) (c : ℕ) : Type 0 w
   pub counted : Counted d rows
   pub starts : (r : ℕ) → r < regions d → field rows r 2 ≡ treeStart d r
   pub seats : (b : ℕ) → 0 < b → b < c → field rows b 3 ≡ seat d b
-  pub ranks : (b : ℕ) → c ≤ b → b < regions d → field rows b 3 ≡ elders d b
+  pub ranks : (b : ℕ) → c ≤ b → b < regions d → field rows b 3 ≡ lowerSiblings d b
   pub wide : length winners ≡ 2 * regions d
   pub named : (i : ℕ) → i < length winners → at winners i < regions d
   pub stands : (b : ℕ) → 0 < b → b < c → place d winners (parent d b) (seat d b) ≡ b
@@ -200,95 +205,90 @@ pub seating-start : {d : Division} {rows : List ℕ} (winners₀ winners : List 
     → winners ≡ replicate (length winners₀) 0 → Seating d rows winners 1
 seating-start winners₀ winners S e f = record {
   above = omega arith;
-  within = S .ranked .counted .root;
+  within = S .ranked .counted .numbered .root;
   counted = S .ranked .counted;
   starts = S .starts;
   seats = λ b pos m. absurd (omega arith);
   ranks = λ b l m. S .ranked .ranks b (omega arith) m;
   wide = filled-length winners₀ winners 0 f ∙ e;
   named =
-      λ i l. omega (arith, filled-at winners₀ winners 0 f i (omega (arith, filled-length winners₀ winners 0 f)), S .ranked .counted .root);
+      λ i l. omega (arith, filled-at winners₀ winners 0 f i (omega (arith, filled-length winners₀ winners 0 f)), S .ranked .counted .numbered .root);
   stands = λ b pos m. absurd (omega arith);
 }
 
-pub record SeatBounds (rows winners : List ℕ) (c up i : ℕ) : Type 0 where
-  pub row : 4 * c + 3 < length rows
-  pub row-up : 4 * up + 3 < length rows
+pub record SeatBounds (rows winners : List ℕ) (c i : ℕ) : Type 0 where
+  pub row : c < rowCount rows
   pub fits : i < 65536
   pub inside : i < length winners
 
--- region c is seated in the tree of `up`, by what the rows say: its rank, the children of `up` and where that tree begins
-module _ {d : Division} {rows winners : List ℕ} {c : ℕ} (S : Seating d rows winners c) (l : c < regions d) (up : ℕ) (eu : up ≡ field rows c 0) where
+-- region c is seated in the tree of its parent `up`
+module _ {d : Division} {rows winners : List ℕ} {c : ℕ} (S : Seating d rows winners c) (l : c < regions d) (up : ℕ) (parent-is : up ≡ parent d c) where
   child : Child d (parent d c) c
   child = parent-child d c (S .above) l
 
-  parent-is : up ≡ parent d c
-  parent-is = eu ∙ S .counted .parents c (S .above) l
-
   parent-low : parent d c < regions d
-  parent-low = omega (arith, S .counted .lower c (S .above) l)
+  parent-low = omega (arith, S .counted .numbered .lower c (S .above) l)
 
-  pub seat-row : 4 * up + 3 < length rows
+  pub seat-row : up < rowCount rows
   seat-row = omega (arith, parent-is, parent-low, S .counted .all)
 
-  seat-sum : (children rank : ℕ) → children ≡ field rows up 1 → rank ≡ field rows c 3 → children + rank ≡ seat d c
-  unfolding seat
-  seat-sum children rank ec er =
-      omega (arith, ec, er, ap (λ (r : ℕ). field rows r 1) parent-is, S .counted .counts (parent d c) parent-low, S .ranks c (le-refl c) l)
-
-  pub seat-fits : (children rank : ℕ) → children ≡ field rows up 1 → rank ≡ field rows c 3 → children + rank < 65536
-  seat-fits children rank ec er =
-      omega (arith, seat-sum children rank ec er, seat-high d child, tree-room d (parent d c), S .counted .few)
-
-  module _ (children rank start : ℕ) (ec : children ≡ field rows up 1) (er : rank ≡ field rows c 3) (es : start ≡ field rows up 2) where
+  -- at the number of the parent's children plus its rank
+  module _ (children rank : ℕ) (ec : children ≡ field rows up 1) (er : rank ≡ field rows c 3) where
     p-is : children + rank ≡ seat d c
-    p-is = seat-sum children rank ec er
+    unfolding seat
+    p-is = omega (arith, ec, er, ap (λ (r : ℕ). field rows r 1) parent-is, S .counted .counts (parent d c) parent-low, S .ranks c (le-refl c) l)
 
-    i-is : start + (children + rank) ≡ treeStart d (parent d c) + seat d c
-    i-is = omega (arith, es, p-is, ap (λ (r : ℕ). field rows r 2) parent-is, S .starts (parent d c) parent-low)
+    pub seat-fits : children + rank < 65536
+    seat-fits = omega (arith, p-is, seat-high d child, tree-room d (parent d c), S .counted .numbered .few)
 
-    pub seat-bounds : SeatBounds rows winners c up (start + (children + rank))
-    seat-bounds =
-        let inside : start + (children + rank) < length winners = rw i-is (place-in d winners (S .wide) (parent d c) (seat d c) 0 (seat-high d child)) in
-        record { row = omega (arith, S .counted .all); row-up = seat-row; fits = omega (arith, S .wide, S .counted .few); inside = inside }
+    module _ (start : ℕ) (es : start ≡ field rows up 2) where
+      i-is : start + (children + rank) ≡ treeStart d (parent d c) + seat d c
+      i-is = omega (arith, es, p-is, ap (λ (r : ℕ). field rows r 2) parent-is, S .starts (parent d c) parent-low)
 
-    stands-after : (b : ℕ) → 0 < b → b < suc c → place d (set winners (treeStart d (parent d c) + seat d c) c) (parent d b) (seat d b) ≡ b
-    stands-after b pos m =
-        ⊎-elim (λ (e : b ≡ c). rw e (place-same d winners (S .wide) (parent d c) (seat d c) c (seat-high d child)))
-        (λ (n : b ≢ c).
-        let k = parent-child d b pos (omega arith) in
-        place-other d winners (S .wide) (parent d c) (seat d c) c (seat-high d child) (parent d b) (seat d b) (seat-high d k)
-        (λ e f. n (seat-one d k (record { in-range = l; positive = S .above; under = sym e }) f))
-        ∙ S .stands b pos (omega arith))
-        (eq-or-ne b c)
+      pub seat-bounds : SeatBounds rows winners c (start + (children + rank))
+      seat-bounds =
+          let inside : start + (children + rank) < length winners = rw i-is (place-in d winners (S .wide) (parent d c) (seat d c) 0 (seat-high d child)) in
+          record { row = omega (arith, S .counted .all); fits = omega (arith, S .wide, S .counted .numbered .few); inside = inside }
 
-    pub seating-step : Seating d (set rows (4 * c + 3) (children + rank)) (set winners (start + (children + rank)) c) (c + 1)
-    seating-step = rw (add-one c, i-is) (record {
-      above = omega arith;
-      within = l;
-      counted =
-          record {
-            root = S .counted .root;
-            few = S .counted .few;
-            lower = S .counted .lower;
-            all = simp length-set (S .counted .all);
-            parents = λ b pos m. getD-set-other rows (4 * c + 3) (4 * b + 0) _ 0 (omega arith) ∙ S .counted .parents b pos m;
-            counts = λ r m. getD-set-other rows (4 * c + 3) (4 * r + 1) _ 0 (omega arith) ∙ S .counted .counts r m;
-          };
-      starts = λ r m. getD-set-other rows (4 * c + 3) (4 * r + 2) _ 0 (omega arith) ∙ S .starts r m;
-      seats =
-          λ b pos m.
-          field-elim (λ z. z ≡ seat d b) rows c b 3 (children + rank) (omega (arith, S .counted .all)) (λ s. rw s p-is) (λ n. S .seats b pos (omega arith));
-      ranks = λ b m h. getD-set-other rows (4 * c + 3) (4 * b + 3) _ 0 (omega arith) ∙ S .ranks b (omega arith) h;
-      wide = simp length-set (S .wide);
-      named =
-          named-set winners (treeStart d (parent d c) + seat d c) c (regions d) (place-in d winners (S .wide) (parent d c) (seat d c) 0 (seat-high d child))
-          (S .named) l;
-      stands = stands-after;
-    })
+      stands-after : (b : ℕ) → 0 < b → b < suc c → place d (set winners (treeStart d (parent d c) + seat d c) c) (parent d b) (seat d b) ≡ b
+      stands-after b pos m =
+          ⊎-elim (λ (e : b ≡ c). rw e (place-same d winners (S .wide) (parent d c) (seat d c) c (seat-high d child)))
+          (λ (n : b ≢ c).
+          let k = parent-child d b pos (omega arith) in
+          place-other d winners (S .wide) (parent d c) (seat d c) c (seat-high d child) (parent d b) (seat d b) (seat-high d k)
+          (λ e f. n (seat-one d k (record { in-range = l; positive = S .above; under = sym e }) f))
+          ∙ S .stands b pos (omega arith))
+          (eq-or-ne b c)
+
+      pub seating-step : Seating d (set rows (4 * c + 3) (children + rank)) (set winners (start + (children + rank)) c) (c + 1)
+      seating-step = rw (add-one c, i-is) (record {
+        above = omega arith;
+        within = l;
+        counted = counted-set c 3 (children + rank) (omega arith) (omega arith) (S .counted);
+        starts = λ r m. getD-set-other rows (4 * c + 3) (4 * r + 2) _ 0 (omega arith) ∙ S .starts r m;
+        seats =
+            λ b pos m.
+            field-elim (λ z. z ≡ seat d b) rows c b 3 (children + rank) (omega (arith, S .counted .all)) (λ s. rw s p-is) (λ n. S .seats b pos (omega arith));
+        ranks = λ b m h. getD-set-other rows (4 * c + 3) (4 * b + 3) _ 0 (omega arith) ∙ S .ranks b (omega arith) h;
+        wide = simp length-set (S .wide);
+        named =
+            named-set winners (treeStart d (parent d c) + seat d c) c (regions d)
+            (place-in d winners (S .wide) (parent d c) (seat d c) 0 (seat-high d child)) (S .named) l;
+        stands = stands-after;
+      })
 
 pub seating-end : {d : Division} {rows winners : List ℕ} {c : ℕ} → Seating d rows winners c → regions d ≤ c → LaidOut d rows winners
 seating-end S l = record {
   planned = record { counted = S .counted; starts = S .starts; seats = λ b pos m. S .seats b pos (omega arith) };
   seated = record { all = S .wide; named = S .named; stands = λ b pos m. S .stands b pos (omega arith) };
 }
+
+-- the parents column of the division of an accepted sheet can be planned
+pub division-parents : {m : ℕ} {d : Division} (parents : List ℕ) → DivisionOk m d → length parents ≡ regions d
+    → ((c : ℕ) → 0 < c → c < regions d → at parents c ≡ parent d c) → ParentsOf d parents
+division-parents parents ok all same =
+    record {
+      numbered = record { root = ok .nesting .root; few = omega (arith, ok .few-regions); lower = ok .nesting .lower };
+      all = all;
+      same = same;
+    }

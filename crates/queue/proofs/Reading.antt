@@ -1,7 +1,7 @@
 -- What the code reads out of valid queues: the first-chosen child and the smallest key. Assumes nothing.
-use Prim.Native.Nat.{ℕ, _+_, _*_, _≤_, _<_}
+use Prim.Native.Nat.{ℕ, _+_, _<_}
 use mathlib.Core.Bool.{false}
-use mathlib.Core.Path.{_≡_, refl, sym, ap, _∙_}
+use mathlib.Core.Path.{_≡_, sym, ap, _∙_}
 use mathlib.Core.Logic.{_≢_}
 use mathlib.Core.List.{List}
 use native.Mathlib.Omega.{arith}
@@ -9,16 +9,15 @@ use lib.ListN.{length}
 use Rattle.indices.specs.Columns.{at}
 use Rattle.sheet.specs.Words.{top}
 use Rattle.procedure.specs.Division.{Division, regions, isLeaf}
-use Rattle.procedure.specs.State.{Queues}
 use Rattle.procedure.specs.Queues.{minItem, minKey}
 use Rattle.theory.proofs.Chosen.{minItem-first, minKey-item, minKey-none}
-use Rattle.queue.specs.Rows.{field}
-use Rattle.queue.specs.Trees.{childCount, treeStart, Counted, QueuesOk}
+use Rattle.queue.specs.Rows.{field, rowCount}
+use Rattle.queue.specs.Trees.{childCount, Counted, QueuesOk}
 use Rattle.queue.proofs.Seats.{tree-room}
 use Rattle.queue.proofs.Trees.{minItem-place, minItem-childless}
 
 -- a region has a row
-pub row-in : {d : Division} {rows : List ℕ} (r : ℕ) → Counted d rows → r < regions d → 4 * r + 3 < length rows
+pub row-in : {d : Division} {rows : List ℕ} (r : ℕ) → Counted d rows → r < regions d → r < rowCount rows
 row-in r C l = omega (arith, C .all)
 
 module _ {d : Division} {rows keys winners : List ℕ} (Q : QueuesOk d rows keys winners) (r : ℕ) (inside : r < regions d) where
@@ -39,9 +38,6 @@ module _ {d : Division} {rows keys winners : List ℕ} (Q : QueuesOk d rows keys
 
 -- c is the first-chosen child of r
 module _ (d : Division) (own keys : List ℕ) (updates r c : ℕ) (first : c ≡ minItem d keys r) where
-  queues : Queues
-  queues = record { own = own; keys = keys; updates = updates }
-
   pub item-in : length keys ≡ regions d → c ≢ 0 → c < length keys
   item-in e n = omega (arith, minItem-first d keys r .child (omega arith) .0)
 

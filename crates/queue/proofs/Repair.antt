@@ -1,10 +1,8 @@
--- The loops over the places of a tree, each a chain of decided places: a repair from a place up, and the building of a tree from its last place down.
--- Assumes nothing.
-use Prim.Native.Nat.{ℕ, suc, _+_, _*_, _/_, _-_, _≤_, _<_}
-use mathlib.Core.Path.{_≡_, refl, sym, ap, _∙_}
+-- The loops over a tree's places, which are decided one by one: a repair from a place up, a tree built from its last place down. Assumes nothing.
+use Prim.Native.Nat.{ℕ, _+_, _*_, _/_, _-_, _≤_, _<_}
+use mathlib.Core.Path.{_≡_, refl, ap, _∙_}
 use mathlib.Core.Logic.{_≢_, _⊎_, inl, inr, ⊎-elim}
 use mathlib.Core.List.{List}
-use native.Mathlib.Nat.{le-refl}
 use native.Mathlib.Omega.{arith}
 use lib.ListN.{length, set}
 use Rattle.indices.specs.Columns.{at}
@@ -12,9 +10,9 @@ use Rattle.indices.proofs.Steps.{eq-or-ne, lt-or-le}
 use Rattle.procedure.specs.Division.{Division, regions, parent}
 use Rattle.theory.proofs.Chosen.{Child}
 use Rattle.queue.specs.Rows.{field}
-use Rattle.queue.specs.Trees.{childCount, treeStart, seat, earlier, Counted, LaidOut, QueuesOk, ValidBelow}
+use Rattle.queue.specs.Trees.{childCount, treeStart, Decided, Counted, LaidOut, QueuesOk, ValidBelow}
 use Rattle.queue.proofs.Seats.{tree-room, seat-low, seat-high, parent-in}
-use Rattle.queue.proofs.Trees.{Above, here, above-le, above-cases, OpenAbove, ValidBut, valid-all, valid-weaken, decided, written}
+use Rattle.queue.proofs.Trees.{here, above-le, above-cases, OpenAbove, ValidBut, valid-all, decided, written}
 
 -- rows are for one number of regions
 pub same-regions : {d d′ : Division} {rows : List ℕ} → Counted d rows → Counted d′ rows → regions d ≡ regions d′
@@ -25,15 +23,11 @@ pub record PlaceBounds (keys winners : List ℕ) (start p : ℕ) : Type 0 where
   pub second : start + (2 * p + 1) < length winners
   pub named : (i : ℕ) → i < length winners → at winners i < length keys
 
--- what deciding it makes of the winners
-abbrev pub Decided : Division → List ℕ → List ℕ → ℕ → ℕ → List ℕ → Type 0
-Decided d keys winners start p winners′ = winners′ ≡ set winners (start + p) (earlier d keys (at winners (start + 2 * p)) (at winners (start + (2 * p + 1))))
-
 -- deciding a place of r's tree, whose row says where the tree begins
-module _ {d : Division} {rows keys winners : List ℕ} {Open : ℕ → ℕ → Type 0} (B : ValidBut d rows keys winners Open) (r start p : ℕ) (row : start ≡ field rows r 2)
-    (pos : 0 < p) (hp : p < childCount d r) where
+module _ {d : Division} {rows keys winners : List ℕ} {Open : ℕ → ℕ → Type 0} (B : ValidBut d rows keys winners Open)
+    (r start p : ℕ) (row : start ≡ field rows r 2) (pos : 0 < p) (hp : p < childCount d r) where
   begins : start ≡ treeStart d r
-  begins = row ∙ B .laid .planned .starts r (parent-in d (B .laid .planned .counted .lower) r (omega arith))
+  begins = row ∙ B .laid .planned .starts r (parent-in d (B .laid .planned .counted .numbered .lower) r (omega arith))
 
   pub place-bounds : PlaceBounds keys winners start p
   place-bounds = record {
@@ -41,7 +35,7 @@ module _ {d : Division} {rows keys winners : List ℕ} {Open : ℕ → ℕ → T
     named = λ i l. omega (arith, B .laid .seated .named i l, B .keyed);
   }
 
-  pub decided-from : (Open′ : ℕ → ℕ → Type 0) (winners′ : List ℕ) → Decided d keys winners start p winners′
+  pub decided-from : (Open′ : ℕ → ℕ → Type 0) (winners′ : List ℕ) → Decided d keys start p winners winners′
       → ((r′ q : ℕ) → Open r′ q → Open′ r′ q ⊎ ((r′ ≡ r) × (q ≡ p))) → (0 < p / 2 → Open′ r (p / 2)) → ValidBut d rows keys winners′ Open′
   decided-from Open′ winners′ e f above = rw (e, begins) (decided B r p pos hp Open′ f above)
 
@@ -55,20 +49,21 @@ pub record Repairing (d : Division) (r : ℕ) (rows keys winners : List ℕ) (a 
 
 -- it begins at the place of c, whose key was written
 pub repair-start : {d : Division} {rows keys winners : List ℕ} (c k up place : ℕ) → QueuesOk d rows keys winners → 0 < c → c < regions d
-    → up ≡ field rows c 0 → place ≡ field rows c 3 → Repairing d up rows (set keys c k) winners place
+    → up ≡ parent d c → place ≡ field rows c 3 → Repairing d up rows (set keys c k) winners place
 repair-start {d} c k up place Q pos inside e f =
     let h : Child d (parent d c) c = record { in-range = inside; positive = pos; under = refl } in
-    rw (e ∙ Q .laid .planned .counted .parents c pos inside, f ∙ Q .laid .planned .seats c pos inside) (record {
+    rw (e, f ∙ Q .laid .planned .seats c pos inside) (record {
       valid = written Q c k pos inside;
       low = omega (arith, seat-low d h, seat-high d h);
       high = seat-high d h;
     })
 
-module _ {d : Division} {r : ℕ} {rows keys winners : List ℕ} {a : ℕ} (R : Repairing d r rows keys winners a) (start : ℕ) (row : start ≡ field rows r 2) (big : 1 < a) where
+module _ {d : Division} {r : ℕ} {rows keys winners : List ℕ} {a : ℕ} (R : Repairing d r rows keys winners a)
+    (start : ℕ) (row : start ≡ field rows r 2) (big : 1 < a) where
   pub repair-bounds : PlaceBounds keys winners start (a / 2)
   repair-bounds = place-bounds (R .valid) r start (a / 2) row (omega arith) (omega (arith, R .high))
 
-  pub repair-step : (winners′ : List ℕ) → Decided d keys winners start (a / 2) winners′ → Repairing d r rows keys winners′ (a / 2)
+  pub repair-step : (winners′ : List ℕ) → Decided d keys start (a / 2) winners winners′ → Repairing d r rows keys winners′ (a / 2)
   repair-step winners′ e = record {
     valid =
         decided-from (R .valid) r start (a / 2) row (omega arith) (omega (arith, R .high)) (OpenAbove r (a / 2)) winners′ e
@@ -112,11 +107,12 @@ building-start {d} {rows} {keys} {winners} r a B inside e =
       high = omega arith;
     }
 
-module _ {d : Division} {r : ℕ} {rows keys winners : List ℕ} {a : ℕ} (B : Building d r rows keys winners a) (start : ℕ) (row : start ≡ field rows r 2) (big : 1 < a) where
+module _ {d : Division} {r : ℕ} {rows keys winners : List ℕ} {a : ℕ} (B : Building d r rows keys winners a)
+    (start : ℕ) (row : start ≡ field rows r 2) (big : 1 < a) where
   pub building-bounds : PlaceBounds keys winners start (a - 1)
   building-bounds = place-bounds (B .valid) r start (a - 1) row (omega arith) (omega (arith, B .high))
 
-  pub building-step : (winners′ : List ℕ) → Decided d keys winners start (a - 1) winners′ → Building d r rows keys winners′ (a - 1)
+  pub building-step : (winners′ : List ℕ) → Decided d keys start (a - 1) winners winners′ → Building d r rows keys winners′ (a - 1)
   building-step winners′ e = record {
     valid =
         decided-from (B .valid) r start (a - 1) row (omega arith) (omega (arith, B .high)) (OpenBelow r (a - 1)) winners′ e
@@ -127,7 +123,8 @@ module _ {d : Division} {r : ℕ} {rows keys winners : List ℕ} {a : ℕ} (B : 
       last : (r′ q : ℕ) → (r′ ≡ r) × (q < a) → OpenBelow r (a - 1) r′ q ⊎ ((r′ ≡ r) × (q ≡ a - 1))
       last r′ q m = ⊎-elim (λ (e : q ≡ a - 1). inr (m .0, e)) (λ (n : q ≢ a - 1). inl (inr (m .0, omega arith))) (eq-or-ne q (a - 1))
 
-pub building-end : {d : Division} {r : ℕ} {rows keys winners : List ℕ} {a : ℕ} → Building d r rows keys winners a → a ≤ 1 → ValidBelow d rows keys winners (r + 1)
+pub building-end : {d : Division} {r : ℕ} {rows keys winners : List ℕ} {a : ℕ} → Building d r rows keys winners a → a ≤ 1
+    → ValidBelow d rows keys winners (r + 1)
 building-end {d} {r} {rows} {keys} {winners} {a} B l = record {
   laid = B .valid .laid;
   keyed = B .valid .keyed;
@@ -142,5 +139,5 @@ pub valid-regions : {d : Division} {rows keys winners : List ℕ} {n : ℕ} → 
 valid-regions {d} B l = record {
   laid = B .laid;
   keyed = B .keyed;
-  wins = λ r p pos h. B .wins r p (omega (arith, parent-in d (B .laid .planned .counted .lower) r (omega arith))) pos h;
+  wins = λ r p pos h. B .wins r p (omega (arith, parent-in d (B .laid .planned .counted .numbered .lower) r (omega arith))) pos h;
 }

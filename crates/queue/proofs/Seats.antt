@@ -1,8 +1,7 @@
--- Where the trees lie and where the children stand, by counting children: the trees do not overlap, and the places of a region's children are those
--- from the number of its children on, each the place of one child. Assumes nothing.
+-- Where trees lie and children stand, by counting: trees do not overlap, and each place from the number of children on is one child's. Assumes nothing.
 use Prim.Native.Nat.{ℕ, zero, suc, _+_, _*_, _-_, _≤_, _<_}
 use mathlib.Core.Bool.{Bool, true, false, cond, _&&_, and-false}
-use mathlib.Core.Path.{_≡_, refl, sym, ap, _∙_}
+use mathlib.Core.Path.{_≡_, refl}
 use mathlib.Core.Logic.{_≢_, ⊎-elim}
 use native.Mathlib.Omega.{arith}
 use borrow.Author.Tests.{lt-ltb, le-ltb, eq-eqb, ne-eqb, ltb-true, eqb-true}
@@ -13,7 +12,7 @@ use Rattle.indices.proofs.Totals.{count-sum}
 use Rattle.indices.proofs.Steps.{eq-or-ne, lt-or-le}
 use Rattle.procedure.specs.Division.{Division, regions, parent, isChild}
 use Rattle.theory.proofs.Chosen.{Child}
-use Rattle.queue.specs.Trees.{childCount, elders, underBelow, treeStart, seat}
+use Rattle.queue.specs.Trees.{childCount, lowerSiblings, underBelow, treeStart, seat}
 
 module _ (d : Division) where
   pub child-passes : {r c : ℕ} → Child d r c → isChild d r c ≡ true
@@ -62,11 +61,11 @@ module _ (d : Division) where
       (λ (n : r ≢ q). omega (arith, start-next q, trees-apart r q (omega arith))) (eq-or-ne r q)
 
   seat-is : {r c : ℕ} → Child d r c → seat d c ≡ childCount d r + count (isChild d r) c
-  unfolding seat elders
+  unfolding seat lowerSiblings
   seat-is h = rw (h .under)
 
-  elder-counted : {r b : ℕ} (c : ℕ) → Child d r b → b < c → count (isChild d r) b < count (isChild d r) c
-  elder-counted {r} {b} c h l = omega (arith, count-in (isChild d r) b (child-passes h), count-mono (isChild d r) (b + 1) c (omega arith))
+  lower-counted : {r b : ℕ} (c : ℕ) → Child d r b → b < c → count (isChild d r) b < count (isChild d r) c
+  lower-counted {r} {b} c h l = omega (arith, count-in (isChild d r) b (child-passes h), count-mono (isChild d r) (b + 1) c (omega arith))
 
   -- the children stand at the places from their number on
   pub seat-low : {r c : ℕ} → Child d r c → childCount d r ≤ seat d c
@@ -74,14 +73,14 @@ module _ (d : Division) where
 
   pub seat-high : {r c : ℕ} → Child d r c → seat d c < 2 * childCount d r
   unfolding childCount
-  seat-high h = omega (arith, seat-is h, elder-counted (regions d) h (h .in-range))
+  seat-high h = omega (arith, seat-is h, lower-counted (regions d) h (h .in-range))
 
   -- two children do not share a place
   pub seat-one : {r b c : ℕ} → Child d r b → Child d r c → seat d b ≡ seat d c → b ≡ c
   seat-one {r} {b} {c} h k e =
-      ⊎-elim (λ (l : b < c). absurd (omega (arith, seat-is h, seat-is k, elder-counted c h l)))
+      ⊎-elim (λ (l : b < c). absurd (omega (arith, seat-is h, seat-is k, lower-counted c h l)))
       (λ (l : c ≤ b).
-      ⊎-elim (λ (e : b ≡ c). e) (λ (n : b ≢ c). absurd (omega (arith, seat-is h, seat-is k, elder-counted b k (omega arith)))) (eq-or-ne b c))
+      ⊎-elim (λ (e : b ≡ c). e) (λ (n : b ≢ c). absurd (omega (arith, seat-is h, seat-is k, lower-counted b k (omega arith)))) (eq-or-ne b c))
       (lt-or-le b c)
 
   -- each place from the number of children on is that of a child

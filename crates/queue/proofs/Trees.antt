@@ -1,5 +1,4 @@
--- The winner trees. A place that is decided again leaves only the place above it to decide; a key that is written leaves only the places above the
--- item's own; where none is left, place 1 holds the first-chosen child. Assumes nothing.
+-- Winner trees: a place decided again, or a key written, leaves open only places above; where none is open, place 1 is first-chosen. Assumes nothing.
 use Prim.Native.Nat.{ℕ, zero, suc, _+_, _*_, _/_, _≤_, _<_}
 use mathlib.Core.Bool.{false}
 use mathlib.Core.Path.{_≡_, refl, sym, ap, _∙_}
@@ -11,11 +10,11 @@ use lib.ListN.{length, set, length-set}
 use lib.Seq.{getD-set-same, getD-set-other}
 use Rattle.indices.specs.Columns.{at}
 use Rattle.indices.proofs.Steps.{eq-or-ne, lt-or-le, set-elim}
-use Rattle.procedure.specs.Division.{Division, regions, parent, isLeaf}
+use Rattle.procedure.specs.Division.{Division, regions, parent}
 use Rattle.procedure.specs.Queues.{before, minItem}
 use Rattle.theory.proofs.Order.{before-irreflexive, before-transitive}
-use Rattle.theory.proofs.Chosen.{Child, First, minItem-first, first-one}
-use Rattle.queue.specs.Trees.{childCount, treeStart, seat, place, earlier, Wins, Planned, Seated, LaidOut, QueuesOk}
+use Rattle.theory.proofs.Chosen.{Child, minItem-first, first-one}
+use Rattle.queue.specs.Trees.{childCount, treeStart, seat, place, earlier, Wins, Seated, LaidOut, QueuesOk}
 use Rattle.queue.proofs.Pairs.{earlier-either, earlier-first, earlier-second, earlier-same}
 use Rattle.queue.proofs.Seats.{tree-room, trees-apart, seat-low, seat-high, place-child}
 
@@ -39,7 +38,8 @@ module _ (d : Division) (winners : List ℕ) (all : length winners ≡ 2 * regio
           (eq-or-ne r′ r)
 
 -- a store keeps the bound of all entries
-pub named-set : (l : List ℕ) (j x n : ℕ) → j < length l → ((i : ℕ) → i < length l → at l i < n) → x < n → (i : ℕ) → i < length (set l j x) → at (set l j x) i < n
+pub named-set : (l : List ℕ) (j x n : ℕ) → j < length l → ((i : ℕ) → i < length l → at l i < n) → x < n
+    → (i : ℕ) → i < length (set l j x) → at (set l j x) i < n
 named-set l j x n lj f h i li = set-elim (λ y. y < n) l j i x 0 lj (λ _. h) (λ _. f i (rw length-set at li))
 
 -- PLACES ABOVE A PLACE
@@ -82,17 +82,9 @@ valid-all B none = record {
   wins = λ r p pos l. ⊎-elim (λ w. w) (λ o. absurd (none r p pos l o)) (B .rest r p pos l);
 }
 
--- more places are open
-pub valid-weaken : {d : Division} {rows keys winners : List ℕ} {Open Open′ : ℕ → ℕ → Type 0} → ValidBut d rows keys winners Open
-    → ((r p : ℕ) → 0 < p → p < childCount d r → Open r p → Open′ r p) → ValidBut d rows keys winners Open′
-valid-weaken B f = record {
-  laid = B .laid;
-  keyed = B .keyed;
-  rest = λ r p pos l. ⊎-elim (λ w. inl w) (λ o. inr (f r p pos l o)) (B .rest r p pos l);
-}
-
 -- place p of r's tree is decided again
-module _ {d : Division} {rows keys winners : List ℕ} {Open : ℕ → ℕ → Type 0} (B : ValidBut d rows keys winners Open) (r p : ℕ) (pos : 0 < p) (hp : p < childCount d r) where
+module _ {d : Division} {rows keys winners : List ℕ} {Open : ℕ → ℕ → Type 0} (B : ValidBut d rows keys winners Open)
+    (r p : ℕ) (pos : 0 < p) (hp : p < childCount d r) where
   seated : Seated d winners
   seated = B .laid .seated
 
@@ -145,7 +137,8 @@ module _ {d : Division} {rows keys winners : List ℕ} {Open : ℕ → ℕ → T
 
   same : (r′ q a : ℕ) → ((r′ ≡ r) × (q ≡ a)) ⊎ (r′ ≡ r → q ≢ a)
   same r′ q a =
-      ⊎-elim (λ (e : r′ ≡ r). ⊎-elim (λ (f : q ≡ a). inl (e, f)) (λ (n : q ≢ a). inr (λ _. n)) (eq-or-ne q a)) (λ (n : r′ ≢ r). inr (λ e. absurd (n e))) (eq-or-ne r′ r)
+      ⊎-elim (λ (e : r′ ≡ r). ⊎-elim (λ (f : q ≡ a). inl (e, f)) (λ (n : q ≢ a). inr (λ _. n)) (eq-or-ne q a))
+      (λ (n : r′ ≢ r). inr (λ e. absurd (n e))) (eq-or-ne r′ r)
 
   -- what was open is open still, or is this place; the place above it is open
   pub decided : (Open′ : ℕ → ℕ → Type 0) → ((r′ q : ℕ) → Open r′ q → Open′ r′ q ⊎ ((r′ ≡ r) × (q ≡ p))) → (0 < p / 2 → Open′ r (p / 2))

@@ -1,12 +1,12 @@
 -- Links: the indices below m at which a column has a value, in order, found without a search. Definitions; assumes nothing.
-use Prim.Native.Nat.{ℕ, zero, suc, _+_, _-_, _/_, _<_}
+use Prim.Native.Nat.{ℕ, zero, suc, _+_, _-_, _<_}
 use mathlib.Core.Path.{_≡_}
 use mathlib.Core.List.{List}
 use lib.ListN.{length}
 use lib.Dec.{eqb}
 use Rattle.indices.specs.Columns.{at}
 use Rattle.indices.specs.Steps.{if_then_else_}
-use Rattle.queue.specs.Rows.{field}
+use Rattle.queue.specs.Rows.{rowCount, rowTail, rowHead, rowLeaf, rowNext}
 
 module _ (column : ℕ → ℕ) where
   -- the first of n indices from a on at which the column has v, and a + n where there is none
@@ -25,16 +25,18 @@ module _ (column : ℕ → ℕ) where
     pub firsts : (v : ℕ) → v < n → first v ≡ nextFrom m v 0
     pub nexts : (a : ℕ) → a < m → next a ≡ nextFrom m (column a) (a + 1)
 
-  -- step a for each index a below m at which the column has v
+  -- step a, if the column has v at a
   abbrev pub stepAt {ℓ} : {S : Type ℓ} → ℕ → (ℕ → S → S) → ℕ → S → S
   stepAt v step a s = let stepped = step a s in if eqb (column a) v then stepped else s
 
--- the arcs whose tail is below n have links: the rows of the arcs but for their last entries, and of each node its first arc
+-- arcs that can be linked: each tail is one of the nodes that have a first arc
 pub record Linkable (arcs firsts : List ℕ) : Type 0 where
-  pub short : length arcs / 4 < 65536
-  pub below : (a : ℕ) → a < length arcs / 4 → field arcs a 0 < length firsts
+  pub short : rowCount arcs < 65536
+  pub below : (a : ℕ) → a < rowCount arcs → rowTail arcs a < length firsts
 
--- The rows of the arcs and each node's first arc once they are linked: tails, heads and leaves are as they were.
+-- The arcs' rows and each node's first arc once they are linked. Tails, heads and leaves are as they were.
 pub record Linked (arcs arcs′ firsts′ : List ℕ) : Type 0 where
-  pub kept : (a k : ℕ) → k < 3 → field arcs′ a k ≡ field arcs a k
-  pub links : Links (λ a. field arcs a 0) (length arcs / 4) (length firsts′) (at firsts′) (λ a. field arcs′ a 3)
+  pub tails : (a : ℕ) → rowTail arcs′ a ≡ rowTail arcs a
+  pub heads : (a : ℕ) → rowHead arcs′ a ≡ rowHead arcs a
+  pub leaves : (a : ℕ) → rowLeaf arcs′ a ≡ rowLeaf arcs a
+  pub links : Links (rowTail arcs) (rowCount arcs) (length firsts′) (at firsts′) (rowNext arcs′)

@@ -1,18 +1,15 @@
 // One priority queue for each inner region, as winner trees in one slice; and links from an arc to the next with the same tail.
-// The regions' rows have four entries each: parent, number of children, where the tree begins, place in the parent's tree.
-// The arcs' rows have four too: tail, head, leaf, and the next arc with the same tail.
+// The columns of a region stand in one row of four, and so do those of an arc: few slices make quick calls.
 ghost use mathlib.Core.Path.{_≡_};
-ghost use mathlib.Core.Bool.{false};
 ghost use mathlib.Core.List.{List};
 ghost use Prim.Native.Nat.{ℕ, _+_, _*_, _<_};
 ghost use lib.ListN.{length, set, replicate};
 ghost use Rattle.indices.specs.Columns.{at};
 ghost use Rattle.sheet.specs.Words.{top};
-ghost use Rattle.procedure.specs.Division.{Division, regions, isLeaf};
-ghost use Rattle.procedure.specs.State.{Queues};
-ghost use Rattle.procedure.specs.Queues.{minItem, minKey};
-ghost use Rattle.queue.specs.Rows.{field};
-ghost use Rattle.queue.specs.Trees.{earlier, ParentsOf, Ranked, Started, LaidOut, QueuesOk, ValidBelow, Written};
+ghost use Rattle.procedure.specs.Division.{Division, regions, parent};
+ghost use Rattle.procedure.specs.Queues.{minItem};
+ghost use Rattle.queue.specs.Rows.{field, rowCount, rowTail, rowHead, rowLeaf, rowNext};
+ghost use Rattle.queue.specs.Trees.{earlier, Decided, IsMinKey, ParentsOf, Counted, Ranked, Started, LaidOut, QueuesOk, ValidBelow, Written};
 ghost use Rattle.queue.specs.Links.{Linkable, Linked};
 use sheet::Arc;
 use sheet::Node;
@@ -41,7 +38,7 @@ const NEXT: usize = 3;
 
 // Entry k of row i.
 fn field(rows: &[u16], i: u16, k: usize) -> u16
-    requires { ⌜ (k < 4) × (4 * i + 3 < length (now rows)) ⌝ }
+    requires { ⌜ (k < 4) × (i < rowCount (now rows)) ⌝ }
     ensures { λ x. ⌜ x ≡ field (now (rows .entry)) i k ⌝ }
 {
     let at = 4 * (i as usize) + k;
@@ -49,7 +46,7 @@ fn field(rows: &[u16], i: u16, k: usize) -> u16
 }
 
 fn set_field(rows: &mut [u16], i: u16, k: usize, x: u16)
-    requires { ⌜ (k < 4) × (4 * i + 3 < length (now rows)) ⌝ }
+    requires { ⌜ (k < 4) × (i < rowCount (now rows)) ⌝ }
     ensures { λ _. ⌜ now (rows .exit) ≡ set (now (rows .entry)) (4 * i + k) x ⌝ }
 {
     let at = 4 * (i as usize) + k;
@@ -58,41 +55,66 @@ fn set_field(rows: &mut [u16], i: u16, k: usize, x: u16)
 
 // The parent of a region other than 0.
 pub fn parent_of(rows: &[u16], r: Region) -> Region
-    requires { ⌜ 4 * r .0 + 3 < length (now rows) ⌝ }
-    ensures { λ p. ⌜ p .0 ≡ field (now (rows .entry)) (r .0) 0 ⌝ }
+    requires { ⌜ ((d : Division) × Counted d (now rows) × (0 < r .0) × (r .0 < regions d)) ⌝ }
+    ensures { λ p. ⌜ ((d : Division) → Counted d (now (rows .entry)) → p .0 ≡ parent d (r .0)) ⌝ }
 {
     Region(field(rows, r.0, PARENT))
 }
 
+// How many children a region has.
+fn children_of(rows: &[u16], r: Region) -> u16
+    requires { ⌜ r .0 < rowCount (now rows) ⌝ }
+    ensures { λ x. ⌜ x ≡ field (now (rows .entry)) (r .0) 1 ⌝ }
+{
+    field(rows, r.0, CHILDREN)
+}
+
+// Where a region's tree begins.
+fn start_of(rows: &[u16], r: Region) -> u16
+    requires { ⌜ r .0 < rowCount (now rows) ⌝ }
+    ensures { λ x. ⌜ x ≡ field (now (rows .entry)) (r .0) 2 ⌝ }
+{
+    field(rows, r.0, START)
+}
+
+// A region's place in its parent's tree.
+fn seat_of(rows: &[u16], r: Region) -> u16
+    requires { ⌜ r .0 < rowCount (now rows) ⌝ }
+    ensures { λ x. ⌜ x ≡ field (now (rows .entry)) (r .0) 3 ⌝ }
+{
+    field(rows, r.0, SEAT)
+}
+
 pub fn tail_of(arcs: &[u16], a: Arc) -> Node
-    requires { ⌜ 4 * a .0 + 3 < length (now arcs) ⌝ }
-    ensures { λ v. ⌜ v .0 ≡ field (now (arcs .entry)) (a .0) 0 ⌝ }
+    requires { ⌜ a .0 < rowCount (now arcs) ⌝ }
+    ensures { λ v. ⌜ v .0 ≡ rowTail (now (arcs .entry)) (a .0) ⌝ }
 {
     Node(field(arcs, a.0, TAIL))
 }
 
 pub fn head_of(arcs: &[u16], a: Arc) -> Node
-    requires { ⌜ 4 * a .0 + 3 < length (now arcs) ⌝ }
-    ensures { λ v. ⌜ v .0 ≡ field (now (arcs .entry)) (a .0) 1 ⌝ }
+    requires { ⌜ a .0 < rowCount (now arcs) ⌝ }
+    ensures { λ v. ⌜ v .0 ≡ rowHead (now (arcs .entry)) (a .0) ⌝ }
 {
     Node(field(arcs, a.0, HEAD))
 }
 
 pub fn leaf_of(arcs: &[u16], a: Arc) -> Region
-    requires { ⌜ 4 * a .0 + 3 < length (now arcs) ⌝ }
-    ensures { λ r. ⌜ r .0 ≡ field (now (arcs .entry)) (a .0) 2 ⌝ }
+    requires { ⌜ a .0 < rowCount (now arcs) ⌝ }
+    ensures { λ r. ⌜ r .0 ≡ rowLeaf (now (arcs .entry)) (a .0) ⌝ }
 {
     Region(field(arcs, a.0, LEAF))
 }
 
+// The next arc with the same tail; the number of arcs where there is none.
 pub fn next_of(arcs: &[u16], a: Arc) -> Arc
-    requires { ⌜ 4 * a .0 + 3 < length (now arcs) ⌝ }
-    ensures { λ b. ⌜ b .0 ≡ field (now (arcs .entry)) (a .0) 3 ⌝ }
+    requires { ⌜ a .0 < rowCount (now arcs) ⌝ }
+    ensures { λ b. ⌜ b .0 ≡ rowNext (now (arcs .entry)) (a .0) ⌝ }
 {
     Arc(field(arcs, a.0, NEXT))
 }
 
-// The first arc whose tail is v.
+// The first arc whose tail is v; the number of arcs where there is none.
 pub fn first_of(firsts: &[u16], v: Node) -> Arc
     requires { ⌜ v .0 < length (now firsts) ⌝ }
     ensures { λ a. ⌜ a .0 ≡ at (now (firsts .entry)) (v .0) ⌝ }
@@ -101,7 +123,7 @@ pub fn first_of(firsts: &[u16], v: Node) -> Arc
     Arc(firsts[i])
 }
 
-// A key and a number as one number, in the order of keys, then of numbers.
+// A key and a region as one number, in the order of keys, then of regions.
 fn rank(keys: &[u32], a: Region) -> u64
     requires { ⌜ a .0 < length (now keys) ⌝ }
     ensures { λ x. ⌜ x ≡ at (now (keys .entry)) (a .0) * 65536 + a .0 ⌝ }
@@ -124,7 +146,7 @@ fn earlier(keys: &[u32], a: Region, b: Region) -> Region
 // Decides a place of the tree that begins at `start`: it holds the one of the two places below it that is chosen first.
 fn decide(keys: &[u32], winners: &mut [u16], start: usize, place: usize)
     requires { ⌜ (start + (2 * place + 1) < length (now winners)) × ((i : ℕ) → i < length (now winners) → at (now winners) i < length (now keys)) ⌝ }
-    ensures { λ _. ⌜ ((d : Division) → now (winners .exit) ≡ set (now (winners .entry)) (start + place) (earlier d (now (keys .entry)) (at (now (winners .entry)) (start + 2 * place)) (at (now (winners .entry)) (start + (2 * place + 1))))) ⌝ }
+    ensures { λ _. ⌜ ((d : Division) → Decided d (now (keys .entry)) start place (now (winners .entry)) (now (winners .exit))) ⌝ }
 {
     let left = Region(winners[start + 2 * place]);
     let right = Region(winners[start + (2 * place + 1)]);
@@ -137,17 +159,17 @@ pub fn min_item(rows: &[u16], winners: &[u16], r: Region) -> Region
     requires { ⌜ ((d : Division) × (keys : List ℕ) × QueuesOk d (now rows) keys (now winners) × (r .0 < regions d)) ⌝ }
     ensures { λ c. ⌜ ((d : Division) (keys : List ℕ) → QueuesOk d (now (rows .entry)) keys (now (winners .entry)) → c .0 ≡ minItem d keys (r .0)) ⌝ }
 {
-    if field(rows, r.0, CHILDREN) == 0 {
+    if children_of(rows, r) == 0 {
         return Region(0);
     }
-    let start = field(rows, r.0, START) as usize;
+    let start = start_of(rows, r) as usize;
     Region(winners[start + 1])
 }
 
 // The smallest key of an inner region.
 pub fn min_key(rows: &[u16], keys: &[u32], winners: &[u16], r: Region) -> u32
     requires { ⌜ ((d : Division) × QueuesOk d (now rows) (now keys) (now winners) × (r .0 < regions d)) ⌝ }
-    ensures { λ k. ⌜ ((d : Division) (own : List ℕ) (updates : ℕ) → QueuesOk d (now (rows .entry)) (now (keys .entry)) (now (winners .entry)) → isLeaf d (r .0) ≡ false → k ≡ minKey d (record { own = own; keys = now (keys .entry); updates = updates }) (r .0)) ⌝ }
+    ensures { λ k. ⌜ ((d : Division) → QueuesOk d (now (rows .entry)) (now (keys .entry)) (now (winners .entry)) → IsMinKey d (now (keys .entry)) (r .0) k) ⌝ }
 {
     let c = min_item(rows, winners, r);
     if c.0 == 0 {
@@ -164,9 +186,9 @@ pub fn write(rows: &[u16], keys: &mut [u32], winners: &mut [u16], child: Region,
 {
     let c = child.0 as usize;
     keys[c] = key;
-    let up = parent_of(rows, child);
-    let start = field(rows, up.0, START) as usize;
-    let mut place = field(rows, child.0, SEAT) as usize;
+    let parent = parent_of(rows, child);
+    let start = start_of(rows, parent) as usize;
+    let mut place = seat_of(rows, child) as usize;
     while 1 < place {
         place = place / 2;
         decide(keys, winners, start, place);
@@ -194,7 +216,7 @@ pub fn fill_keys(keys: &mut [u32], k: u32)
     }
 }
 
-// Fills in each region's parent, number of children, and how many siblings with a lower number it has.
+// Fills in each region's parent, the number of its children, and how many siblings with a lower number it has.
 fn count_children(parents: &[u16], rows: &mut [u16])
     requires { ⌜ ((d : Division) × ParentsOf d (now parents) × (length (now rows) ≡ 4 * regions d)) ⌝ }
     ensures { λ _. ⌜ ((d : Division) → ParentsOf d (now (parents .entry)) → Ranked d (now (rows .exit))) ⌝ }
@@ -204,11 +226,12 @@ fn count_children(parents: &[u16], rows: &mut [u16])
     let mut c: u16 = 1;
     while c < n {
         let i = c as usize;
-        let up = parents[i];
-        let elders = field(rows, up, CHILDREN);
-        set_field(rows, c, PARENT, up);
-        set_field(rows, c, SEAT, elders);
-        set_field(rows, up, CHILDREN, elders + 1);
+        let parent = Region(parents[i]);
+        let lower = children_of(rows, parent);
+        let counted = lower + 1;
+        set_field(rows, c, PARENT, parent.0);
+        set_field(rows, c, SEAT, lower);
+        set_field(rows, parent.0, CHILDREN, counted);
         c += 1;
     }
 }
@@ -223,12 +246,12 @@ fn lay_trees(rows: &mut [u16])
     let mut r: u16 = 0;
     while r < n {
         set_field(rows, r, START, start);
-        start = start + 2 * field(rows, r, CHILDREN);
+        start = start + 2 * children_of(rows, Region(r));
         r += 1;
     }
 }
 
-// Seats each region at its place in its parent's tree.
+// Seats each region in its parent's tree: at the number of the parent's children plus that of its siblings with a lower number.
 fn seat_children(rows: &mut [u16], winners: &mut [u16])
     requires { ⌜ ((d : Division) × Started d (now rows) × (length (now winners) ≡ 2 * regions d)) ⌝ }
     ensures { λ _. ⌜ ((d : Division) → Started d (now (rows .entry)) → LaidOut d (now (rows .exit)) (now (winners .exit))) ⌝ }
@@ -237,9 +260,9 @@ fn seat_children(rows: &mut [u16], winners: &mut [u16])
     let n = (rows.len() / 4) as u16;
     let mut c: u16 = 1;
     while c < n {
-        let up = field(rows, c, PARENT);
-        let place = field(rows, up, CHILDREN) + field(rows, c, SEAT);
-        let at = field(rows, up, START) + place;
+        let parent = parent_of(rows, Region(c));
+        let place = children_of(rows, parent) + seat_of(rows, Region(c));
+        let at = start_of(rows, parent) + place;
         set_field(rows, c, SEAT, place);
         let i = at as usize;
         winners[i] = c;
@@ -260,20 +283,22 @@ pub fn plan(parents: &[u16], rows: &mut [u16], winners: &mut [u16])
 // Decides the places of r's tree, from the last one down.
 fn build_tree(rows: &[u16], keys: &[u32], winners: &mut [u16], r: Region)
     requires { ⌜ ((d : Division) × ValidBelow d (now rows) (now keys) (now winners) (r .0) × (r .0 < regions d)) ⌝ }
-    ensures { λ _. ⌜ ((d : Division) → ValidBelow d (now (rows .entry)) (now (keys .entry)) (now (winners .entry)) (r .0) → ValidBelow d (now (rows .entry)) (now (keys .entry)) (now (winners .exit)) (r .0 + 1)) ⌝ }
+    ensures { λ _. ⌜ ((d : Division) → ValidBelow d (now (rows .entry)) (now (keys .entry)) (now (winners .entry)) (r .0)
+        → ValidBelow d (now (rows .entry)) (now (keys .entry)) (now (winners .exit)) (r .0 + 1)) ⌝ }
 {
-    let start = field(rows, r.0, START) as usize;
-    let mut place = field(rows, r.0, CHILDREN) as usize;
-    while 1 < place {
-        place -= 1;
-        decide(keys, winners, start, place);
+    let start = start_of(rows, r) as usize;
+    let mut rest = children_of(rows, r) as usize;
+    while 1 < rest {
+        rest -= 1;
+        decide(keys, winners, start, rest);
     }
 }
 
 // Makes the queues valid for the keys.
 pub fn build(rows: &[u16], keys: &[u32], winners: &mut [u16])
     requires { ⌜ ((d : Division) × LaidOut d (now rows) (now winners) × (length (now keys) ≡ regions d)) ⌝ }
-    ensures { λ _. ⌜ ((d : Division) → LaidOut d (now (rows .entry)) (now (winners .entry)) → QueuesOk d (now (rows .entry)) (now (keys .entry)) (now (winners .exit))) ⌝ }
+    ensures { λ _. ⌜ ((d : Division) → LaidOut d (now (rows .entry)) (now (winners .entry))
+        → QueuesOk d (now (rows .entry)) (now (keys .entry)) (now (winners .exit))) ⌝ }
 {
     let n = keys.len() as u16;
     let mut r: u16 = 0;
@@ -286,7 +311,8 @@ pub fn build(rows: &[u16], keys: &[u32], winners: &mut [u16])
 // All keys become none, in valid queues.
 pub fn clear(rows: &[u16], keys: &mut [u32], winners: &mut [u16])
     requires { ⌜ ((d : Division) × LaidOut d (now rows) (now winners) × (length (now keys) ≡ regions d)) ⌝ }
-    ensures { λ _. ⌜ (now (keys .exit) ≡ replicate (length (now (keys .entry))) top) × ((d : Division) → LaidOut d (now (rows .entry)) (now (winners .entry)) → QueuesOk d (now (rows .entry)) (now (keys .exit)) (now (winners .exit))) ⌝ }
+    ensures { λ _. ⌜ (now (keys .exit) ≡ replicate (length (now (keys .entry))) top)
+        × ((d : Division) → LaidOut d (now (rows .entry)) (now (winners .entry)) → QueuesOk d (now (rows .entry)) (now (keys .exit)) (now (winners .exit))) ⌝ }
 {
     fill_keys(keys, NONE);
     build(rows, keys, winners);
@@ -302,8 +328,10 @@ pub fn link(arcs: &mut [u16], firsts: &mut [u16])
     let mut a = m;
     while 0 < a {
         a -= 1;
-        let tail = field(arcs, a, TAIL) as usize;
-        set_field(arcs, a, NEXT, firsts[tail]);
-        firsts[tail] = a;
+        let tail = tail_of(arcs, Arc(a));
+        let v = tail.0 as usize;
+        let next = firsts[v];
+        set_field(arcs, a, NEXT, next);
+        firsts[v] = a;
     }
 }

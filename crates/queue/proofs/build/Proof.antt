@@ -17,7 +17,7 @@ abbrev μ-loop : tie.MeasureT-loop
 cast-n : tie.Need-cast-n Inv-loop μ-loop
 cast-n c =
     let pre = c .before .before .before .pre in
-    omega (arith, pre .2, pre .1 .planned .counted .few)
+    omega (arith, pre .2, pre .1 .planned .counted .numbered .few)
 
 loop-holds : tie.Need-loop-holds Inv-loop μ-loop
 loop-holds c =

@@ -11,40 +11,43 @@ use Rattle.queue.proofs.build_tree.Statement.{statement}
 use Rattle.queue.proofs.build_tree.Tie as tie
 
 abbrev Inv-loop : tie.InvT-loop
-Inv-loop rows keys winners₀ start place₀ winners place = (d : Division) (r : ℕ) → start ≡ field rows r 2 → Building d r rows keys winners₀ place₀ → Building d r rows keys winners place
+Inv-loop rows keys winners₀ start rest₀ winners rest =
+    (d : Division) (r : ℕ) → start ≡ field rows r 2 → Building d r rows keys winners₀ rest₀ → Building d r rows keys winners rest
 
 abbrev μ-loop : tie.MeasureT-loop
-μ-loop rows keys winners₀ start place₀ winners place = place
+μ-loop rows keys winners₀ start rest₀ winners rest = rest
 
-field-requires : tie.Need-field-requires Inv-loop μ-loop
-field-requires c κs =
+start-of-requires : tie.Need-start-of-requires Inv-loop μ-loop
+start-of-requires c κs =
     let pre = c .before .before .before .pre in
-    (omega arith, row-in _ (pre .1 .laid .planned .counted) (pre .2))
+    row-in _ (pre .1 .laid .planned .counted) (pre .2)
 
 cast-start : tie.Need-cast-start Inv-loop μ-loop
 cast-start c = search needs
 
-field-requires-2 : tie.Need-field-requires-2 Inv-loop μ-loop
-field-requires-2 c κs =
+children-of-requires : tie.Need-children-of-requires Inv-loop μ-loop
+children-of-requires c κs =
     let pre = c .before .before .before .before .pre in
-    (omega arith, row-in _ (pre .1 .laid .planned .counted) (pre .2))
+    row-in _ (pre .1 .laid .planned .counted) (pre .2)
 
-cast-place : tie.Need-cast-place Inv-loop μ-loop
-cast-place c = search needs
+cast-rest : tie.Need-cast-rest Inv-loop μ-loop
+cast-rest c = search needs
 
 loop-holds : tie.Need-loop-holds Inv-loop μ-loop
 loop-holds c = λ d r row B. B
 
-sub-place : tie.Need-sub-place Inv-loop μ-loop
-sub-place c = search needs
+sub-rest : tie.Need-sub-rest Inv-loop μ-loop
+sub-rest c = search needs
 
 decide-requires : tie.Need-decide-requires Inv-loop μ-loop
 decide-requires c κs =
     let earlier = c .before .before .before .before in
     let pre = earlier .before .before .before .before .pre in
-    let field = earlier .field in
-    let field2 = c .before .before .before .field2 in
-    let b = building-bounds (c .before .before .loop .inv (pre .0) _ (field .ensures) (building-start _ _ (pre .1) (pre .2) (field2 .ensures))) _ (field .ensures) (c .before .loop-test .taken) in (b .second, b .named)
+    let start-of = earlier .start-of in
+    let children-of = c .before .before .before .children-of in
+    let now = c .before .before .loop .inv (pre .0) _ (start-of .ensures) (building-start _ _ (pre .1) (pre .2) (children-of .ensures)) in
+    let b = building-bounds now _ (start-of .ensures) (c .before .loop-test .taken) in
+    (b .second, b .named)
 
 loop-less : tie.Need-loop-less Inv-loop μ-loop
 loop-less c =
@@ -62,17 +65,19 @@ same-length : tie.Need-same-length Inv-loop μ-loop
 same-length c =
     let earlier = c .before .before .before .before in
     let pre = earlier .before .before .before .pre in
-    let field = c .before .before .before .field in
-    (c .before .loop .inv (pre .0) _ (field .ensures) (building-start _ _ (pre .1) (pre .2) (c .before .before .field2 .ensures))) .valid .laid .seated .all ∙ sym (pre .1 .laid .seated .all)
+    let start-of = c .before .before .before .start-of in
+    let now = c .before .loop .inv (pre .0) _ (start-of .ensures) (building-start _ _ (pre .1) (pre .2) (c .before .before .children-of .ensures)) in
+    now .valid .laid .seated .all ∙ sym (pre .1 .laid .seated .all)
 
 returns : tie.Need-returns Inv-loop μ-loop
 returns c =
     let earlier = c .before .before .before .before in
     let pre = earlier .before .before .before .pre in
-    let field = c .before .before .before .field in
+    let start-of = c .before .before .before .start-of in
     λ d B.
     let inside = same-regions (B .laid .planned .counted) (pre .1 .laid .planned .counted) in
-    building-end (c .before .loop .inv d _ (field .ensures) (building-start _ _ B (omega (arith, pre .2)) (c .before .before .field2 .ensures))) (c .loop-test .left)
+    let begin = building-start _ _ B (omega (arith, pre .2)) (c .before .before .children-of .ensures) in
+    building-end (c .before .loop .inv d _ (start-of .ensures) begin) (c .loop-test .left)
 
 pub build-tree-spec : {M : Type 1} → statement M
 build-tree-spec =
@@ -80,12 +85,12 @@ build-tree-spec =
     (tie.spec
     Inv-loop
     μ-loop
-    field-requires
+    start-of-requires
     cast-start
-    field-requires-2
-    cast-place
+    children-of-requires
+    cast-rest
     loop-holds
-    sub-place
+    sub-rest
     decide-requires
     loop-less
     loop-again

@@ -1,11 +1,9 @@
 -- `count_children` meets its contract: the regions passed are counted for their parents. Assumes nothing.
 use Prim.Native.Nat.{_-_, _<_}
-use mathlib.Core.Path.{refl, sym, _∙_}
+use mathlib.Core.Path.{sym, _∙_}
 use borrow.Author.Needs.{needs}
 use native.Mathlib.Omega.{arith}
-use lib.ListN.{length-set}
 use Rattle.procedure.specs.Division.{Division, regions}
-use Rattle.queue.specs.Rows.{field}
 use Rattle.queue.specs.Trees.{ParentsOf}
 use Rattle.queue.proofs.Planning.{Counting, counting-start, count-row, count-bounds, counting-step, counting-end}
 use Rattle.queue.proofs.count_children.Statement.{statement}
@@ -17,6 +15,17 @@ Inv-loop parents rows₀ n c₀ rows c = (d : Division) → ParentsOf d parents 
 abbrev μ-loop : tie.MeasureT-loop
 μ-loop parents rows₀ n c₀ rows c = n - c
 
+-- where the function begins
+abbrev entry : (c : tie.In-loop Inv-loop μ-loop) → tie.Start Inv-loop μ-loop
+entry c = c .before .before .before .before .before .before .before .before
+
+-- the invariant for the given division
+now : (c : tie.In-loop Inv-loop μ-loop) → Counting (entry c .pre .0) (c .before .loop .rows) (c .before .loop .c)
+now c = c .before .loop .inv (entry c .pre .0) (entry c .pre .1)
+
+inside : (c : tie.In-loop Inv-loop μ-loop) → c .before .loop .c < regions (entry c .pre .0)
+inside c = omega (arith, c .loop-test .taken, entry c .pre .1 .all)
+
 fill-requires : tie.Need-fill-requires Inv-loop μ-loop
 fill-requires c κs = search needs
 
@@ -24,7 +33,7 @@ cast-n : tie.Need-cast-n Inv-loop μ-loop
 cast-n c =
     let earlier = c .before .before .before .before in
     let pre = earlier .before .before .pre in
-    omega (arith, pre .1 .all, pre .1 .few)
+    omega (arith, pre .1 .all, pre .1 .numbered .few)
 
 loop-holds : tie.Need-loop-holds Inv-loop μ-loop
 loop-holds c =
@@ -36,64 +45,62 @@ loop-holds c =
 cast-i : tie.Need-cast-i Inv-loop μ-loop
 cast-i c = search needs
 
-mul-up : tie.Need-mul-up Inv-loop μ-loop
-mul-up c = search needs
+mul-t14 : tie.Need-mul-t14 Inv-loop μ-loop
+mul-t14 c = search needs
 
-shared-slice-read-up : tie.Need-shared-slice-read-up Inv-loop μ-loop
-shared-slice-read-up c = search needs
+shared-slice-read-t16 : tie.Need-shared-slice-read-t16 Inv-loop μ-loop
+shared-slice-read-t16 c = search needs
 
-field-requires : tie.Need-field-requires Inv-loop μ-loop
-field-requires c κs =
+children-of-requires : tie.Need-children-of-requires Inv-loop μ-loop
+children-of-requires c κs =
     let earlier = c .before .before .before .before in
     let early = earlier .before .before .before .before in
-    let loop = c .before .before .before .loop in
     let pre = early .before .before .pre in
-    let inside : loop .c < regions (pre .0) = omega (arith, c .before .before .loop-test .taken, pre .1 .all) in (omega arith, count-row (pre .1) (loop .inv (pre .0) (pre .1)) inside _ refl)
+    let pass = c .before .before in
+    count-row (pre .1) (now pass) (inside pass)
+
+add-counted : tie.Need-add-counted Inv-loop μ-loop
+add-counted c =
+    let earlier = c .before .before .before .before in
+    let early = earlier .before .before .before .before in
+    let pre = early .before .before .before .pre in
+    let pass = c .before .before .before in
+    let b = count-bounds (pre .1) (now pass) (inside pass) _ (c .children-of .ensures) in
+    omega (arith, b .fits)
 
 set-field-requires : tie.Need-set-field-requires Inv-loop μ-loop
 set-field-requires c κs =
     let earlier = c .before .before .before .before in
     let early = earlier .before .before .before .before in
-    let loop = earlier .before .loop in
     let pre = early .before .before .before .before .pre in
-    let loop-test = earlier .loop-test in
-    let inside : loop .c < regions (pre .0) = omega (arith, loop-test .taken, pre .1 .all) in let b = count-bounds (pre .1) (loop .inv (pre .0) (pre .1)) inside _ refl _ (c .before .field .ensures) in (omega arith, b .row)
+    let pass = earlier in
+    let b = count-bounds (pre .1) (now pass) (inside pass) _ (c .before .children-of .ensures) in
+    (omega arith, b .row)
 
 set-field-requires-2 : tie.Need-set-field-requires-2 Inv-loop μ-loop
 set-field-requires-2 c κs =
     let earlier = c .before .before .before .before in
     let early = earlier .before .before .before .before in
     let first = early .before .before .before .before in
-    let loop = early .before .loop in
     let pre = first .before .before .before .before .pre in
-    let loop-test = early .loop-test in
-    let field = earlier .before .field in
+    let children-of = earlier .before .children-of in
     let set-field = c .before .before .before .set-field in
-    let inside : loop .c < regions (pre .0) = omega (arith, loop-test .taken, pre .1 .all) in let b = count-bounds (pre .1) (loop .inv (pre .0) (pre .1)) inside _ refl _ (field .ensures) in (omega arith, rw (set-field .ensures) (simp length-set (b .row)))
-
-add-set-field : tie.Need-add-set-field Inv-loop μ-loop
-add-set-field c =
-    let earlier = c .before .before .before .before in
-    let early = earlier .before .before .before .before in
-    let first = early .before .before .before .before in
-    let loop = first .before .loop in
-    let pre = first .before .before .before .before .before .before .before .before .pre in
-    let loop-test = first .loop-test in
-    let field = early .before .field in
-    let inside : loop .c < regions (pre .0) = omega (arith, loop-test .taken, pre .1 .all) in let b = count-bounds (pre .1) (loop .inv (pre .0) (pre .1)) inside _ refl _ (field .ensures) in omega (arith, b .fits)
+    let pass = early in
+    let b = count-bounds (pre .1) (now pass) (inside pass) _ (children-of .ensures) in
+    (omega arith, omega (arith, b .row, set-field .kept))
 
 set-field-requires-3 : tie.Need-set-field-requires-3 Inv-loop μ-loop
 set-field-requires-3 c κs =
     let earlier = c .before .before .before .before in
     let early = earlier .before .before .before .before in
     let first = early .before .before .before .before in
-    let loop = first .before .loop in
     let pre = first .before .before .before .before .before .before .before .before .pre in
-    let loop-test = first .loop-test in
-    let field = early .before .field in
+    let children-of = early .before .children-of in
     let set-field2 = c .before .before .before .set-field2 in
     let set-field = earlier .before .before .before .set-field in
-    let inside : loop .c < regions (pre .0) = omega (arith, loop-test .taken, pre .1 .all) in let b = count-bounds (pre .1) (loop .inv (pre .0) (pre .1)) inside _ refl _ (field .ensures) in (omega arith, omega (arith, b .row-up, set-field2 .kept, set-field .kept))
+    let pass = first in
+    let b = count-bounds (pre .1) (now pass) (inside pass) _ (children-of .ensures) in
+    (omega arith, omega (arith, b .row-parent, set-field2 .kept, set-field .kept))
 
 add-c : tie.Need-add-c Inv-loop μ-loop
 add-c c =
@@ -102,7 +109,7 @@ add-c c =
     let first = early .before .before .before .before in
     let loop-test = first .before .before .before .loop-test in
     let pre = first .before .before .before .before .before .before .before .before .before .before .before .pre in
-    omega (arith, loop-test .taken, pre .1 .all, pre .1 .few)
+    omega (arith, loop-test .taken, pre .1 .all, pre .1 .numbered .few)
 
 loop-less : tie.Need-loop-less Inv-loop μ-loop
 loop-less c =
@@ -121,14 +128,15 @@ loop-again c =
     let set-field = early .before .before .set-field in
     let loop = first .before .before .before .before .loop in
     let loop-test = first .before .before .before .loop-test in
-    let field = first .field in
-    rw (c .before .before .set-field3 .ensures, set-field2 .ensures, set-field .ensures) (λ d Q. counting-step Q (loop .inv d Q) (omega (arith, loop-test .taken, Q .all)) _ refl _ (field .ensures))
+    let children-of = first .children-of in
+    rw (c .before .before .set-field3 .ensures, set-field2 .ensures, set-field .ensures)
+    (λ d Q. counting-step Q (loop .inv d Q) (omega (arith, loop-test .taken, Q .all)) _ (children-of .ensures))
 
 same-length : tie.Need-same-length Inv-loop μ-loop
 same-length c =
     let earlier = c .before .before .before .before in
     let pre = earlier .before .before .before .before .pre in
-    (c .before .loop .inv (pre .0) (pre .1)) .all ∙ sym (pre .2)
+    c .before .loop .inv (pre .0) (pre .1) .all ∙ sym (pre .2)
 
 returns : tie.Need-returns Inv-loop μ-loop
 returns c = λ d Q. counting-end Q (c .before .loop .inv d Q) (omega (arith, c .loop-test .left, Q .all))
@@ -143,12 +151,12 @@ count-children-spec =
     cast-n
     loop-holds
     cast-i
-    mul-up
-    shared-slice-read-up
-    field-requires
+    mul-t14
+    shared-slice-read-t16
+    children-of-requires
+    add-counted
     set-field-requires
     set-field-requires-2
-    add-set-field
     set-field-requires-3
     add-c
     loop-less

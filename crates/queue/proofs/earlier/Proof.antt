@@ -16,12 +16,16 @@ rank-requires-2 c κs = search needs
 returns : tie.Need-returns
 returns c =
     let good = c .before .before .before .before .good in
-    λ d. sym (earlier-right d _ _ _ (rank-before d _ _ _ (omega (arith, good)) (omega (arith, good)) (omega (arith, c .if1 .taken, c .before .before .rank .ensures, c .before .rank2 .ensures))))
+    λ d.
+    sym (earlier-right d _ _ _ (rank-before d _ _ _ (omega (arith, good)) (omega (arith, good))
+    (omega (arith, c .if1 .taken, c .before .before .rank .ensures, c .before .rank2 .ensures))))
 
 returns-2 : tie.Need-returns-2
 returns-2 c =
     let good = c .before .before .before .before .good in
-    λ d. sym (earlier-left d _ _ _ (rank-behind d _ _ _ (omega (arith, good)) (omega (arith, good)) (omega (arith, c .if1 .left, c .before .before .rank .ensures, c .before .rank2 .ensures))))
+    λ d.
+    sym (earlier-left d _ _ _ (rank-behind d _ _ _ (omega (arith, good)) (omega (arith, good))
+    (omega (arith, c .if1 .left, c .before .before .rank .ensures, c .before .rank2 .ensures))))
 
 pub earlier-spec : {M : Type 1} → statement M
 earlier-spec = tie.close (tie.spec rank-requires rank-requires-2 returns returns-2)

@@ -3,7 +3,6 @@ use Prim.Native.Nat.{ℕ, _-_, _<_}
 use mathlib.Core.Path.{sym, ap, _∙_}
 use mathlib.Core.List.{List}
 use native.Mathlib.Omega.{arith}
-use lib.ListN.{length-set}
 use Rattle.procedure.specs.Division.{Division, regions}
 use Rattle.queue.specs.Rows.{field}
 use Rattle.queue.specs.Trees.{Ranked}
@@ -18,45 +17,52 @@ Inv-loop rows₀ n start₀ r₀ rows start r = (d : Division) → Ranked d rows
 abbrev μ-loop : tie.MeasureT-loop
 μ-loop rows₀ n start₀ r₀ rows start r = n - r
 
+-- where the function begins
+abbrev entry : (c : tie.In-loop Inv-loop μ-loop) → tie.Start Inv-loop μ-loop
+entry c = c .before .before .before
+
+-- the invariant for the given division
+now : (c : tie.In-loop Inv-loop μ-loop) → Laying (entry c .pre .0) (c .before .loop .rows) (c .before .loop .start) (c .before .loop .r)
+now c = c .before .loop .inv (entry c .pre .0) (entry c .pre .1)
+
+inside : (c : tie.In-loop Inv-loop μ-loop) → c .before .loop .r < regions (entry c .pre .0)
+inside c = omega (arith, c .loop-test .taken, entry c .pre .1 .counted .all)
+
 cast-n : tie.Need-cast-n Inv-loop μ-loop
-cast-n c = omega (arith, c .before .pre .1 .counted .all, c .before .pre .1 .counted .few)
+cast-n c = omega (arith, c .before .pre .1 .counted .all, c .before .pre .1 .counted .numbered .few)
 
 loop-holds : tie.Need-loop-holds Inv-loop μ-loop
 loop-holds c = λ d R. laying-start R
 
 set-field-requires : tie.Need-set-field-requires Inv-loop μ-loop
 set-field-requires c κs =
-    let pre = c .before .before .before .before .pre in
-    let inside : c .before .before .loop .r < regions (pre .0) = omega (arith, c .before .loop-test .taken, pre .1 .counted .all) in (omega arith, row-in _ ((c .before .before .loop .inv (pre .0) (pre .1)) .ranked .counted) inside)
+    let pass = c .before in
+    (omega arith, row-in _ (now pass .ranked .counted) (inside pass))
 
-field-requires : tie.Need-field-requires Inv-loop μ-loop
-field-requires c κs =
+children-of-requires : tie.Need-children-of-requires Inv-loop μ-loop
+children-of-requires c κs =
     let earlier = c .before .before .before .before in
-    let loop = earlier .before .before .loop in
-    let pre = earlier .before .before .before .before .pre in
-    let loop-test = earlier .before .loop-test in
     let set-field = c .before .before .before .set-field in
-    let inside : loop .r < regions (pre .0) = omega (arith, loop-test .taken, pre .1 .counted .all) in (omega arith, rw (set-field .ensures) (simp length-set (row-in _ ((loop .inv (pre .0) (pre .1)) .ranked .counted) inside)))
+    let pass = earlier .before in
+    omega (arith, row-in _ (now pass .ranked .counted) (inside pass), set-field .kept)
 
 mul-start : tie.Need-mul-start Inv-loop μ-loop
 mul-start c =
     let earlier = c .before .before .before .before in
-    let early = earlier .before .before .before .before in
     let loop = earlier .before .before .before .loop in
-    let pre = early .before .pre in
-    let loop-test = earlier .before .before .loop-test in
     let set-field = earlier .set-field in
-    let inside : loop .r < regions (pre .0) = omega (arith, loop-test .taken, pre .1 .counted .all) in omega (arith, laying-fits (loop .inv (pre .0) (pre .1)) inside (c .field .result) (c .field .ensures ∙ ap (λ (l : List ℕ). field l (loop .r) 1) (set-field .ensures)))
+    let pass = earlier .before .before in
+    let read = c .children-of .ensures ∙ ap (λ (l : List ℕ). field l (loop .r) 1) (set-field .ensures) in
+    omega (arith, laying-fits (now pass) (inside pass) (c .children-of .result) read)
 
 add-start : tie.Need-add-start Inv-loop μ-loop
 add-start c =
     let earlier = c .before .before .before .before in
-    let early = earlier .before .before .before .before in
     let loop = earlier .before .before .before .loop in
-    let pre = early .before .pre in
-    let loop-test = earlier .before .before .loop-test in
     let set-field = earlier .set-field in
-    let inside : loop .r < regions (pre .0) = omega (arith, loop-test .taken, pre .1 .counted .all) in omega (arith, laying-fits (loop .inv (pre .0) (pre .1)) inside (c .field .result) (c .field .ensures ∙ ap (λ (l : List ℕ). field l (loop .r) 1) (set-field .ensures)))
+    let pass = earlier .before .before in
+    let read = c .children-of .ensures ∙ ap (λ (l : List ℕ). field l (loop .r) 1) (set-field .ensures) in
+    omega (arith, laying-fits (now pass) (inside pass) (c .children-of .result) read)
 
 add-r : tie.Need-add-r Inv-loop μ-loop
 add-r c =
@@ -73,15 +79,16 @@ loop-less c =
 loop-again : tie.Need-loop-again Inv-loop μ-loop
 loop-again c =
     let earlier = c .before .before .before .before in
-    let set-field = earlier .set-field in
     let loop = earlier .before .before .before .loop in
+    let set-field = earlier .set-field in
     let loop-test = earlier .before .before .loop-test in
-    rw (set-field .ensures) (λ d R. laying-step (loop .inv d R) (omega (arith, loop-test .taken, R .counted .all)) _ (c .field .ensures ∙ ap (λ (l : List ℕ). field l (loop .r) 1) (set-field .ensures)))
+    let read = c .children-of .ensures ∙ ap (λ (l : List ℕ). field l (loop .r) 1) (set-field .ensures) in
+    rw (set-field .ensures) (λ d R. laying-step (loop .inv d R) (omega (arith, loop-test .taken, R .counted .all)) _ read)
 
 same-length : tie.Need-same-length Inv-loop μ-loop
 same-length c =
     let pre = c .before .before .before .pre in
-    (c .before .loop .inv (pre .0) (pre .1)) .ranked .counted .all ∙ sym (pre .1 .counted .all)
+    c .before .loop .inv (pre .0) (pre .1) .ranked .counted .all ∙ sym (pre .1 .counted .all)
 
 returns : tie.Need-returns Inv-loop μ-loop
 returns c = λ d R. laying-end (c .before .loop .inv d R) (omega (arith, c .loop-test .left, R .counted .all))
@@ -95,7 +102,7 @@ lay-trees-spec =
     cast-n
     loop-holds
     set-field-requires
-    field-requires
+    children-of-requires
     mul-start
     add-start
     add-r

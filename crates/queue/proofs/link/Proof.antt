@@ -4,7 +4,6 @@ use mathlib.Core.Path.{_∙_}
 use borrow.Author.Needs.{needs}
 use native.Mathlib.Omega.{arith}
 use lib.ListN.{length}
-use Rattle.queue.specs.Rows.{field}
 use Rattle.queue.proofs.Filled.{filled-length}
 use Rattle.queue.proofs.Links.{Linking, linking-start, link-bounds, linking-step, linking-end}
 use Rattle.queue.proofs.link.Statement.{statement}
@@ -31,67 +30,76 @@ loop-holds c =
 sub-a : tie.Need-sub-a Inv-loop μ-loop
 sub-a c = search needs
 
-field-requires : tie.Need-field-requires Inv-loop μ-loop
-field-requires c κs = let b = link-bounds (c .before .before .loop .inv) (c .before .loop-test .taken) in (omega arith, b .row)
+tail-of-requires : tie.Need-tail-of-requires Inv-loop μ-loop
+tail-of-requires c κs =
+    let b = link-bounds (c .before .before .loop .inv) (c .before .loop-test .taken) in
+    b .row
 
-cast-tail : tie.Need-cast-tail Inv-loop μ-loop
-cast-tail c = search needs
+cast-v : tie.Need-cast-v Inv-loop μ-loop
+cast-v c = search needs
 
-mul-set-field : tie.Need-mul-set-field Inv-loop μ-loop
-mul-set-field c =
+mul-next : tie.Need-mul-next Inv-loop μ-loop
+mul-next c =
     let earlier = c .before .before .before .before in
     let early = earlier .before .before .before .before in
     let loop = earlier .loop in
     let loop-test = c .before .before .before .loop-test in
     let good = early .before .before .before .good in
-    let b = link-bounds (loop .inv) (loop-test .taken) in omega (arith, b .tail-in, c .before .field .ensures, good)
+    let b = link-bounds (loop .inv) (loop-test .taken) in
+    omega (arith, b .tail-in, c .before .tail-of .ensures, good)
 
-slice-read-set-field : tie.Need-slice-read-set-field Inv-loop μ-loop
-slice-read-set-field c =
+slice-read-next : tie.Need-slice-read-next Inv-loop μ-loop
+slice-read-next c =
     let earlier = c .before .before .before .before in
     let loop = earlier .before .loop in
     let loop-test = earlier .loop-test in
-    let b = link-bounds (loop .inv) (loop-test .taken) in rw (c .before .before .field .ensures) (b .tail-in)
+    let b = link-bounds (loop .inv) (loop-test .taken) in
+    rw (c .before .before .tail-of .ensures) (b .tail-in)
 
 set-field-requires : tie.Need-set-field-requires Inv-loop μ-loop
 set-field-requires c κs =
     let earlier = c .before .before .before .before in
-    let loop = earlier .before .loop in
-    let loop-test = earlier .loop-test in
-    let b = link-bounds (loop .inv) (loop-test .taken) in (omega arith, b .row)
+    let loop = earlier .before .before .loop in
+    let loop-test = earlier .before .loop-test in
+    let b = link-bounds (loop .inv) (loop-test .taken) in
+    (omega arith, b .row)
 
 mul-firsts : tie.Need-mul-firsts Inv-loop μ-loop
 mul-firsts c =
     let earlier = c .before .before .before .before in
     let early = earlier .before .before .before .before in
     let first = early .before .before .before .before in
-    let loop = early .loop in
-    let loop-test = earlier .before .before .before .loop-test in
-    let field = earlier .before .field in
-    let good = first .before .before .before .good in
-    let b = link-bounds (loop .inv) (loop-test .taken) in omega (arith, b .tail-in, field .ensures, good)
+    let loop = early .before .loop in
+    let loop-test = early .loop-test in
+    let tail-of = earlier .before .before .tail-of in
+    let good = first .before .before .before .before .good in
+    let b = link-bounds (loop .inv) (loop-test .taken) in
+    omega (arith, b .tail-in, tail-of .ensures, good)
 
 slice-write-firsts : tie.Need-slice-write-firsts Inv-loop μ-loop
 slice-write-firsts c =
     let earlier = c .before .before .before .before in
-    let loop = earlier .before .before .before .before .loop in
-    let loop-test = earlier .before .before .before .loop-test in
-    let field = earlier .before .field in
-    let b = link-bounds (loop .inv) (loop-test .taken) in rw (field .ensures) (b .tail-in)
+    let early = earlier .before .before .before .before in
+    let loop = early .before .loop in
+    let loop-test = early .loop-test in
+    let tail-of = earlier .before .before .tail-of in
+    let b = link-bounds (loop .inv) (loop-test .taken) in
+    rw (tail-of .ensures) (b .tail-in)
 
 loop-less : tie.Need-loop-less Inv-loop μ-loop
 loop-less c =
     let earlier = c .before .before .before .before in
-    let loop-test = earlier .before .before .before .loop-test in
+    let loop-test = earlier .before .before .before .before .loop-test in
     omega (arith, loop-test .taken)
 
 loop-again : tie.Need-loop-again Inv-loop μ-loop
 loop-again c =
     let earlier = c .before .before .before .before in
-    let loop = earlier .before .before .before .before .loop in
-    let loop-test = earlier .before .before .before .loop-test in
-    let field = earlier .before .field in
-    rw (c .before .before .set-field .ensures) (linking-step (loop .inv) (loop-test .taken) _ (field .ensures))
+    let early = earlier .before .before .before .before in
+    let loop = early .before .loop in
+    let loop-test = early .loop-test in
+    let tail-of = earlier .before .before .tail-of in
+    rw (c .before .before .set-field .ensures) (linking-step (loop .inv) (loop-test .taken) _ (tail-of .ensures))
 
 same-length : tie.Need-same-length Inv-loop μ-loop
 same-length c = c .before .loop .inv .long
@@ -119,10 +127,10 @@ link-spec =
     fill-requires
     loop-holds
     sub-a
-    field-requires
-    cast-tail
-    mul-set-field
-    slice-read-set-field
+    tail-of-requires
+    cast-v
+    mul-next
+    slice-read-next
     set-field-requires
     mul-firsts
     slice-write-firsts

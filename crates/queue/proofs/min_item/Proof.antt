@@ -2,24 +2,25 @@
 use mathlib.Core.Path.{sym, _∙_}
 use borrow.Author.Needs.{needs}
 use native.Mathlib.Omega.{arith}
-use Rattle.queue.specs.Rows.{field}
 use Rattle.queue.proofs.Repair.{same-regions}
 use Rattle.queue.proofs.Reading.{row-in, first-none, first-in, first-some}
 use Rattle.queue.proofs.min_item.Statement.{statement}
 use Rattle.queue.proofs.min_item.Tie as tie
 
-field-requires : tie.Need-field-requires
-field-requires c κs = (omega arith, row-in _ (c .before .before .pre .2 .laid .planned .counted) (c .before .before .pre .3))
+children-of-requires : tie.Need-children-of-requires
+children-of-requires c κs = row-in _ (c .before .before .pre .2 .laid .planned .counted) (c .before .before .pre .3)
 
 returns : tie.Need-returns
 returns c =
     let pre = c .before .before .before .before .pre in
-    λ d keys Q. sym (first-none Q _ (omega (arith, same-regions (Q .laid .planned .counted) (pre .2 .laid .planned .counted), pre .3)) (sym (c .before .field .ensures) ∙ c .if1 .taken))
+    λ d keys Q.
+    let inside = same-regions (Q .laid .planned .counted) (pre .2 .laid .planned .counted) in
+    sym (first-none Q _ (omega (arith, pre .3)) (sym (c .before .children-of .ensures) ∙ c .if1 .taken))
 
-field-requires-2 : tie.Need-field-requires-2
-field-requires-2 c κs =
+start-of-requires : tie.Need-start-of-requires
+start-of-requires c κs =
     let pre = c .before .before .before .before .pre in
-    (omega arith, row-in _ (pre .2 .laid .planned .counted) (pre .3))
+    row-in _ (pre .2 .laid .planned .counted) (pre .3)
 
 cast-start : tie.Need-cast-start
 cast-start c = search needs
@@ -34,23 +35,25 @@ shared-slice-read-t5 : tie.Need-shared-slice-read-t5
 shared-slice-read-t5 c =
     let earlier = c .before .before .before .before in
     let pre = earlier .before .before .pre in
-    let field = c .before .before .before .field in
-    rw (c .before .field2 .ensures) (first-in (pre .2) _ (pre .3) (λ e. c .before .before .if1 .left (field .ensures ∙ e)))
+    let children-of = c .before .before .before .children-of in
+    rw (c .before .start-of .ensures) (first-in (pre .2) _ (pre .3) (λ e. c .before .before .if1 .left (children-of .ensures ∙ e)))
 
 returns-2 : tie.Need-returns-2
 returns-2 c =
     let earlier = c .before .before .before .before in
     let pre = earlier .before .before .pre in
-    let field = c .before .before .before .field in
-    λ d keys Q. rw (c .before .field2 .ensures) (sym (first-some Q _ (omega (arith, same-regions (Q .laid .planned .counted) (pre .2 .laid .planned .counted), pre .3)) (λ e. c .before .before .if1 .left (field .ensures ∙ e))))
+    let children-of = c .before .before .before .children-of in
+    λ d keys Q.
+    let inside = same-regions (Q .laid .planned .counted) (pre .2 .laid .planned .counted) in
+    rw (c .before .start-of .ensures) (sym (first-some Q _ (omega (arith, pre .3)) (λ e. c .before .before .if1 .left (children-of .ensures ∙ e))))
 
 pub min-item-spec : {M : Type 1} → statement M
 min-item-spec =
     tie.close
     (tie.spec
-    field-requires
+    children-of-requires
     returns
-    field-requires-2
+    start-of-requires
     cast-start
     add-t7
     mul-t8

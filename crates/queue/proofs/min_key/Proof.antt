@@ -1,6 +1,7 @@
 -- `min_key` meets its contract: the smallest key is that of the first-chosen child. Assumes nothing.
 use mathlib.Core.Path.{sym}
 use borrow.Author.Needs.{needs}
+use native.Mathlib.Omega.{arith}
 use Rattle.sheet.specs.Words.{top}
 use Rattle.queue.proofs.Reading.{item-in, key-none, key-some}
 use Rattle.queue.proofs.min_key.Statement.{statement}
@@ -14,7 +15,7 @@ min-item-requires c κs =
 
 returns : tie.Need-returns
 unfolding top
-returns c = λ d own updates Q inner. sym (key-none d own _ updates _ _ (c .before .before .min-item .ensures d _ Q) inner (c .if1 .taken))
+returns c = λ d Q inner own updates. sym (key-none d own _ updates _ _ (c .before .before .min-item .ensures d _ Q) inner (c .if1 .taken))
 
 cast-i : tie.Need-cast-i
 cast-i c = search needs
@@ -25,15 +26,17 @@ mul-result c = search needs
 shared-slice-read-result : tie.Need-shared-slice-read-result
 shared-slice-read-result c =
     let earlier = c .before .before .before .before in
-    let pre = earlier .before .before .before .before .pre in
     let args = earlier .before .before .before .before .args in
+    let pre = earlier .before .before .before .before .pre in
     let min-item = earlier .min-item in
-    item-in (pre .0) (args .keys .now) (args .keys .now) 0 _ _ (min-item .ensures (pre .0) (args .keys .now) (pre .1)) (pre .1 .keyed) (c .before .before .if1 .left)
+    let keys = args .keys .now in
+    let item = item-in (pre .0) keys keys 0 _ _ (min-item .ensures (pre .0) keys (pre .1)) (pre .1 .keyed) (c .before .before .if1 .left) in
+    omega (arith, pre .1 .keyed, pre .2)
 
 returns-2 : tie.Need-returns-2
 returns-2 c =
     let min-item = c .before .before .before .before .min-item in
-    λ d own updates Q inner. sym (key-some d own _ updates _ _ (min-item .ensures d _ Q) inner (c .before .before .if1 .left))
+    λ d Q inner own updates. sym (key-some d own _ updates _ _ (min-item .ensures d _ Q) inner (c .before .before .if1 .left))
 
 pub min-key-spec : {M : Type 1} → statement M
 min-key-spec =

@@ -12,7 +12,8 @@ use Rattle.queue.proofs.write.Statement.{statement}
 use Rattle.queue.proofs.write.Tie as tie
 
 abbrev Inv-loop : tie.InvT-loop
-Inv-loop rows keys winners₀ key c start place₀ winners place = (d : Division) (r : ℕ) → start ≡ field rows r 2 → Repairing d r rows keys winners₀ place₀ → Repairing d r rows keys winners place
+Inv-loop rows keys winners₀ key c start place₀ winners place =
+    (d : Division) (r : ℕ) → start ≡ field rows r 2 → Repairing d r rows keys winners₀ place₀ → Repairing d r rows keys winners place
 
 abbrev μ-loop : tie.MeasureT-loop
 μ-loop rows keys winners₀ key c start place₀ winners place = place
@@ -31,23 +32,24 @@ slice-write-keys c =
 parent-of-requires : tie.Need-parent-of-requires Inv-loop μ-loop
 parent-of-requires c κs =
     let pre = c .before .before .before .before .pre in
-    row-in _ (pre .1 .laid .planned .counted) (pre .3)
+    (pre .0, pre .1 .laid .planned .counted, pre .2, pre .3)
 
-field-requires : tie.Need-field-requires Inv-loop μ-loop
-field-requires c κs =
+start-of-requires : tie.Need-start-of-requires Inv-loop μ-loop
+start-of-requires c κs =
     let earlier = c .before .before .before .before in
     let pre = earlier .before .pre in
     let counted = pre .1 .laid .planned .counted in
-    (omega arith, row-in _ counted (omega (arith, c .parent-of .ensures, counted .parents _ (pre .2) (pre .3), counted .lower _ (pre .2) (pre .3), pre .3)))
+    row-in _ counted
+    (omega (arith, c .parent-of .ensures (pre .0) counted, counted .numbered .lower _ (pre .2) (pre .3), pre .3))
 
 cast-start : tie.Need-cast-start Inv-loop μ-loop
 cast-start c = search needs
 
-field-requires-2 : tie.Need-field-requires-2 Inv-loop μ-loop
-field-requires-2 c κs =
+seat-of-requires : tie.Need-seat-of-requires Inv-loop μ-loop
+seat-of-requires c κs =
     let earlier = c .before .before .before .before in
     let pre = earlier .before .before .pre in
-    (omega arith, row-in _ (pre .1 .laid .planned .counted) (pre .3))
+    row-in _ (pre .1 .laid .planned .counted) (pre .3)
 
 cast-place : tie.Need-cast-place Inv-loop μ-loop
 cast-place c = search needs
@@ -59,12 +61,16 @@ decide-requires : tie.Need-decide-requires Inv-loop μ-loop
 decide-requires c κs =
     let earlier = c .before .before .before .before in
     let early = earlier .before .before .before .before in
-    let loop = c .before .before .before .loop in
-    let pre = early .before .before .before .pre in
     let parent-of = earlier .before .before .parent-of in
-    let field = earlier .before .field in
-    let field2 = earlier .field2 in
-    let b = repair-bounds (loop .inv (pre .0) (parent-of .result .0) (field .ensures) (repair-start _ _ _ _ (pre .1) (pre .2) (pre .3) (parent-of .ensures) (field2 .ensures))) _ (field .ensures) (c .before .before .loop-test .taken) in (b .second, b .named)
+    let pre = early .before .before .before .pre in
+    let seat-of = earlier .seat-of in
+    let loop = c .before .before .before .loop in
+    let start-of = earlier .before .start-of in
+    let over = parent-of .ensures (pre .0) (pre .1 .laid .planned .counted) in
+    let begin = repair-start _ _ _ _ (pre .1) (pre .2) (pre .3) over (seat-of .ensures) in
+    let now = loop .inv (pre .0) (parent-of .result .0) (start-of .ensures) begin in
+    let b = repair-bounds now _ (start-of .ensures) (omega (arith, c .before .before .loop-test .taken)) in
+    (b .second, b .named)
 
 loop-less : tie.Need-loop-less Inv-loop μ-loop
 loop-less c =
@@ -77,7 +83,7 @@ loop-again c =
     let earlier = c .before .before .before .before in
     let loop = earlier .before .before .loop in
     let loop-test = earlier .before .loop-test in
-    λ d r row R. repair-step (loop .inv d r row R) _ row (loop-test .taken) _ (c .before .before .decide .ensures d)
+    λ d r row R. repair-step (loop .inv d r row R) _ row (omega (arith, loop-test .taken)) _ (c .before .before .decide .ensures d)
 
 same-length : tie.Need-same-length Inv-loop μ-loop
 same-length c = simp length-set
@@ -86,10 +92,13 @@ same-length-2 : tie.Need-same-length-2 Inv-loop μ-loop
 same-length-2 c =
     let earlier = c .before .before .before .before in
     let early = earlier .before .before .before .before in
-    let pre = early .before .pre in
     let parent-of = earlier .parent-of in
-    let field = c .before .before .before .field in
-    (c .before .loop .inv (pre .0) (parent-of .result .0) (field .ensures) (repair-start _ _ _ _ (pre .1) (pre .2) (pre .3) (parent-of .ensures) (c .before .before .field2 .ensures))) .valid .laid .seated .all ∙ sym (pre .1 .laid .seated .all)
+    let pre = early .before .pre in
+    let start-of = c .before .before .before .start-of in
+    let over = parent-of .ensures (pre .0) (pre .1 .laid .planned .counted) in
+    let begin = repair-start _ _ _ _ (pre .1) (pre .2) (pre .3) over (c .before .before .seat-of .ensures) in
+    let now = c .before .loop .inv (pre .0) (parent-of .result .0) (start-of .ensures) begin in
+    now .valid .laid .seated .all ∙ sym (pre .1 .laid .seated .all)
 
 returns : tie.Need-returns Inv-loop μ-loop
 returns c =
@@ -97,12 +106,14 @@ returns c =
     let early = earlier .before .before .before .before in
     let pre = early .before .pre in
     let parent-of = earlier .parent-of in
-    let field = c .before .before .before .field in
+    let start-of = c .before .before .before .start-of in
     record {
       result = refl;
       valid = λ d Q.
-          let inside = same-regions (Q .laid .planned .counted) (pre .1 .laid .planned .counted) in
-          repair-end (c .before .loop .inv d (parent-of .result .0) (field .ensures) (repair-start _ _ _ _ Q (pre .2) (omega (arith, pre .3)) (parent-of .ensures) (c .before .before .field2 .ensures))) (c .loop-test .left);
+          let counted = Q .laid .planned .counted in
+          let inside = same-regions counted (pre .1 .laid .planned .counted) in
+          let begin = repair-start _ _ _ _ Q (pre .2) (omega (arith, pre .3)) (parent-of .ensures d counted) (c .before .before .seat-of .ensures) in
+          repair-end (c .before .loop .inv d (parent-of .result .0) (start-of .ensures) begin) (omega (arith, c .loop-test .left));
     }
 
 pub write-spec : {M : Type 1} → statement M
@@ -115,9 +126,9 @@ write-spec =
     mul-keys
     slice-write-keys
     parent-of-requires
-    field-requires
+    start-of-requires
     cast-start
-    field-requires-2
+    seat-of-requires
     cast-place
     loop-holds
     decide-requires
