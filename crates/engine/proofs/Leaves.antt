@@ -16,7 +16,7 @@ use Rattle.procedure.specs.Queues.{updateOutgoing}
 use Rattle.procedure.specs.Procedure.{relax, clearKey, processLeaf}
 use Rattle.theory.proofs.Process.{sumBy, lowered, relax-falls, relax-stays}
 use Rattle.theory.proofs.Grows.{relax-grows}
-use Rattle.queue.specs.Rows.{field}
+use Rattle.queue.specs.Rows.{rowCount, rowTail, rowHead}
 use Rattle.engine.specs.declared.Counts.{Counts}
 use Rattle.engine.specs.Tables.{Tables, arcEntry}
 use Rattle.engine.specs.States.{leafCounted, queuesOf, stateOf, Updatable, UpdatingOutgoing, Queued, Represents, Processing, Computed}
@@ -66,7 +66,7 @@ module _ {g : Graph} {d : Division} {t : Tables} {labels predecessors own keys w
     arc-in : a < arcs g
     arc-in = omega (arith, is-arc, P .represents .tabled .ok .division .leaf-arc r (P .in-range) leaf .0)
 
-    pub leaf-row-in : 4 * a + 3 < length (t .arcRows)
+    pub leaf-row-in : a < rowCount (t .arcRows)
     leaf-row-in = omega (arith, arc-in, P .represents .tabled .arc-rows .all)
 
     pub leaf-own-in : a < length own
@@ -75,14 +75,14 @@ module _ {g : Graph} {d : Division} {t : Tables} {labels predecessors own keys w
     pub leaf-length-in : a < length (t .lengths)
     leaf-length-in = rw (P .represents .tabled .lengths) (omega (arith, arc-in, P .represents .tabled .ok .graph .lengths-all))
 
-    module _ {u : ℕ} (from : u ≡ field (t .arcRows) a 0) where
+    module _ {u : ℕ} (from : u ≡ rowTail (t .arcRows) a) where
       is-tail : u ≡ tail g a
       is-tail = from ∙ P .represents .tabled .arc-rows .tails a arc-in
 
       pub leaf-tail-in : u < length labels
       leaf-tail-in = omega (arith, is-tail, P .represents .tabled .ok .graph .tail-in a arc-in, P .represents .labelled)
 
-    module _ {v : ℕ} (to : v ≡ field (t .arcRows) a 1) where
+    module _ {v : ℕ} (to : v ≡ rowHead (t .arcRows) a) where
       is-head : v ≡ head g a
       is-head = to ∙ P .represents .tabled .arc-rows .heads a arc-in
 
@@ -96,7 +96,7 @@ module _ {g : Graph} {d : Division} {t : Tables} {labels predecessors own keys w
       leaf-head-fed = omega (arith, node-in, P .represents .fed)
 
     -- x is the label of the tail u, y the arc's length, and z the label of the head v
-    module _ {u v x y z : ℕ} (from : u ≡ field (t .arcRows) a 0) (to : v ≡ field (t .arcRows) a 1) (ex : x ≡ at labels u) (ey : y ≡ at (t .lengths) a)
+    module _ {u v x y z : ℕ} (from : u ≡ rowTail (t .arcRows) a) (to : v ≡ rowHead (t .arcRows) a) (ex : x ≡ at labels u) (ey : y ≡ at (t .lengths) a)
         (ez : z ≡ at labels v) where
       is-sum : x + y ≡ sumBy g (arcOf d r) s
       is-sum =

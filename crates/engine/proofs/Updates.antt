@@ -23,8 +23,8 @@ use Rattle.procedure.specs.WellFormed.{DivisionOk}
 use Rattle.theory.proofs.Chosen.{minKey-leaf}
 use Rattle.theory.proofs.Update.{write-leaf, write-inner, write-counts, update-grows, update-rises, update-stops, update-elim}
 use Rattle.theory.proofs.Outgoing.{arc-leaf-test}
-use Rattle.queue.specs.Rows.{field}
-use Rattle.queue.specs.Trees.{QueuesOk, Written}
+use Rattle.queue.specs.Rows.{rowCount, rowTail, rowLeaf, rowNext}
+use Rattle.queue.specs.Trees.{Counted, QueuesOk, Written}
 use Rattle.queue.specs.Links.{stepAt}
 use Rattle.queue.proofs.Links.{Walk, walk-start, walk-step, walk-end, walk-part, walk-falls}
 use Rattle.engine.specs.Tables.{ArcRows, ArcLinks}
@@ -78,10 +78,7 @@ module _ {d : Division} {rows own keys winners : List ℕ} {count r x k : ℕ} (
       }
 
       -- where it fell, the update goes on at the parent
-      module _ (pos : 0 < r) (fell : new < old) {up : ℕ} (row : up ≡ field rows r 0) where
-        pub up-parent : up ≡ parent d r
-        up-parent = row ∙ U .queues .laid .planned .counted .parents r pos region-in
-
+      module _ (pos : 0 < r) (fell : new < old) {up : ℕ} (up-parent : up ≡ parent d r) where
         pub up-lower : up < r
         up-lower = omega (arith, up-parent, U .division .nesting .lower r pos region-in)
 
@@ -174,16 +171,17 @@ module _ {g : Graph} {d : Division} {rows arcRows own keys winners : List ℕ} {
     }
 
     -- where it is, the update goes on at the leaf's parent
-    module _ (fell : k < at own a) {leaf : ℕ} (leaf-row : leaf ≡ field arcRows a 2) where
+    module _ (fell : k < at own a) {leaf : ℕ} (leaf-row : leaf ≡ rowLeaf arcRows a) where
       is-leaf : leaf ≡ leafOf d a
       is-leaf = leaf-row ∙ U .updatable .arc-rows .leaves a (U .in-range)
 
-      pub leaf-row-in : 4 * leaf + 3 < length rows
-      leaf-row-in = omega (arith, is-leaf, leaf-in, U .updatable .queues .laid .planned .counted .all)
+      -- which has a parent
+      pub leaf-parent-asks : Counted d rows × (0 < leaf) × (leaf < regions d)
+      leaf-parent-asks = (U .updatable .queues .laid .planned .counted, rw is-leaf leaf-positive, rw is-leaf leaf-in)
 
-      module _ {up : ℕ} (up-row : up ≡ field rows leaf 0) where
+      module _ {up : ℕ} (up-parent : up ≡ parent d leaf) where
         is-parent : up ≡ parent d (leafOf d a)
-        is-parent = up-row ∙ ap (λ (r : ℕ). field rows r 0) is-leaf ∙ U .updatable .queues .laid .planned .counted .parents (leafOf d a) leaf-positive leaf-in
+        is-parent = up-parent ∙ ap (parent d) is-leaf
 
         arc-goes-on : update d up leaf k (queuesOf (set own a k) keys (count + 1)) ≡ updateArc d a k (queuesOf own keys count)
         arc-goes-on =
@@ -198,7 +196,7 @@ module _ {g : Graph} {d : Division} {rows arcRows own keys winners : List ℕ} {
           queues = U .updatable .queues;
           positive = rw is-leaf leaf-positive;
           in-range = rw is-leaf leaf-in;
-          under = ap (parent d) is-leaf ∙ sym is-parent;
+          under = sym up-parent;
           small = rw arc-goes-on (U .small);
         }
 
@@ -217,7 +215,7 @@ updateBy d k a q = updateArc d a k q
 
 -- the rows have the graph's tails
 outgoing-by-rows : {g : Graph} {d : Division} {arcRows : List ℕ} → ArcRows g d arcRows → (v k : ℕ) (q : Queues)
-    → upTo (arcs g) (stepAt (λ a. field arcRows a 0) v (updateBy d k)) q ≡ updateOutgoing d (g .tails) v k q
+    → upTo (arcs g) (stepAt (rowTail arcRows) v (updateBy d k)) q ≡ updateOutgoing d (g .tails) v k q
 unfolding updateOutgoing
 outgoing-by-rows {g} {d} R v k q =
     upTo-cong _ _ q (arcs g) (λ a t l. ap (λ (u : ℕ). if eqb u v then updateArc d a k t else t) (R .tails a l))
@@ -227,7 +225,7 @@ pub record Spread (g : Graph) (d : Division) (rows arcRows firsts : List ℕ) (v
   pub updatable : Updatable g d rows arcRows (queuesOf own keys n) winners
   pub links : ArcLinks g arcRows firsts
   pub small : updateOutgoing d (g .tails) v k q₀ .updates < 2 ^ 54
-  pub walk : Walk (λ a. field arcRows a 0) (updateBy d k) v q₀ (arcs g) a (queuesOf own keys n)
+  pub walk : Walk (rowTail arcRows) (updateBy d k) v q₀ (arcs g) a (queuesOf own keys n)
 
 pub spread-start : {g : Graph} {d : Division} {rows arcRows firsts own keys winners : List ℕ} {count v k a : ℕ}
     → UpdatingOutgoing g d rows arcRows firsts (queuesOf own keys count) winners v k → a ≡ at firsts v
@@ -236,23 +234,23 @@ spread-start {g} {d} {rows} {arcRows} {firsts} {own} {keys} {winners} {count} {v
   updatable = U .updatable;
   links = U .links;
   small = U .small;
-  walk = walk-start (λ a. field arcRows a 0) (updateBy d k) v (queuesOf own keys count) (U .links .linked) (U .in-range);
+  walk = walk-start (rowTail arcRows) (updateBy d k) v (queuesOf own keys count) (U .links .linked) (U .in-range);
 })
 
 module _ {g : Graph} {d : Division} {rows arcRows firsts : List ℕ} {v k : ℕ} {q₀ : Queues} {own keys winners : List ℕ} {n a : ℕ}
     (S : Spread g d rows arcRows firsts v k q₀ own keys winners n a) where
   module _ (arc-in : a < arcs g) where
-    pub spread-row-in : 4 * a + 3 < length arcRows
+    pub spread-row-in : a < rowCount arcRows
     spread-row-in = omega (arith, arc-in, S .updatable .arc-rows .all)
 
     pub spread-asks : UpdatingArc g d rows arcRows (queuesOf own keys n) winners a k
     spread-asks =
-        let part = walk-part (λ a. field arcRows a 0) (updateBy d k) v q₀ (λ q. q .updates) (updateArc-grows d k) (S .walk) arc-in in
+        let part = walk-part (rowTail arcRows) (updateBy d k) v q₀ (λ q. q .updates) (updateArc-grows d k) (S .walk) arc-in in
         record { updatable = S .updatable; in-range = arc-in; small = omega (arith, rw (outgoing-by-rows (S .updatable .arc-rows) v k q₀) at part, S .small) }
 
-    module _ {next : ℕ} (row : next ≡ field arcRows a 3) where
+    module _ {next : ℕ} (row : next ≡ rowNext arcRows a) where
       pub spread-falls : arcs g - next < arcs g - a
-      spread-falls = rw row (walk-falls (λ a. field arcRows a 0) (updateBy d k) v q₀ (S .links .linked) a arc-in)
+      spread-falls = rw row (walk-falls (rowTail arcRows) (S .links .linked) a arc-in)
 
       pub spread-step : {own′ keys′ winners′ : List ℕ} {n′ : ℕ}
           → Queued d rows (updateArc d a k (queuesOf own keys n)) (queuesOf own′ keys′ n′) winners′ → length own′ ≡ length own
@@ -267,13 +265,13 @@ module _ {g : Graph} {d : Division} {rows arcRows firsts : List ℕ} {v k : ℕ}
         };
         links = S .links;
         small = S .small;
-        walk = rw row (walk-step (λ a. field arcRows a 0) (updateBy d k) v q₀ (S .links .linked) a _ _ (S .walk) arc-in (Q .result));
+        walk = rw row (walk-step (rowTail arcRows) (updateBy d k) v q₀ (S .links .linked) a _ _ (S .walk) arc-in (Q .result));
       }
 
   pub spread-end : arcs g ≤ a → Queued d rows (updateOutgoing d (g .tails) v k q₀) (queuesOf own keys n) winners
   spread-end l = record {
     result =
-        walk-end (λ a. field arcRows a 0) (updateBy d k) v q₀ (S .walk) l
+        walk-end (rowTail arcRows) (updateBy d k) v q₀ (S .walk) l
         ∙ outgoing-by-rows (S .updatable .arc-rows) v k q₀;
     valid = S .updatable .queues;
   }

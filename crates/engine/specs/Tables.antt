@@ -9,7 +9,7 @@ use Rattle.sheet.specs.Limits.{mostArcsEachWay}
 use Rattle.procedure.specs.Graph.{Graph, arcs, tail, head}
 use Rattle.procedure.specs.Division.{Division, regions, arcOf, isLeaf, leafOf, height}
 use Rattle.procedure.specs.WellFormed.{WellFormed}
-use Rattle.queue.specs.Rows.{field}
+use Rattle.queue.specs.Rows.{rowTail, rowHead, rowLeaf, rowNext}
 use Rattle.queue.specs.Links.{Links}
 
 -- The rows of the regions' queues, of the arcs and of the regions, each node's first arc, each arc's length, each height's span.
@@ -34,14 +34,14 @@ tablesOf rows arcRows firsts lengths spans regionRows = record {
 -- An arc's row: tail, head, leaf, and the next arc with the same tail.
 pub record ArcRows (g : Graph) (d : Division) (rows : List ℕ) : Type 0 where
   pub all : length rows ≡ 4 * arcs g
-  pub tails : (a : ℕ) → a < arcs g → field rows a 0 ≡ tail g a
-  pub heads : (a : ℕ) → a < arcs g → field rows a 1 ≡ head g a
-  pub leaves : (a : ℕ) → a < arcs g → field rows a 2 ≡ leafOf d a
+  pub tails : (a : ℕ) → a < arcs g → rowTail rows a ≡ tail g a
+  pub heads : (a : ℕ) → a < arcs g → rowHead rows a ≡ head g a
+  pub leaves : (a : ℕ) → a < arcs g → rowLeaf rows a ≡ leafOf d a
 
 -- The last entries of the arcs' rows and the first arcs link the arcs of each tail.
 pub record ArcLinks (g : Graph) (rows firsts : List ℕ) : Type 0 where
   pub all : length firsts ≡ g .nodes
-  pub linked : Links (λ a. field rows a 0) (arcs g) (g .nodes) (at firsts) (λ a. field rows a 3)
+  pub linked : Links (rowTail rows) (arcs g) (g .nodes) (at firsts) (rowNext rows)
 
 -- in place of an inner region's arc
 abbrev pub noArc : ℕ

@@ -173,7 +173,7 @@ process-inner-returns t c =
     λ g d P inner.
     let F = framed P inner (span-of .ensures) (count-inner .ensures) in
     let L = loop .inv g d F in
-    turns-worked P inner (span-of .ensures) (count-inner .ensures) (turns-none F L (c .before .min-key .ensures d _ _ (L .represents .queues) inner) (c .if1 .taken))
+    turns-worked P inner (span-of .ensures) (count-inner .ensures) (turns-none F L (c .before .min-key .ensures d (L .represents .queues) inner _ _) (c .if1 .taken))
 
 process-inner-min-item-requires : (t : ℕ) → process-inner-lts.Need-min-item-requires (process-inner-heard t) (process-inner-at t) process-inner.Post process-inner-Inv-loop process-inner-μ-loop
 process-inner-min-item-requires t c κs =
@@ -207,7 +207,7 @@ process-inner-process-region-requires t c κs =
     let D = pre .1 .1 in
     let F = framed (pre .1 .2) (pre .1 .3) (span-of .ensures) (count-inner .ensures) in
     let L = loop .inv G D F in
-    let key = min-key .ensures D _ _ (L .represents .queues) (F .inner) in
+    let key = min-key .ensures D (L .represents .queues) (F .inner) _ _ in
     let item = min-item .ensures D _ (L .represents .queues) in (
       omega (arith, pre .0, child-lower F L key (loop-test .taken) (if1 .left) item),
       (G, D, child-asks F L key (loop-test .taken) (if1 .left) item),
@@ -233,7 +233,7 @@ process-inner-key-of-requires t c κs =
     let D = pre .1 .1 in
     let F = framed (pre .1 .2) (pre .1 .3) (span-of .ensures) (count-inner .ensures) in
     let L = loop .inv G D F in
-    let key = min-key .ensures D _ _ (L .represents .queues) (F .inner) in
+    let key = min-key .ensures D (L .represents .queues) (F .inner) _ _ in
     let item = min-item .ensures D _ (L .represents .queues) in
     let asks = child-asks F L key (loop-test .taken) (if1 .left) item in
     let W = process-region .ensures G D asks in
@@ -260,7 +260,7 @@ process-inner-write-requires t c κs =
     let D = pre .1 .1 in
     let F = framed (pre .1 .2) (pre .1 .3) (span-of .ensures) (count-inner .ensures) in
     let L = loop .inv G D F in
-    let key = min-key .ensures D _ _ (L .represents .queues) (F .inner) in
+    let key = min-key .ensures D (L .represents .queues) (F .inner) _ _ in
     let item = min-item .ensures D _ (L .represents .queues) in
     let asks = child-asks F L key (loop-test .taken) (if1 .left) item in
     let W = process-region .ensures G D asks in
@@ -301,7 +301,7 @@ process-inner-loop-again t c =
     let loop = first .before .before .loop in
     λ g d F.
     let L = loop .inv g d F in
-    let key = min-key .ensures d _ _ (L .represents .queues) (F .inner) in
+    let key = min-key .ensures d (L .represents .queues) (F .inner) _ _ in
     let item = min-item .ensures d _ (L .represents .queues) in
     let W = process-region .ensures g d (child-asks F L key (loop-test .taken) (if1 .left) item) in
     let new = key-of .ensures (arcs g) d _ (key-asks F L key (loop-test .taken) (if1 .left) item W) in

@@ -2,7 +2,6 @@
 use Prim.Native.Nat.{ℕ, _<_}
 use mathlib.Core.Path.{_∙_}
 use native.Mathlib.Omega.{arith}
-use Rattle.queue.proofs.Reading.{row-in}
 use Rattle.engine.proofs.Updates.{region-in, region-inner, count-fits, valid-still, root-stops, not-fallen, up-lower, climb-asks, climbed}
 use borrow.Fn.Kinds.{In}
 use borrow.Fn.PlainCycle.{Measures, is, falls, and}
@@ -105,14 +104,15 @@ update-returns-2 t c =
     let min-key2 = c .before .before .before .min-key2 in
     let write = early .before .before .write in
     let min-key = prior .before .min-key in
-    λ d own U. not-fallen U (write .ensures) (min-key .ensures d own _ (U .queues) (region-inner U)) (min-key2 .ensures d own _ (valid-still U (write .ensures)) (region-inner U)) (c .if2 .taken)
+    λ d own U. not-fallen U (write .ensures) (min-key .ensures d (U .queues) (region-inner U) own _) (min-key2 .ensures d (valid-still U (write .ensures)) (region-inner U) own _) (c .if2 .taken)
 
 update-parent-of-requires : (t : ℕ) → update-lts.Need-parent-of-requires (update-heard t) (update-at t) update.Post
 update-parent-of-requires t c κs =
     let earlier = c .before .before .before .before .before .before .before .before in
     let early = earlier .before .before .before .before .before .before .before .before in
+    let if1 = c .before .before .before .if1 in
     let pre = early .before .before .before .before .before .pre in
-    row-in _ (pre .1 .2 .queues .laid .planned .counted) (region-in (pre .1 .2))
+    (pre .1 .0, pre .1 .2 .queues .laid .planned .counted, omega (arith, if1 .left), region-in (pre .1 .2))
 
 update-add-update : (t : ℕ) → update-lts.Need-add-update (update-heard t) (update-at t) update.Post
 update-add-update t c =
@@ -134,11 +134,12 @@ update-update-requires t c κs =
     let args = early .before .before .before .before .before .before .args in
     let U = pre .1 .2 in
     let valid = valid-still U (write .ensures) in
-    let before = min-key .ensures (pre .1 .0) (pre .1 .1) _ (U .queues) (region-inner U) in
-    let after = min-key2 .ensures (pre .1 .0) (pre .1 .1) _ valid (region-inner U) in
-    let pos : 0 < args .r .0 = omega (arith, if1 .left) in (
-      omega (arith, pre .0, up-lower U (write .ensures) before after pos (if2 .left) (c .parent-of .ensures)),
-      (pre .1 .0, pre .1 .1, climb-asks U (write .ensures) before after pos (if2 .left) (c .parent-of .ensures)),
+    let before = min-key .ensures (pre .1 .0) (U .queues) (region-inner U) (pre .1 .1) _ in
+    let after = min-key2 .ensures (pre .1 .0) valid (region-inner U) (pre .1 .1) _ in
+    let pos : 0 < args .r .0 = omega (arith, if1 .left) in
+    let up = c .parent-of .ensures (pre .1 .0) (U .queues .laid .planned .counted) in (
+      omega (arith, pre .0, up-lower U (write .ensures) before after pos (if2 .left) up),
+      (pre .1 .0, pre .1 .1, climb-asks U (write .ensures) before after pos (if2 .left) up),
     )
 
 update-same-length-5 : (t : ℕ) → update-lts.Need-same-length-5 (update-heard t) (update-at t) update.Post
@@ -172,11 +173,12 @@ update-returns-3 t c =
     let args = prior .before .before .before .args in
     λ d own U.
     let valid = valid-still U (write .ensures) in
-    let before = min-key .ensures d own _ (U .queues) (region-inner U) in
-    let after = min-key2 .ensures d own _ valid (region-inner U) in
+    let before = min-key .ensures d (U .queues) (region-inner U) own _ in
+    let after = min-key2 .ensures d valid (region-inner U) own _ in
     let pos : 0 < args .r .0 = omega (arith, if1 .left) in
-    climbed U (write .ensures) before after pos (if2 .left) (parent-of .ensures)
-    (update .ensures d own (climb-asks U (write .ensures) before after pos (if2 .left) (parent-of .ensures)))
+    let up = parent-of .ensures d (U .queues .laid .planned .counted) in
+    climbed U (write .ensures) before after pos (if2 .left) up
+    (update .ensures d own (climb-asks U (write .ensures) before after pos (if2 .left) up))
 
 pub +update-spec : {M : Type 1} → statement M
 +update-spec = close μ-update λ t. update-lts.spec (update-heard t)

@@ -13,7 +13,7 @@ min-key-requires c κs = search needs
 returns : tie.Need-returns
 returns c =
     let arc-of = c .before .before .before .arc-of in
-    λ m d updates K. c .min-key .ensures d _ updates (K .queues) (key-inner K (arc-of .ensures) (c .before .if1 .taken))
+    λ m d updates K. c .min-key .ensures d (K .queues) (key-inner K (arc-of .ensures) (c .before .if1 .taken)) _ updates
 
 cast-i : tie.Need-cast-i
 cast-i c = search needs

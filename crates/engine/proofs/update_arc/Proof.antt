@@ -1,6 +1,6 @@
 -- `update_arc` meets its contract: the arc's own key is its leaf's smallest. Assumes nothing.
 use borrow.Author.Needs.{needs}
-use Rattle.engine.proofs.Updates.{arc-count-fits, arc-stops, leaf-row-in, arc-climb-asks, arc-climbed}
+use Rattle.engine.proofs.Updates.{arc-count-fits, arc-stops, leaf-parent-asks, arc-climb-asks, arc-climbed}
 use Rattle.engine.proofs.update_arc.Statement.{statement}
 use Rattle.engine.proofs.update_arc.Tie as tie
 
@@ -40,7 +40,7 @@ parent-of-requires c κs =
     let early = earlier .before .before .before .before in
     let if1 = c .before .before .before .if1 in
     let pre = early .before .before .before .pre in
-    leaf-row-in (pre .2) (if1 .left) (c .before .before .leaf-of .ensures)
+    let asks = leaf-parent-asks (pre .2) (if1 .left) (c .before .before .leaf-of .ensures) in (pre .1, asks .0, asks .1, asks .2)
 
 add-update : tie.Need-add-update
 add-update c =
@@ -56,7 +56,7 @@ update-requires c κs =
     let leaf-of = c .before .before .before .leaf-of in
     let if1 = earlier .if1 in
     let pre = early .before .before .before .before .pre in
-    (pre .1, _, arc-climb-asks (pre .2) (if1 .left) (leaf-of .ensures) (c .parent-of .ensures))
+    (pre .1, _, arc-climb-asks (pre .2) (if1 .left) (leaf-of .ensures) (c .parent-of .ensures (pre .1) (pre .2 .updatable .queues .laid .planned .counted)))
 
 same-length-2 : tie.Need-same-length-2
 same-length-2 c = search needs
@@ -76,8 +76,8 @@ returns-2 c =
     let leaf-of = early .leaf-of in
     let if1 = early .before .if1 in
     λ g d U.
-    arc-climbed U (if1 .left) (leaf-of .ensures) (parent-of .ensures)
-    (update .ensures d _ (arc-climb-asks U (if1 .left) (leaf-of .ensures) (parent-of .ensures)))
+    let up = parent-of .ensures d (U .updatable .queues .laid .planned .counted) in
+    arc-climbed U (if1 .left) (leaf-of .ensures) up (update .ensures d _ (arc-climb-asks U (if1 .left) (leaf-of .ensures) up))
 
 pub update-arc-spec : {M : Type 1} → statement M
 update-arc-spec =
