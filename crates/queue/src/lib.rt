@@ -205,7 +205,8 @@ fn fill(a: &mut [u16], v: u16)
     }
 }
 
-fn fill_keys(keys: &mut [u32], k: u32)
+// Every key becomes k.
+pub fn fill_keys(keys: &mut [u32], k: u32)
     ensures { λ _. ⌜ now (keys .exit) ≡ replicate (length (now (keys .entry))) k ⌝ }
 {
     let mut i = 0;

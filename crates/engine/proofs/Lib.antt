@@ -1,0 +1,5 @@
+mod Regions
+mod Updates
+mod Leaves
+mod Loops
+mod Beginning

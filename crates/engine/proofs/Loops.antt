@@ -1,0 +1,311 @@
+-- What the loops rest on: the turns of an inner region and the rounds of a run, of which those left to make lead to the same end. Assumes nothing.
+use Prim.Native.Nat.{ℕ, suc, _+_, _-_, _*_, _≤_, _<_}
+use mathlib.Core.Bool.{Bool, true, false, not}
+use mathlib.Core.Path.{_≡_, refl, sym, ap, _∙_}
+use mathlib.Core.Logic.{_≢_}
+use mathlib.Core.List.{List}
+use native.Mathlib.Numerals.{add-one}
+use native.Mathlib.Omega.{arith}
+use lib.ListN.{length, set}
+use Rattle.indices.specs.Columns.{at}
+use Rattle.indices.specs.Steps.{times}
+use Rattle.indices.proofs.Steps.{times-on, times-off, times-none}
+use Rattle.sheet.specs.Words.{top}
+use Rattle.sheet.proofs.Heights.{root-highest}
+use Rattle.procedure.specs.Graph.{Graph, arcs}
+use Rattle.procedure.specs.Division.{Division, regions, parent, isLeaf, height, spanOf}
+use Rattle.procedure.specs.State.{State}
+use Rattle.procedure.specs.Queues.{minItem, minKey}
+use Rattle.procedure.specs.Procedure.{processLeaf, rewriteKey, countInner, countRound, processChild, alive, ended, process, round, after}
+use Rattle.theory.specs.Counts.{Small}
+use Rattle.theory.proofs.Chosen.{Chosen, chosen-of-key}
+use Rattle.theory.proofs.Process.{key-alive, none-alive, inner-high, chosen-lower, process-leaf, process-inner}
+use Rattle.theory.proofs.Grows.{grows-trans, grows-small, rewriteKey-grows, process-grows, children-grow, rounds-grow}
+use Rattle.theory.proofs.Final.{rounds-in-parts, after-small}
+use Rattle.queue.specs.Trees.{Written}
+use Rattle.engine.specs.declared.Counts.{Counts}
+use Rattle.engine.specs.Tables.{Tables, noArc, arcEntry, heightEntry}
+use Rattle.engine.specs.States.{roundCounted, innerCounted, queuesOf, stateOf, Keyed, Represents, Processing, Computed}
+use Rattle.engine.proofs.Regions.{entry-inner, entry-leaf, before-height}
+use Rattle.engine.proofs.Beginning.{few-out}
+
+-- up to `left` steps from the state s lead to the same end as up to left₀ steps from s₀
+pub record Looping (g : Graph) (d : Division) (t : Tables) (test : State → Bool) (step : State → State) (left₀ : ℕ) (s₀ : State) (left : ℕ) (s : State)
+    (winners : List ℕ) : Type 0 where
+  pub represents : Represents g d t s winners
+  pub sofar : times left test step s ≡ times left₀ test step s₀
+
+module _ {g : Graph} {d : Division} {t : Tables} {test : State → Bool} {step : State → State} {left₀ : ℕ} {s₀ : State} {left : ℕ} {s : State} {winners : List ℕ}
+    (L : Looping g d t test step left₀ s₀ left s winners) where
+  -- the end, where the test fails
+  pub loop-off : test s ≡ false → Computed g d t (times left₀ test step s₀) s winners
+  loop-off e = record { result = sym (times-off test step left s e) ∙ L .sofar; represents = L .represents }
+
+  -- and where no step is left
+  pub loop-spent : left ≤ 0 → Computed g d t (times left₀ test step s₀) s winners
+  loop-spent l =
+      let e : left ≡ 0 = omega arith in
+      record { result = sym (times-none test step s) ∙ (rw e at (L .sofar)); represents = L .represents }
+
+  -- otherwise one step is made
+  loop-on : 0 < left → test s ≡ true → times (left - 1) test step (step s) ≡ times left₀ test step s₀
+  loop-on pos e = sym (times-on test step (left - 1) s e) ∙ (let one : suc (left - 1) ≡ left = omega arith in rw one (L .sofar))
+
+-- THE TURNS OF AN INNER REGION
+abbrev pub turn : Graph → Division → Tables → ℕ → State → State
+turn g d t r s = processChild g d (process g d (t .spans)) r s
+
+rewritten-key : (g : Graph) (d : Division) (x : ℕ) (labels predecessors own keys : List ℕ) (c : Counts)
+    → stateOf labels predecessors own (set keys x (minKey d (queuesOf own keys (c .updates)) x)) c
+    ≡ rewriteKey g d x (stateOf labels predecessors own keys c)
+unfolding rewriteKey
+rewritten-key g d x labels predecessors own keys c = refl
+
+inner-counted : (g : Graph) (d : Division) (s : State) → countInner g d s .inner ≡ suc (s .inner)
+unfolding countInner
+inner-counted g d s = refl
+
+-- the loop's beginning
+pub record Framed (g : Graph) (d : Division) (t : Tables) (r left₀ : ℕ) (s₀ : State) (winners₀ : List ℕ) : Type 0 where
+  pub represents : Represents g d t s₀ winners₀
+  pub in-range : r < regions d
+  pub inner : isLeaf d r ≡ false
+  pub small : Small (times left₀ (alive g d r) (turn g d t r) s₀)
+
+pub framed-first : {g : Graph} {d : Division} {t : Tables} {r left₀ : ℕ} {s₀ : State} {winners₀ : List ℕ} → Framed g d t r left₀ s₀ winners₀
+    → Looping g d t (alive g d r) (turn g d t r) left₀ s₀ left₀ s₀ winners₀
+framed-first F = record { represents = F .represents; sofar = refl }
+
+module _ {g : Graph} {d : Division} {t : Tables} {labels predecessors own keys winners : List ℕ} {c : Counts} {r : ℕ}
+    (P : Processing g d t (stateOf labels predecessors own keys c) winners r (process g d (t .spans) r (stateOf labels predecessors own keys c)))
+    (inner : isLeaf d r ≡ false) where
+  heights : heightEntry (t .regionRows) r ≡ height d r
+  heights = P .represents .tabled .region-rows .heights r (P .in-range)
+
+  -- what `span_of` asks
+  pub span-asks : (2 * r + 1 < length (t .regionRows)) × (0 < heightEntry (t .regionRows) r) × (heightEntry (t .regionRows) r ≤ length (t .spans))
+  span-asks =
+      let ok = P .represents .tabled .ok in (
+        omega (arith, P .in-range, P .represents .tabled .region-rows .all),
+        omega (arith, heights, inner-high (ok .division) r (P .in-range) inner),
+        omega (arith, heights, root-highest (isLeaf d) (parent d) (regions d) (ok .division .nesting) r (P .in-range), ok .attention .each-height),
+      )
+
+  pub inner-count-fits : c .inner + 1 < 18446744073709551616
+  inner-count-fits =
+      let s = stateOf labels predecessors own keys c in
+      let ok = P .represents .tabled .ok .division in
+      let more = children-grow g d ok (t .spans) (spanOf d (t .spans) r) r (countInner g d s) inner in
+      let all = rw (process-inner g d (t .spans) ok r s (P .in-range) inner) at (P .small) in
+      omega (arith, inner-counted g d s, more .inner, all .inner)
+
+  -- left is its span, and n the counts with the region counted
+  module _ {left : ℕ} (span : left ≡ at (t .spans) (heightEntry (t .regionRows) r - 1)) {n : Counts} (counted : n ≡ innerCounted c) where
+    abbrev begun : State
+    begun = stateOf labels predecessors own keys n
+
+    is-begun : begun ≡ countInner g d (stateOf labels predecessors own keys c)
+    unfolding countInner
+    is-begun = rw (counted, add-one (c .inner))
+
+    is-span : left ≡ spanOf d (t .spans) r
+    is-span = span ∙ ap (at (t .spans)) (before-height (heightEntry (t .regionRows) r)) ∙ rw heights
+
+    -- the turns are the working of the region
+    turns-all : times left (alive g d r) (turn g d t r) begun ≡ process g d (t .spans) r (stateOf labels predecessors own keys c)
+    turns-all =
+        rw (is-span, is-begun)
+        (sym (process-inner g d (t .spans) (P .represents .tabled .ok .division) r (stateOf labels predecessors own keys c) (P .in-range) inner))
+
+    pub turns-worked : {s : State} {winners′ : List ℕ} → Computed g d t (times left (alive g d r) (turn g d t r) begun) s winners′
+        → Computed g d t (process g d (t .spans) r (stateOf labels predecessors own keys c)) s winners′
+    turns-worked W = record { result = W .result ∙ turns-all; represents = W .represents }
+
+    pub framed : Framed g d t r left begun winners
+    framed = record {
+      represents = record {
+        tabled = P .represents .tabled;
+        labelled = P .represents .labelled;
+        fed = P .represents .fed;
+        owned = P .represents .owned;
+        queues = P .represents .queues;
+      };
+      in-range = P .in-range;
+      inner = inner;
+      small = rw turns-all (P .small);
+    }
+
+module _ {g : Graph} {d : Division} {t : Tables} {r left₀ : ℕ} {s₀ : State} {winners₀ : List ℕ} (F : Framed g d t r left₀ s₀ winners₀) {left : ℕ} {s : State}
+    {winners : List ℕ} (L : Looping g d t (alive g d r) (turn g d t r) left₀ s₀ left s winners) {least : ℕ} (key : least ≡ minKey d (s .queues) r) where
+  -- the smallest key is none
+  pub turns-none : top ≤ least → Computed g d t (times left₀ (alive g d r) (turn g d t r) s₀) s winners
+  turns-none l = loop-off L (none-alive g d s r (omega arith))
+
+  -- it isn't, and the first-chosen child x is worked
+  module _ (pos : 0 < left) (some : least < top) {x : ℕ} (item : x ≡ minItem d (s .queues .keys) r) where
+    chosen : Chosen d (s .queues) r
+    chosen = chosen-of-key d (s .queues) r (F .inner) (omega arith)
+
+    pub child-in : x < regions d
+    child-in = rw item (chosen .child .in-range)
+
+    pub child-positive : 0 < x
+    child-positive = rw item (chosen .child .positive)
+
+    pub child-lower : heightEntry (t .regionRows) x < heightEntry (t .regionRows) r
+    child-lower =
+        let rows = F .represents .tabled .region-rows in
+        rw (rows .heights x child-in, rows .heights r (F .in-range), item) (chosen-lower (F .represents .tabled .ok .division) s r chosen)
+
+    onward : times (left - 1) (alive g d r) (turn g d t r) (rewriteKey g d x (process g d (t .spans) x s)) ≡ times left₀ (alive g d r) (turn g d t r) s₀
+    unfolding processChild
+    onward = rw item (loop-on L pos (key-alive g d s r (omega arith)))
+
+    pub child-asks : Processing g d t s winners x (process g d (t .spans) x s)
+    child-asks =
+        let worked = process g d (t .spans) x s in
+        record {
+          represents = L .represents;
+          in-range = child-in;
+          small =
+              grows-small
+              (grows-trans (rewriteKey-grows g d x worked)
+              (children-grow g d (F .represents .tabled .ok .division) (t .spans) (left - 1) r (rewriteKey g d x worked) (F .inner)))
+              (rw onward (F .small));
+        }
+
+    -- the slices after its working
+    module _ {labels predecessors own keys winners′ : List ℕ} {c : Counts}
+        (W : Computed g d t (process g d (t .spans) x s) (stateOf labels predecessors own keys c) winners′) where
+      pub key-asks : Keyed (arcs g) d (t .rows) (t .regionRows) own keys winners′ x
+      key-asks = record {
+        few = F .represents .tabled .ok .graph .few-arcs;
+        division = F .represents .tabled .ok .division;
+        region-rows = F .represents .tabled .region-rows;
+        owned = W .represents .owned;
+        queues = W .represents .queues;
+        in-range = child-in;
+      }
+
+      -- its key is rewritten, and the loop goes on
+      pub turned : {k : ℕ} → k ≡ minKey d (queuesOf own keys (c .updates)) x → {keys′ winners″ : List ℕ} → Written (t .rows) keys winners′ x k keys′ winners″
+          → Looping g d t (alive g d r) (turn g d t r) left₀ s₀ (left - 1) (stateOf labels predecessors own keys′ c) winners″
+      turned {k} e {keys′} {winners″} N = record {
+        represents = record {
+          tabled = W .represents .tabled;
+          labelled = W .represents .labelled;
+          fed = W .represents .fed;
+          owned = W .represents .owned;
+          queues = N .valid d (W .represents .queues);
+        };
+        sofar =
+            ap (times (left - 1) (alive g d r) (turn g d t r))
+            (rw (N .result, e) (rewritten-key g d x labels predecessors own keys c ∙ ap (rewriteKey g d x) (W .result)))
+            ∙ onward;
+      }
+
+-- the working of a region, whose row has a in place of its arc
+module _ {g : Graph} {d : Division} {t : Tables} {s : State} {winners : List ℕ} {r : ℕ} (P : Processing g d t s winners r (process g d (t .spans) r s)) {a : ℕ}
+    (row : a ≡ arcEntry (t .regionRows) r) where
+  -- it is inner, and worked as such
+  pub region-inner : a ≡ noArc → isLeaf d r ≡ false
+  region-inner =
+      let tabled = P .represents .tabled in
+      entry-inner (tabled .ok .division) (tabled .ok .graph .few-arcs) (tabled .region-rows) (P .in-range) row
+
+  -- or it is a leaf
+  module _ (some : a ≢ noArc) where
+    pub region-leaf : isLeaf d r ≡ true
+    region-leaf =
+        let tabled = P .represents .tabled in
+        entry-leaf (tabled .ok .division) (tabled .ok .graph .few-arcs) (tabled .region-rows) (P .in-range) row some
+
+    pub leaf-asks : Processing g d t s winners r (processLeaf g d r s)
+    leaf-asks = record {
+      represents = P .represents;
+      in-range = P .in-range;
+      small = rw (← process-leaf g d (t .spans) r s region-leaf) (P .small);
+    }
+
+    pub leaf-worked : {s′ : State} {winners′ : List ℕ} → Computed g d t (processLeaf g d r s) s′ winners′ → Computed g d t (process g d (t .spans) r s) s′ winners′
+    leaf-worked W = record { result = W .result ∙ sym (process-leaf g d (t .spans) r s region-leaf); represents = W .represents }
+
+-- THE ROUNDS
+module _ {g : Graph} {d : Division} {t : Tables} {labels predecessors own keys winners : List ℕ} {c : Counts}
+    (P : Processing g d t (stateOf labels predecessors own keys c) winners 0 (round g d (t .spans) (stateOf labels predecessors own keys c))) where
+  round-counted : {n : Counts} → n ≡ roundCounted c → stateOf labels predecessors own keys n ≡ countRound g d (stateOf labels predecessors own keys c)
+  unfolding countRound
+  round-counted counted = rw (counted, add-one (c .rounds))
+
+  by-process : process g d (t .spans) 0 (countRound g d (stateOf labels predecessors own keys c)) ≡ round g d (t .spans) (stateOf labels predecessors own keys c)
+  unfolding round
+  by-process = refl
+
+  pub round-count-fits : c .rounds + 1 < 18446744073709551616
+  round-count-fits =
+      let s = countRound g d (stateOf labels predecessors own keys c) in
+      let more = process-grows g d (P .represents .tabled .ok .division) (t .spans) 0 s (P .in-range) in
+      let one = ap (λ (w : State). w .rounds) (round-counted refl) in
+      let all = ap (λ (w : State). w .rounds) by-process in
+      omega (arith, more .rounds, one, all, P .small .rounds)
+
+  -- n is the counts with the round counted
+  module _ {n : Counts} (counted : n ≡ roundCounted c) where
+    abbrev entered : State
+    entered = stateOf labels predecessors own keys n
+
+    is-round : process g d (t .spans) 0 entered ≡ round g d (t .spans) (stateOf labels predecessors own keys c)
+    is-round = rw (round-counted counted) by-process
+
+    pub round-asks : Processing g d t entered winners 0 (process g d (t .spans) 0 entered)
+    round-asks = record {
+      represents = record {
+        tabled = P .represents .tabled;
+        labelled = P .represents .labelled;
+        fed = P .represents .fed;
+        owned = P .represents .owned;
+        queues = P .represents .queues;
+      };
+      in-range = P .in-range;
+      small = rw is-round (P .small);
+    }
+
+    pub round-made : {s : State} {winners′ : List ℕ} → Computed g d t (process g d (t .spans) 0 entered) s winners′
+        → Computed g d t (round g d (t .spans) (stateOf labels predecessors own keys c)) s winners′
+    round-made W = record { result = W .result ∙ is-round; represents = W .represents }
+
+-- a run goes on
+abbrev pub running : Graph → Division → State → Bool
+running g d s = not (ended g d s)
+
+pub rounds-first : {g : Graph} {d : Division} {t : Tables} {s : State} {winners : List ℕ} {limit : ℕ} → Represents g d t s winners
+    → Looping g d t (running g d) (round g d (t .spans)) limit s limit s winners
+rounds-first R = record { represents = R; sofar = refl }
+
+module _ {g : Graph} {d : Division} {t : Tables} {limit : ℕ} {s₀ s : State} {left : ℕ} {winners : List ℕ}
+    (L : Looping g d t (running g d) (round g d (t .spans)) limit s₀ left s winners) where
+  pub rounds-ended : ended g d s ≡ true → Computed g d t (times limit (running g d) (round g d (t .spans)) s₀) s winners
+  rounds-ended e = loop-off L (ap not e)
+
+  module _ (pos : 0 < left) (going : ended g d s ≡ false) where
+    onward-rounds : times (left - 1) (running g d) (round g d (t .spans)) (round g d (t .spans) s) ≡ times limit (running g d) (round g d (t .spans)) s₀
+    onward-rounds = loop-on L pos (ap not going)
+
+    -- the counts of the whole run are small, and so are those of every round
+    pub next-asks : (k : ℕ) → s₀ ≡ after g d (t .spans) k → Processing g d t s winners 0 (round g d (t .spans) s)
+    next-asks k e =
+        let ok = L .represents .tabled .ok in
+        let all : Small (times limit (running g d) (round g d (t .spans)) s₀) =
+        rw (e, ← rounds-in-parts g d (t .spans) k limit) (after-small ok few-out (k + limit)) in
+        record {
+          represents = L .represents;
+          in-range = ok .division .nesting .root;
+          small = grows-small (rounds-grow g d (ok .division) (t .spans) (left - 1) (round g d (t .spans) s)) (rw onward-rounds all);
+        }
+
+    pub rounds-step : {s′ : State} {winners′ : List ℕ} → Computed g d t (round g d (t .spans) s) s′ winners′
+        → Looping g d t (running g d) (round g d (t .spans)) limit s₀ (left - 1) s′ winners′
+    rounds-step W = record {
+      represents = W .represents;
+      sofar = ap (times (left - 1) (running g d) (round g d (t .spans))) (W .result) ∙ onward-rounds;
+    }

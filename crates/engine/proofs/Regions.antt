@@ -1,0 +1,67 @@
+-- What a region's row tells, and what the smallest key tells of the run's end. Assumes nothing.
+use Prim.Native.Nat.{ℕ, zero, suc, _+_, _-_, _*_, _≤_, _<_, pred}
+use mathlib.Core.Bool.{Bool, true, false}
+use mathlib.Core.Path.{_≡_, refl, sym, ap, _∙_}
+use mathlib.Core.Logic.{_≢_, ⊎-elim}
+use mathlib.Core.List.{List}
+use native.Mathlib.Omega.{arith}
+use borrow.Author.Tests.{le-leb, lt-leb}
+use lib.ListN.{length}
+use lib.Dec.{leb}
+use Rattle.indices.specs.Columns.{at}
+use Rattle.indices.proofs.Steps.{true-or-false, lt-or-le}
+use Rattle.sheet.specs.Limits.{mostArcs}
+use Rattle.sheet.specs.Words.{top}
+use Rattle.procedure.specs.Graph.{Graph}
+use Rattle.procedure.specs.Division.{Division, regions, arcOf, isLeaf}
+use Rattle.procedure.specs.State.{State}
+use Rattle.procedure.specs.Queues.{minKey}
+use Rattle.procedure.specs.Procedure.{ended}
+use Rattle.procedure.specs.WellFormed.{DivisionOk}
+use Rattle.theory.proofs.Chosen.{minKey-leaf}
+use Rattle.theory.proofs.Process.{key-running, none-ended}
+use Rattle.engine.specs.Tables.{RegionRows, noArc, arcEntry}
+use Rattle.engine.specs.States.{queuesOf, Keyed}
+
+-- a is what the row of region r has in place of its arc
+module _ {m : ℕ} {d : Division} {regionRows : List ℕ} (ok : DivisionOk m d) (few : m ≤ mostArcs) (R : RegionRows d regionRows) {r : ℕ} (lr : r < regions d)
+    {a : ℕ} (row : a ≡ arcEntry regionRows r) where
+  -- it is 'no arc' where r is inner
+  pub entry-inner : a ≡ noArc → isLeaf d r ≡ false
+  entry-inner e =
+      ⊎-elim (λ (leaf : isLeaf d r ≡ true). absurd (omega (arith, row, e, R .leaf r lr leaf, ok .leaf-arc r lr leaf .0)))
+      (λ (inner : isLeaf d r ≡ false). inner) (true-or-false (isLeaf d r))
+
+  -- and r's arc where it is a leaf
+  pub entry-leaf : a ≢ noArc → isLeaf d r ≡ true
+  entry-leaf n = ⊎-elim (λ (leaf : isLeaf d r ≡ true). leaf) (λ (inner : isLeaf d r ≡ false). absurd (n (row ∙ R .inner r lr inner))) (true-or-false (isLeaf d r))
+
+module _ {m : ℕ} {d : Division} {rows regionRows own keys winners : List ℕ} {r : ℕ} (K : Keyed m d rows regionRows own keys winners r) {a : ℕ}
+    (row : a ≡ arcEntry regionRows r) where
+  pub key-inner : a ≡ noArc → isLeaf d r ≡ false
+  key-inner e = entry-inner (K .division) (K .few) (K .region-rows) (K .in-range) row e
+
+  module _ (n : a ≢ noArc) where
+    is-leaf : isLeaf d r ≡ true
+    is-leaf = entry-leaf (K .division) (K .few) (K .region-rows) (K .in-range) row n
+
+    arc-is : a ≡ arcOf d r
+    arc-is = row ∙ K .region-rows .leaf r (K .in-range) is-leaf
+
+    pub own-key-in : a < length own
+    own-key-in = omega (arith, arc-is, K .division .leaf-arc r (K .in-range) is-leaf .0, K .owned)
+
+    -- a leaf's smallest key is its arc's own
+    pub own-key : (updates : ℕ) → at own a ≡ minKey d (queuesOf own keys updates) r
+    own-key updates = ap (at own) arc-is ∙ sym (minKey-leaf d (queuesOf own keys updates) r is-leaf)
+
+-- "A run has ended when region 0's smallest key is none."
+pub ended-by-key : (g : Graph) (d : Division) (s : State) (k : ℕ) → k ≡ minKey d (s .queues) 0 → leb top k ≡ ended g d s
+ended-by-key g d s k e =
+    ⊎-elim (λ (l : minKey d (s .queues) 0 < top). lt-leb top k (omega arith) ∙ sym (key-running g d s l))
+    (λ (l : top ≤ minKey d (s .queues) 0). le-leb top k (omega arith) ∙ sym (none-ended g d s l)) (lt-or-le (minKey d (s .queues) 0) top)
+
+-- the height before a height
+pub before-height : (n : ℕ) → n - 1 ≡ pred n
+before-height zero = refl
+before-height (suc n) = omega arith

@@ -1,0 +1,113 @@
+-- The slices that a run changes, with the tables, as a state of the procedure; and what each function asks and gives. Definitions; assumes nothing.
+use Prim.Native.Nat.{ℕ, _+_, _^_, _≤_, _<_}
+use mathlib.Core.Path.{_≡_}
+use mathlib.Core.List.{List}
+use lib.ListN.{length}
+use Rattle.sheet.specs.Limits.{mostArcs, mostArcsEachWay}
+use Rattle.procedure.specs.Graph.{Graph, arcs}
+use Rattle.procedure.specs.Division.{Division, regions, parent}
+use Rattle.procedure.specs.State.{Queues, State}
+use Rattle.procedure.specs.Queues.{update, updateArc, updateOutgoing}
+use Rattle.procedure.specs.WellFormed.{GraphOk, DivisionOk}
+use Rattle.theory.specs.Counts.{Small}
+use Rattle.queue.specs.Trees.{LaidOut, QueuesOk}
+use Rattle.engine.specs.declared.Counts.{Counts}
+use Rattle.engine.specs.Tables.{Tables, ArcRows, ArcLinks, RegionRows, Tabled}
+
+-- a round, a leaf and an inner region counted
+abbrev pub roundCounted : Counts → Counts
+roundCounted c = record { rounds = c .rounds + 1; leaves = c .leaves; inner = c .inner; updates = c .updates }
+
+abbrev pub leafCounted : Counts → ℕ → Counts
+leafCounted c updates = record { rounds = c .rounds; leaves = c .leaves + 1; inner = c .inner; updates = updates }
+
+abbrev pub innerCounted : Counts → Counts
+innerCounted c = record { rounds = c .rounds; leaves = c .leaves; inner = c .inner + 1; updates = c .updates }
+
+-- the queues and the state that the slices and the counts are
+abbrev pub queuesOf : List ℕ → List ℕ → ℕ → Queues
+queuesOf own keys updates = record { own = own; keys = keys; updates = updates }
+
+abbrev pub stateOf : List ℕ → List ℕ → List ℕ → List ℕ → Counts → State
+stateOf labels predecessors own keys c = record {
+  labels = labels;
+  predecessors = predecessors;
+  queues = queuesOf own keys (c .updates);
+  rounds = c .rounds;
+  leaves = c .leaves;
+  inner = c .inner;
+}
+
+-- THE UPDATES
+
+-- What `update` asks: valid queues, x a child of r, and that the count fits.
+pub record Updating (d : Division) (rows : List ℕ) (q : Queues) (winners : List ℕ) (r x k : ℕ) : Type 0 where
+  pub division : DivisionOk (length (q .own)) d
+  pub queues : QueuesOk d rows (q .keys) winners
+  pub positive : 0 < x
+  pub in-range : x < regions d
+  pub under : parent d x ≡ r
+  pub small : update d r x k q .updates < 2 ^ 54
+
+-- the slices that the update of an arc reads and writes
+pub record Updatable (g : Graph) (d : Division) (rows arcRows : List ℕ) (q : Queues) (winners : List ℕ) : Type 0 where
+  pub graph : GraphOk mostArcsEachWay g
+  pub division : DivisionOk (arcs g) d
+  pub arc-rows : ArcRows g d arcRows
+  pub owned : length (q .own) ≡ arcs g
+  pub queues : QueuesOk d rows (q .keys) winners
+
+pub record UpdatingArc (g : Graph) (d : Division) (rows arcRows : List ℕ) (q : Queues) (winners : List ℕ) (a k : ℕ) : Type 0 where
+  pub updatable : Updatable g d rows arcRows q winners
+  pub in-range : a < arcs g
+  pub small : updateArc d a k q .updates < 2 ^ 54
+
+pub record UpdatingOutgoing (g : Graph) (d : Division) (rows arcRows firsts : List ℕ) (q : Queues) (winners : List ℕ) (v k : ℕ) : Type 0 where
+  pub updatable : Updatable g d rows arcRows q winners
+  pub links : ArcLinks g arcRows firsts
+  pub in-range : v < g .nodes
+  pub small : updateOutgoing d (g .tails) v k q .updates < 2 ^ 54
+
+-- the queues are as defined, and valid
+pub record Queued (d : Division) (rows : List ℕ) (defined q : Queues) (winners : List ℕ) : Type 0 where
+  pub result : q ≡ defined
+  pub valid : QueuesOk d rows (q .keys) winners
+
+-- What `key_of` asks, of m arcs: region rows that represent the division, valid queues, and a region.
+pub record Keyed (m : ℕ) (d : Division) (rows regionRows own keys winners : List ℕ) (r : ℕ) : Type 0 where
+  pub few : m ≤ mostArcs
+  pub division : DivisionOk m d
+  pub region-rows : RegionRows d regionRows
+  pub owned : length own ≡ m
+  pub queues : QueuesOk d rows keys winners
+  pub in-range : r < regions d
+
+-- THE PROCEDURE
+
+-- The slices represent a well-formed graph, division and spans, and the state s of them.
+pub record Represents (g : Graph) (d : Division) (t : Tables) (s : State) (winners : List ℕ) : Type 0 where
+  pub tabled : Tabled g d t
+  pub labelled : length (s .labels) ≡ g .nodes
+  pub fed : length (s .predecessors) ≡ g .nodes
+  pub owned : length (s .queues .own) ≡ arcs g
+  pub queues : QueuesOk d (t .rows) (s .queues .keys) winners
+
+-- What is asked of the working of region r, whose result is `defined`: a represented state, and that the counts fit.
+pub record Processing (g : Graph) (d : Division) (t : Tables) (s : State) (winners : List ℕ) (r : ℕ) (defined : State) : Type 0 where
+  pub represents : Represents g d t s winners
+  pub in-range : r < regions d
+  pub small : Small defined
+
+-- The state is as defined, and represented by the slices.
+pub record Computed (g : Graph) (d : Division) (t : Tables) (defined s : State) (winners : List ℕ) : Type 0 where
+  pub result : s ≡ defined
+  pub represents : Represents g d t s winners
+
+-- Tables, and slices of the right lengths for a state, whatever they hold; the trees are laid out.
+pub record Blank (g : Graph) (d : Division) (t : Tables) (labels predecessors own keys winners : List ℕ) : Type 0 where
+  pub tabled : Tabled g d t
+  pub labelled : length labels ≡ g .nodes
+  pub fed : length predecessors ≡ g .nodes
+  pub owned : length own ≡ arcs g
+  pub keyed : length keys ≡ regions d
+  pub laid : LaidOut d (t .rows) winners
