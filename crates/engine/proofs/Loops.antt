@@ -227,7 +227,8 @@ module _ {g : Graph} {d : Division} {t : Tables} {s : State} {winners : List ℕ
       small = rw (← process-leaf g d (t .spans) r s region-leaf) (P .small);
     }
 
-    pub leaf-worked : {s′ : State} {winners′ : List ℕ} → Computed g d t (processLeaf g d r s) s′ winners′ → Computed g d t (process g d (t .spans) r s) s′ winners′
+    pub leaf-worked : {s′ : State} {winners′ : List ℕ} → Computed g d t (processLeaf g d r s) s′ winners′ → Computed g d t (process g d (t .spans) r s)
+        s′ winners′
     leaf-worked W = record { result = W .result ∙ sym (process-leaf g d (t .spans) r s region-leaf); represents = W .represents }
 
 -- THE ROUNDS
@@ -237,7 +238,8 @@ module _ {g : Graph} {d : Division} {t : Tables} {labels predecessors own keys w
   unfolding countRound
   round-counted counted = rw (counted, add-one (c .rounds))
 
-  by-process : process g d (t .spans) 0 (countRound g d (stateOf labels predecessors own keys c)) ≡ round g d (t .spans) (stateOf labels predecessors own keys c)
+  by-process : process g d (t .spans) 0 (countRound g d (stateOf labels predecessors own keys c)) ≡ round g d (t .spans)
+      (stateOf labels predecessors own keys c)
   unfolding round
   by-process = refl
 

@@ -34,7 +34,8 @@ module _ {m : ℕ} {d : Division} {regionRows : List ℕ} (ok : DivisionOk m d) 
 
   -- and r's arc where it is a leaf
   pub entry-leaf : a ≢ noArc → isLeaf d r ≡ true
-  entry-leaf n = ⊎-elim (λ (leaf : isLeaf d r ≡ true). leaf) (λ (inner : isLeaf d r ≡ false). absurd (n (row ∙ R .inner r lr inner))) (true-or-false (isLeaf d r))
+  entry-leaf n = ⊎-elim (λ (leaf : isLeaf d r ≡ true). leaf) (λ (inner : isLeaf d r ≡ false). absurd (n (row ∙ R .inner r lr inner)))
+      (true-or-false (isLeaf d r))
 
 module _ {m : ℕ} {d : Division} {rows regionRows own keys winners : List ℕ} {r : ℕ} (K : Keyed m d rows regionRows own keys winners r) {a : ℕ}
     (row : a ≡ arcEntry regionRows r) where

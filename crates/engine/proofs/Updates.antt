@@ -106,7 +106,8 @@ arcs-below-none : {g : Graph} {d : Division} {rows arcRows : List ℕ} {q : Queu
 unfolding top
 arcs-below-none A = omega (arith, A .graph .few-arcs)
 
-module _ {g : Graph} {d : Division} {rows arcRows own keys winners : List ℕ} {count a k : ℕ} (U : UpdatingArc g d rows arcRows (queuesOf own keys count) winners a k)
+module _ {g : Graph} {d : Division} {rows arcRows own keys winners : List ℕ} {count a k : ℕ}
+    (U : UpdatingArc g d rows arcRows (queuesOf own keys count) winners a k)
   where
     pub own-in : a < length own
     own-in = omega (arith, U .in-range, U .updatable .owned)
@@ -166,7 +167,8 @@ module _ {g : Graph} {d : Division} {rows arcRows own keys winners : List ℕ} {
     arc-stops l = record {
       result =
           own-written
-          ∙ sym (by-leaf ∙ update-stops (U .updatable .division) (leafOf d a) (leafOf d a) k (queuesOf own keys count) leaf-in (λ _. omega (arith, key-before, key-after)));
+          ∙ sym (by-leaf ∙ update-stops (U .updatable .division) (leafOf d a) (leafOf d a) k (queuesOf own keys count) leaf-in
+          (λ _. omega (arith, key-before, key-after)));
       valid = U .updatable .queues;
     }
 
@@ -188,7 +190,8 @@ module _ {g : Graph} {d : Division} {rows arcRows own keys winners : List ℕ} {
             rw (is-parent, is-leaf, own-written)
             (sym
             (by-leaf
-            ∙ update-rises (U .updatable .division) (leafOf d a) (leafOf d a) k (queuesOf own keys count) leaf-in leaf-positive (omega (arith, key-before, key-after))))
+            ∙ update-rises (U .updatable .division) (leafOf d a) (leafOf d a) k (queuesOf own keys count) leaf-in leaf-positive
+            (omega (arith, key-before, key-after))))
 
         pub arc-climb-asks : Updating d rows (queuesOf (set own a k) keys (count + 1)) winners up leaf k
         arc-climb-asks = record {

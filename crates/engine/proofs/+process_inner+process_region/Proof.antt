@@ -7,7 +7,28 @@ use Rattle.procedure.specs.Graph.{Graph, arcs}
 use Rattle.procedure.specs.Division.{Division}
 use Rattle.engine.specs.Tables.{tablesOf, heightEntry}
 use Rattle.engine.specs.States.{stateOf}
-use Rattle.engine.proofs.Loops.{Looping, turn, Framed, framed-first, span-asks, turns-worked, framed, inner-count-fits, loop-spent, turns-none, child-in, child-positive, child-lower, child-asks, key-asks, turned, region-inner, region-leaf, leaf-asks, leaf-worked}
+use Rattle.engine.proofs.Loops.{
+  Looping,
+  turn,
+  Framed,
+  framed-first,
+  span-asks,
+  turns-worked,
+  framed,
+  inner-count-fits,
+  loop-spent,
+  turns-none,
+  child-in,
+  child-positive,
+  child-lower,
+  child-asks,
+  key-asks,
+  turned,
+  region-inner,
+  region-leaf,
+  leaf-asks,
+  leaf-worked,
+}
 use Rattle.procedure.specs.Procedure.{alive}
 use Rattle.sheet.specs.Words.{top}
 use borrow.Fn.Kinds.{In}
@@ -69,37 +90,65 @@ process-region-below t =
 
 abbrev process-inner-Inv-loop : process-inner-lts.InvT-loop
 process-inner-Inv-loop rows arcs firsts lengths spans regions labels₀ predecessors₀ own₀ keys₀ winners₀ r left₀ n₀ labels predecessors own keys winners left n =
-    (g : Graph) (d : Division) → Framed g d (tablesOf rows arcs firsts lengths spans regions) (r .0) left₀ (stateOf labels₀ predecessors₀ own₀ keys₀ n₀) winners₀
+    (g : Graph) (d : Division) → Framed g d (tablesOf rows arcs firsts lengths spans regions) (r .0) left₀ (stateOf labels₀ predecessors₀ own₀ keys₀ n₀)
+    winners₀
     → Looping g d (tablesOf rows arcs firsts lengths spans regions) (alive g d (r .0)) (turn g d (tablesOf rows arcs firsts lengths spans regions) (r .0)) left₀
     (stateOf labels₀ predecessors₀ own₀ keys₀ n₀) left (stateOf labels predecessors own keys n) winners
 
 abbrev process-inner-μ-loop : process-inner-lts.MeasureT-loop
-process-inner-μ-loop rows arcs firsts lengths spans regions labels₀ predecessors₀ own₀ keys₀ winners₀ r left₀ n₀ labels predecessors own keys winners left n = left
+process-inner-μ-loop rows arcs firsts lengths spans regions labels₀ predecessors₀ own₀ keys₀ winners₀ r left₀ n₀ labels predecessors own keys winners left n =
+    left
 
 abbrev process-inner-heard : ℕ → process-inner-lts.Claims
-process-inner-heard t = (span-of-reads.Asked, span-of-reads.Learnt, count-inner-reads.Asked, count-inner-reads.Learnt, min-key-reads.Asked, min-key-reads.Learnt, min-item-reads.Asked, min-item-reads.Learnt, process-region-below t, process-region.Post, key-of-reads.Asked, key-of-reads.Learnt, write-reads.Asked, write-reads.Learnt)
+process-inner-heard t = (
+  span-of-reads.Asked,
+  span-of-reads.Learnt,
+  count-inner-reads.Asked,
+  count-inner-reads.Learnt,
+  min-key-reads.Asked,
+  min-key-reads.Learnt,
+  min-item-reads.Asked,
+  min-item-reads.Learnt,
+  process-region-below t,
+  process-region.Post,
+  key-of-reads.Asked,
+  key-of-reads.Learnt,
+  write-reads.Asked,
+  write-reads.Learnt,
+)
 
 abbrev process-region-heard : ℕ → process-region-lts.Claims
-process-region-heard t = (arc-of-reads.Asked, arc-of-reads.Learnt, process-inner-below t, process-inner.Post, process-leaf-reads.Asked, process-leaf-reads.Learnt)
+process-region-heard t = (
+  arc-of-reads.Asked,
+  arc-of-reads.Learnt,
+  process-inner-below t,
+  process-inner.Post,
+  process-leaf-reads.Asked,
+  process-leaf-reads.Learnt,
+)
 
-process-inner-span-of-requires : (t : ℕ) → process-inner-lts.Need-span-of-requires (process-inner-heard t) (process-inner-at t) process-inner.Post process-inner-Inv-loop process-inner-μ-loop
+process-inner-span-of-requires : (t : ℕ) → process-inner-lts.Need-span-of-requires (process-inner-heard t) (process-inner-at t)
+    process-inner.Post process-inner-Inv-loop process-inner-μ-loop
 process-inner-span-of-requires t c κs =
     let earlier = c .before .before .before .before in
     let early = earlier .before .before .before .before in
     let pre = early .before .before .before .pre in
     span-asks (pre .1 .2) (pre .1 .3)
 
-process-inner-count-inner-requires : (t : ℕ) → process-inner-lts.Need-count-inner-requires (process-inner-heard t) (process-inner-at t) process-inner.Post process-inner-Inv-loop process-inner-μ-loop
+process-inner-count-inner-requires : (t : ℕ) → process-inner-lts.Need-count-inner-requires (process-inner-heard t) (process-inner-at t)
+    process-inner.Post process-inner-Inv-loop process-inner-μ-loop
 process-inner-count-inner-requires t c κs =
     let earlier = c .before .before .before .before in
     let early = earlier .before .before .before .before in
     let pre = early .before .before .before .before .pre in
     inner-count-fits (pre .1 .2) (pre .1 .3)
 
-process-inner-loop-holds : (t : ℕ) → process-inner-lts.Need-loop-holds (process-inner-heard t) (process-inner-at t) process-inner.Post process-inner-Inv-loop process-inner-μ-loop
+process-inner-loop-holds : (t : ℕ) → process-inner-lts.Need-loop-holds (process-inner-heard t) (process-inner-at t)
+    process-inner.Post process-inner-Inv-loop process-inner-μ-loop
 process-inner-loop-holds t c = λ g d F. framed-first F
 
-process-inner-min-key-requires : (t : ℕ) → process-inner-lts.Need-min-key-requires (process-inner-heard t) (process-inner-at t) process-inner.Post process-inner-Inv-loop process-inner-μ-loop
+process-inner-min-key-requires : (t : ℕ) → process-inner-lts.Need-min-key-requires (process-inner-heard t) (process-inner-at t)
+    process-inner.Post process-inner-Inv-loop process-inner-μ-loop
 process-inner-min-key-requires t c κs =
     let earlier = c .before .before .before .before .before .before .before .before in
     let early = earlier .before .before .before .before .before .before .before .before in
@@ -113,7 +162,8 @@ process-inner-min-key-requires t c κs =
     let L = loop .inv G D F in
     (D, L .represents .queues, F .in-range)
 
-process-inner-same-length : (t : ℕ) → process-inner-lts.Need-same-length (process-inner-heard t) (process-inner-at t) process-inner.Post process-inner-Inv-loop process-inner-μ-loop
+process-inner-same-length : (t : ℕ) → process-inner-lts.Need-same-length (process-inner-heard t) (process-inner-at t)
+    process-inner.Post process-inner-Inv-loop process-inner-μ-loop
 process-inner-same-length t c =
     let earlier = c .before .before .before .before .before .before .before .before in
     let early = earlier .before .before .before .before .before .before .before .before in
@@ -121,9 +171,11 @@ process-inner-same-length t c =
     let count-inner = c .before .before .before .before .before .before .count-inner in
     let span-of = c .before .before .before .before .before .before .before .span-of in
     let pre = early .before .before .before .pre in
-    loop .inv (pre .1 .0) (pre .1 .1) (framed (pre .1 .2) (pre .1 .3) (span-of .ensures) (count-inner .ensures)) .represents .labelled ∙ sym (pre .1 .2 .represents .labelled)
+    loop .inv (pre .1 .0) (pre .1 .1) (framed (pre .1 .2) (pre .1 .3) (span-of .ensures) (count-inner .ensures)) .represents .labelled ∙ sym
+    (pre .1 .2 .represents .labelled)
 
-process-inner-same-length-2 : (t : ℕ) → process-inner-lts.Need-same-length-2 (process-inner-heard t) (process-inner-at t) process-inner.Post process-inner-Inv-loop process-inner-μ-loop
+process-inner-same-length-2 : (t : ℕ) → process-inner-lts.Need-same-length-2 (process-inner-heard t) (process-inner-at t)
+    process-inner.Post process-inner-Inv-loop process-inner-μ-loop
 process-inner-same-length-2 t c =
     let earlier = c .before .before .before .before .before .before .before .before in
     let early = earlier .before .before .before .before .before .before .before .before in
@@ -131,9 +183,11 @@ process-inner-same-length-2 t c =
     let count-inner = c .before .before .before .before .before .before .count-inner in
     let span-of = c .before .before .before .before .before .before .before .span-of in
     let pre = early .before .before .before .pre in
-    loop .inv (pre .1 .0) (pre .1 .1) (framed (pre .1 .2) (pre .1 .3) (span-of .ensures) (count-inner .ensures)) .represents .fed ∙ sym (pre .1 .2 .represents .fed)
+    loop .inv (pre .1 .0) (pre .1 .1) (framed (pre .1 .2) (pre .1 .3) (span-of .ensures) (count-inner .ensures)) .represents .fed ∙ sym
+    (pre .1 .2 .represents .fed)
 
-process-inner-same-length-3 : (t : ℕ) → process-inner-lts.Need-same-length-3 (process-inner-heard t) (process-inner-at t) process-inner.Post process-inner-Inv-loop process-inner-μ-loop
+process-inner-same-length-3 : (t : ℕ) → process-inner-lts.Need-same-length-3 (process-inner-heard t) (process-inner-at t)
+    process-inner.Post process-inner-Inv-loop process-inner-μ-loop
 process-inner-same-length-3 t c =
     let earlier = c .before .before .before .before .before .before .before .before in
     let early = earlier .before .before .before .before .before .before .before .before in
@@ -141,9 +195,11 @@ process-inner-same-length-3 t c =
     let count-inner = c .before .before .before .before .before .before .count-inner in
     let span-of = c .before .before .before .before .before .before .before .span-of in
     let pre = early .before .before .before .pre in
-    loop .inv (pre .1 .0) (pre .1 .1) (framed (pre .1 .2) (pre .1 .3) (span-of .ensures) (count-inner .ensures)) .represents .owned ∙ sym (pre .1 .2 .represents .owned)
+    loop .inv (pre .1 .0) (pre .1 .1) (framed (pre .1 .2) (pre .1 .3) (span-of .ensures) (count-inner .ensures)) .represents .owned ∙ sym
+    (pre .1 .2 .represents .owned)
 
-process-inner-same-length-4 : (t : ℕ) → process-inner-lts.Need-same-length-4 (process-inner-heard t) (process-inner-at t) process-inner.Post process-inner-Inv-loop process-inner-μ-loop
+process-inner-same-length-4 : (t : ℕ) → process-inner-lts.Need-same-length-4 (process-inner-heard t) (process-inner-at t)
+    process-inner.Post process-inner-Inv-loop process-inner-μ-loop
 process-inner-same-length-4 t c =
     let earlier = c .before .before .before .before .before .before .before .before in
     let early = earlier .before .before .before .before .before .before .before .before in
@@ -151,9 +207,11 @@ process-inner-same-length-4 t c =
     let count-inner = c .before .before .before .before .before .before .count-inner in
     let span-of = c .before .before .before .before .before .before .before .span-of in
     let pre = early .before .before .before .pre in
-    loop .inv (pre .1 .0) (pre .1 .1) (framed (pre .1 .2) (pre .1 .3) (span-of .ensures) (count-inner .ensures)) .represents .queues .keyed ∙ sym (pre .1 .2 .represents .queues .keyed)
+    loop .inv (pre .1 .0) (pre .1 .1) (framed (pre .1 .2) (pre .1 .3) (span-of .ensures) (count-inner .ensures)) .represents .queues .keyed ∙ sym
+    (pre .1 .2 .represents .queues .keyed)
 
-process-inner-same-length-5 : (t : ℕ) → process-inner-lts.Need-same-length-5 (process-inner-heard t) (process-inner-at t) process-inner.Post process-inner-Inv-loop process-inner-μ-loop
+process-inner-same-length-5 : (t : ℕ) → process-inner-lts.Need-same-length-5 (process-inner-heard t) (process-inner-at t)
+    process-inner.Post process-inner-Inv-loop process-inner-μ-loop
 process-inner-same-length-5 t c =
     let earlier = c .before .before .before .before .before .before .before .before in
     let early = earlier .before .before .before .before .before .before .before .before in
@@ -161,9 +219,11 @@ process-inner-same-length-5 t c =
     let count-inner = c .before .before .before .before .before .before .count-inner in
     let span-of = c .before .before .before .before .before .before .before .span-of in
     let pre = early .before .before .before .pre in
-    loop .inv (pre .1 .0) (pre .1 .1) (framed (pre .1 .2) (pre .1 .3) (span-of .ensures) (count-inner .ensures)) .represents .queues .laid .seated .all ∙ sym (pre .1 .2 .represents .queues .laid .seated .all)
+    loop .inv (pre .1 .0) (pre .1 .1) (framed (pre .1 .2) (pre .1 .3) (span-of .ensures) (count-inner .ensures)) .represents .queues .laid .seated .all ∙ sym
+    (pre .1 .2 .represents .queues .laid .seated .all)
 
-process-inner-returns : (t : ℕ) → process-inner-lts.Need-returns (process-inner-heard t) (process-inner-at t) process-inner.Post process-inner-Inv-loop process-inner-μ-loop
+process-inner-returns : (t : ℕ) → process-inner-lts.Need-returns (process-inner-heard t) (process-inner-at t)
+    process-inner.Post process-inner-Inv-loop process-inner-μ-loop
 unfolding top
 process-inner-returns t c =
     let earlier = c .before .before .before .before in
@@ -173,9 +233,11 @@ process-inner-returns t c =
     λ g d P inner.
     let F = framed P inner (span-of .ensures) (count-inner .ensures) in
     let L = loop .inv g d F in
-    turns-worked P inner (span-of .ensures) (count-inner .ensures) (turns-none F L (c .before .min-key .ensures d (L .represents .queues) inner _ _) (c .if1 .taken))
+    turns-worked P inner (span-of .ensures) (count-inner .ensures)
+    (turns-none F L (c .before .min-key .ensures d (L .represents .queues) inner _ _) (c .if1 .taken))
 
-process-inner-min-item-requires : (t : ℕ) → process-inner-lts.Need-min-item-requires (process-inner-heard t) (process-inner-at t) process-inner.Post process-inner-Inv-loop process-inner-μ-loop
+process-inner-min-item-requires : (t : ℕ) → process-inner-lts.Need-min-item-requires (process-inner-heard t) (process-inner-at t)
+    process-inner.Post process-inner-Inv-loop process-inner-μ-loop
 process-inner-min-item-requires t c κs =
     let earlier = c .before .before .before .before .before .before .before .before in
     let early = earlier .before .before .before .before .before .before .before .before in
@@ -189,7 +251,8 @@ process-inner-min-item-requires t c κs =
     let L = loop .inv G D F in
     (D, _, L .represents .queues, F .in-range)
 
-process-inner-process-region-requires : (t : ℕ) → process-inner-lts.Need-process-region-requires (process-inner-heard t) (process-inner-at t) process-inner.Post process-inner-Inv-loop process-inner-μ-loop
+process-inner-process-region-requires : (t : ℕ) → process-inner-lts.Need-process-region-requires (process-inner-heard t) (process-inner-at t)
+    process-inner.Post process-inner-Inv-loop process-inner-μ-loop
 unfolding top
 process-inner-process-region-requires t c κs =
     let earlier = c .before .before .before .before .before .before .before .before in
@@ -213,7 +276,8 @@ process-inner-process-region-requires t c κs =
       (G, D, child-asks F L key (loop-test .taken) (if1 .left) item),
     )
 
-process-inner-key-of-requires : (t : ℕ) → process-inner-lts.Need-key-of-requires (process-inner-heard t) (process-inner-at t) process-inner.Post process-inner-Inv-loop process-inner-μ-loop
+process-inner-key-of-requires : (t : ℕ) → process-inner-lts.Need-key-of-requires (process-inner-heard t) (process-inner-at t)
+    process-inner.Post process-inner-Inv-loop process-inner-μ-loop
 unfolding top
 process-inner-key-of-requires t c κs =
     let earlier = c .before .before .before .before .before .before .before .before in
@@ -239,7 +303,8 @@ process-inner-key-of-requires t c κs =
     let W = process-region .ensures G D asks in
     (arcs G, D, key-asks F L key (loop-test .taken) (if1 .left) item W)
 
-process-inner-write-requires : (t : ℕ) → process-inner-lts.Need-write-requires (process-inner-heard t) (process-inner-at t) process-inner.Post process-inner-Inv-loop process-inner-μ-loop
+process-inner-write-requires : (t : ℕ) → process-inner-lts.Need-write-requires (process-inner-heard t) (process-inner-at t)
+    process-inner.Post process-inner-Inv-loop process-inner-μ-loop
 unfolding top
 process-inner-write-requires t c κs =
     let earlier = c .before .before .before .before .before .before .before .before in
@@ -266,7 +331,8 @@ process-inner-write-requires t c κs =
     let W = process-region .ensures G D asks in
     (D, W .represents .queues, child-positive F L key (loop-test .taken) (if1 .left) item, child-in F L key (loop-test .taken) (if1 .left) item)
 
-process-inner-sub-left : (t : ℕ) → process-inner-lts.Need-sub-left (process-inner-heard t) (process-inner-at t) process-inner.Post process-inner-Inv-loop process-inner-μ-loop
+process-inner-sub-left : (t : ℕ) → process-inner-lts.Need-sub-left (process-inner-heard t) (process-inner-at t)
+    process-inner.Post process-inner-Inv-loop process-inner-μ-loop
 process-inner-sub-left t c =
     let earlier = c .before .before .before .before .before .before .before .before in
     let early = earlier .before .before .before .before .before .before .before .before in
@@ -275,7 +341,8 @@ process-inner-sub-left t c =
     let loop-test = first .before .loop-test in
     omega (arith, loop-test .taken)
 
-process-inner-loop-less : (t : ℕ) → process-inner-lts.Need-loop-less (process-inner-heard t) (process-inner-at t) process-inner.Post process-inner-Inv-loop process-inner-μ-loop
+process-inner-loop-less : (t : ℕ) → process-inner-lts.Need-loop-less (process-inner-heard t) (process-inner-at t)
+    process-inner.Post process-inner-Inv-loop process-inner-μ-loop
 process-inner-loop-less t c =
     let earlier = c .before .before .before .before .before .before .before .before in
     let early = earlier .before .before .before .before .before .before .before .before in
@@ -284,7 +351,8 @@ process-inner-loop-less t c =
     let loop-test = first .before .loop-test in
     omega (arith, loop-test .taken)
 
-process-inner-loop-again : (t : ℕ) → process-inner-lts.Need-loop-again (process-inner-heard t) (process-inner-at t) process-inner.Post process-inner-Inv-loop process-inner-μ-loop
+process-inner-loop-again : (t : ℕ) → process-inner-lts.Need-loop-again (process-inner-heard t) (process-inner-at t)
+    process-inner.Post process-inner-Inv-loop process-inner-μ-loop
 unfolding top
 process-inner-loop-again t c =
     let earlier = c .before .before .before .before .before .before .before .before in
@@ -307,56 +375,68 @@ process-inner-loop-again t c =
     let new = key-of .ensures (arcs g) d _ (key-asks F L key (loop-test .taken) (if1 .left) item W) in
     turned F L key (loop-test .taken) (if1 .left) item W new (write .ensures)
 
-process-inner-same-length-6 : (t : ℕ) → process-inner-lts.Need-same-length-6 (process-inner-heard t) (process-inner-at t) process-inner.Post process-inner-Inv-loop process-inner-μ-loop
+process-inner-same-length-6 : (t : ℕ) → process-inner-lts.Need-same-length-6 (process-inner-heard t) (process-inner-at t)
+    process-inner.Post process-inner-Inv-loop process-inner-μ-loop
 process-inner-same-length-6 t c =
     let earlier = c .before .before .before .before in
     let early = earlier .before .before .before .before in
     let prior = early .before .before .before .before in
     let span-of = c .before .before .before .span-of in
     let pre = prior .before .before .before .pre in
-    c .before .loop .inv (pre .1 .0) (pre .1 .1) (framed (pre .1 .2) (pre .1 .3) (span-of .ensures) (c .before .before .count-inner .ensures)) .represents .labelled ∙ sym (pre .1 .2 .represents .labelled)
+    c .before .loop .inv (pre .1 .0) (pre .1 .1) (framed (pre .1 .2) (pre .1 .3) (span-of .ensures)
+    (c .before .before .count-inner .ensures)) .represents .labelled ∙ sym (pre .1 .2 .represents .labelled)
 
-process-inner-same-length-7 : (t : ℕ) → process-inner-lts.Need-same-length-7 (process-inner-heard t) (process-inner-at t) process-inner.Post process-inner-Inv-loop process-inner-μ-loop
+process-inner-same-length-7 : (t : ℕ) → process-inner-lts.Need-same-length-7 (process-inner-heard t) (process-inner-at t)
+    process-inner.Post process-inner-Inv-loop process-inner-μ-loop
 process-inner-same-length-7 t c =
     let earlier = c .before .before .before .before in
     let early = earlier .before .before .before .before in
     let prior = early .before .before .before .before in
     let span-of = c .before .before .before .span-of in
     let pre = prior .before .before .before .pre in
-    c .before .loop .inv (pre .1 .0) (pre .1 .1) (framed (pre .1 .2) (pre .1 .3) (span-of .ensures) (c .before .before .count-inner .ensures)) .represents .fed ∙ sym (pre .1 .2 .represents .fed)
+    c .before .loop .inv (pre .1 .0) (pre .1 .1) (framed (pre .1 .2) (pre .1 .3) (span-of .ensures)
+    (c .before .before .count-inner .ensures)) .represents .fed ∙ sym (pre .1 .2 .represents .fed)
 
-process-inner-same-length-8 : (t : ℕ) → process-inner-lts.Need-same-length-8 (process-inner-heard t) (process-inner-at t) process-inner.Post process-inner-Inv-loop process-inner-μ-loop
+process-inner-same-length-8 : (t : ℕ) → process-inner-lts.Need-same-length-8 (process-inner-heard t) (process-inner-at t)
+    process-inner.Post process-inner-Inv-loop process-inner-μ-loop
 process-inner-same-length-8 t c =
     let earlier = c .before .before .before .before in
     let early = earlier .before .before .before .before in
     let prior = early .before .before .before .before in
     let span-of = c .before .before .before .span-of in
     let pre = prior .before .before .before .pre in
-    c .before .loop .inv (pre .1 .0) (pre .1 .1) (framed (pre .1 .2) (pre .1 .3) (span-of .ensures) (c .before .before .count-inner .ensures)) .represents .owned ∙ sym (pre .1 .2 .represents .owned)
+    c .before .loop .inv (pre .1 .0) (pre .1 .1) (framed (pre .1 .2) (pre .1 .3) (span-of .ensures)
+    (c .before .before .count-inner .ensures)) .represents .owned ∙ sym (pre .1 .2 .represents .owned)
 
-process-inner-same-length-9 : (t : ℕ) → process-inner-lts.Need-same-length-9 (process-inner-heard t) (process-inner-at t) process-inner.Post process-inner-Inv-loop process-inner-μ-loop
+process-inner-same-length-9 : (t : ℕ) → process-inner-lts.Need-same-length-9 (process-inner-heard t) (process-inner-at t)
+    process-inner.Post process-inner-Inv-loop process-inner-μ-loop
 process-inner-same-length-9 t c =
     let earlier = c .before .before .before .before in
     let early = earlier .before .before .before .before in
     let prior = early .before .before .before .before in
     let span-of = c .before .before .before .span-of in
     let pre = prior .before .before .before .pre in
-    c .before .loop .inv (pre .1 .0) (pre .1 .1) (framed (pre .1 .2) (pre .1 .3) (span-of .ensures) (c .before .before .count-inner .ensures)) .represents .queues .keyed ∙ sym (pre .1 .2 .represents .queues .keyed)
+    c .before .loop .inv (pre .1 .0) (pre .1 .1) (framed (pre .1 .2) (pre .1 .3) (span-of .ensures)
+    (c .before .before .count-inner .ensures)) .represents .queues .keyed ∙ sym (pre .1 .2 .represents .queues .keyed)
 
-process-inner-same-length-10 : (t : ℕ) → process-inner-lts.Need-same-length-10 (process-inner-heard t) (process-inner-at t) process-inner.Post process-inner-Inv-loop process-inner-μ-loop
+process-inner-same-length-10 : (t : ℕ) → process-inner-lts.Need-same-length-10 (process-inner-heard t) (process-inner-at t)
+    process-inner.Post process-inner-Inv-loop process-inner-μ-loop
 process-inner-same-length-10 t c =
     let earlier = c .before .before .before .before in
     let early = earlier .before .before .before .before in
     let prior = early .before .before .before .before in
     let span-of = c .before .before .before .span-of in
     let pre = prior .before .before .before .pre in
-    c .before .loop .inv (pre .1 .0) (pre .1 .1) (framed (pre .1 .2) (pre .1 .3) (span-of .ensures) (c .before .before .count-inner .ensures)) .represents .queues .laid .seated .all ∙ sym (pre .1 .2 .represents .queues .laid .seated .all)
+    c .before .loop .inv (pre .1 .0) (pre .1 .1) (framed (pre .1 .2) (pre .1 .3) (span-of .ensures)
+    (c .before .before .count-inner .ensures)) .represents .queues .laid .seated .all ∙ sym (pre .1 .2 .represents .queues .laid .seated .all)
 
-process-inner-returns-2 : (t : ℕ) → process-inner-lts.Need-returns-2 (process-inner-heard t) (process-inner-at t) process-inner.Post process-inner-Inv-loop process-inner-μ-loop
+process-inner-returns-2 : (t : ℕ) → process-inner-lts.Need-returns-2 (process-inner-heard t) (process-inner-at t)
+    process-inner.Post process-inner-Inv-loop process-inner-μ-loop
 process-inner-returns-2 t c =
     let span-of = c .before .before .before .span-of in
     λ g d P inner.
-    turns-worked P inner (span-of .ensures) (c .before .before .count-inner .ensures) (loop-spent (c .before .loop .inv g d (framed P inner (span-of .ensures) (c .before .before .count-inner .ensures))) (c .loop-test .left))
+    turns-worked P inner (span-of .ensures) (c .before .before .count-inner .ensures)
+    (loop-spent (c .before .loop .inv g d (framed P inner (span-of .ensures) (c .before .before .count-inner .ensures))) (c .loop-test .left))
 
 process-region-arc-of-requires : (t : ℕ) → process-region-lts.Need-arc-of-requires (process-region-heard t) (process-region-at t) process-region.Post
 process-region-arc-of-requires t c κs =
@@ -365,7 +445,8 @@ process-region-arc-of-requires t c κs =
     let pre = early .before .before .before .pre in
     omega (arith, pre .1 .2 .in-range, pre .1 .2 .represents .tabled .region-rows .all)
 
-process-region-process-inner-requires : (t : ℕ) → process-region-lts.Need-process-inner-requires (process-region-heard t) (process-region-at t) process-region.Post
+process-region-process-inner-requires : (t : ℕ) → process-region-lts.Need-process-inner-requires (process-region-heard t) (process-region-at t)
+    process-region.Post
 process-region-process-inner-requires t c κs =
     let earlier = c .before .before .before .before .before .before .before .before in
     let early = earlier .before .before .before .before .before .before .before .before in
@@ -418,7 +499,8 @@ process-region-returns t c =
     let arc-of = early .before .before .arc-of in
     λ g d P. process-inner .ensures g d P (region-inner P (arc-of .ensures) (if1 .taken))
 
-process-region-process-leaf-requires : (t : ℕ) → process-region-lts.Need-process-leaf-requires (process-region-heard t) (process-region-at t) process-region.Post
+process-region-process-leaf-requires : (t : ℕ) → process-region-lts.Need-process-leaf-requires (process-region-heard t) (process-region-at t)
+    process-region.Post
 process-region-process-leaf-requires t c κs =
     let earlier = c .before .before .before .before .before .before .before .before in
     let early = earlier .before .before .before .before .before .before .before .before in

@@ -11,7 +11,8 @@ min-key-requires c κs = search needs
 
 returns : tie.Need-returns
 unfolding top
-returns c = λ g d labels predecessors own counts Q inner. ended-by-key g d (stateOf labels predecessors own _ counts) _ (c .min-key .ensures d Q inner own (counts .updates))
+returns c = λ g d labels predecessors own counts Q inner. ended-by-key g d (stateOf labels predecessors own _ counts) _
+    (c .min-key .ensures d Q inner own (counts .updates))
 
 pub has-ended-spec : {M : Type 1} → statement M
 has-ended-spec = tie.close (tie.spec min-key-requires returns)

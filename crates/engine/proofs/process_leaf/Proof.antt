@@ -1,7 +1,18 @@
 -- `process_leaf` meets its contract: the label is lowered where the definition lowers it. Assumes nothing.
 use borrow.Author.Needs.{needs}
 use native.Mathlib.Omega.{arith}
-use Rattle.engine.proofs.Leaves.{leaf-count-fits, leaf-row-in, leaf-own-in, leaf-length-in, leaf-tail-in, leaf-head-in, leaf-head-fed, leaf-stays, leaf-asks, leaf-falls}
+use Rattle.engine.proofs.Leaves.{
+  leaf-count-fits,
+  leaf-row-in,
+  leaf-own-in,
+  leaf-length-in,
+  leaf-tail-in,
+  leaf-head-in,
+  leaf-head-fed,
+  leaf-stays,
+  leaf-asks,
+  leaf-falls,
+}
 use Rattle.sheet.specs.Words.{top}
 use Rattle.engine.proofs.process_leaf.Statement.{statement}
 use Rattle.engine.proofs.process_leaf.Tie as tie
@@ -113,7 +124,8 @@ returns c =
     let head-of = early .before .head-of in
     let tail-of = early .before .before .before .tail-of in
     let arc-of = prior .before .arc-of in
-    λ g d spans P leaf. leaf-stays P leaf (arc-of .ensures) (tail-of .ensures) (head-of .ensures) (wide .ensures .0) (wide2 .ensures .0) (c .before .before .wide3 .ensures .0) (c .before .if1 .taken) (c .count-leaf .ensures)
+    λ g d spans P leaf. leaf-stays P leaf (arc-of .ensures) (tail-of .ensures) (head-of .ensures) (wide .ensures .0) (wide2 .ensures .0)
+    (c .before .before .wide3 .ensures .0) (c .before .if1 .taken) (c .count-leaf .ensures)
 
 cast-key : tie.Need-cast-key
 cast-key c = search needs
@@ -141,8 +153,12 @@ update-outgoing-requires c κs =
     let head-of = early .before .before .head-of in
     let tail-of = early .before .before .before .before .tail-of in
     let arc-of = early .before .before .before .before .before .before .arc-of in
-    let pre = first .before .pre in
-    (pre .0, pre .1, leaf-asks (pre .3) (pre .4) (arc-of .ensures) (tail-of .ensures) (head-of .ensures) (wide .ensures .0) (wide2 .ensures .0) (wide3 .ensures .0) (if1 .left))
+    let pre = first .before .pre in (
+      pre .0,
+      pre .1,
+      leaf-asks (pre .3) (pre .4) (arc-of .ensures) (tail-of .ensures) (head-of .ensures) (wide .ensures .0) (wide2 .ensures .0)
+          (wide3 .ensures .0) (if1 .left),
+    )
 
 mul-own-2 : tie.Need-mul-own-2
 mul-own-2 c =
@@ -205,9 +221,11 @@ returns-2 c =
     let tail-of = prior .before .before .before .before .tail-of in
     let arc-of = prior .before .before .before .before .before .before .arc-of in
     λ g d spans P leaf.
-    let asks = leaf-asks P leaf (arc-of .ensures) (tail-of .ensures) (head-of .ensures) (wide .ensures .0) (wide2 .ensures .0) (wide3 .ensures .0) (if1 .left) in
+    let asks = leaf-asks P leaf (arc-of .ensures) (tail-of .ensures) (head-of .ensures) (wide .ensures .0) (wide2 .ensures .0) (wide3 .ensures .0) (if1 .left)
+    in
     let Q = update-outgoing .ensures g d asks in
-    leaf-falls P leaf (arc-of .ensures) (tail-of .ensures) (head-of .ensures) (wide .ensures .0) (wide2 .ensures .0) (wide3 .ensures .0) (if1 .left) (lower-label .ensures) Q (update-outgoing .kept .1 .1 .1 .0) (c .count-leaf2 .ensures)
+    leaf-falls P leaf (arc-of .ensures) (tail-of .ensures) (head-of .ensures) (wide .ensures .0) (wide2 .ensures .0) (wide3 .ensures .0) (if1 .left)
+    (lower-label .ensures) Q (update-outgoing .kept .1 .1 .1 .0) (c .count-leaf2 .ensures)
 
 pub process-leaf-spec : {M : Type 1} → statement M
 process-leaf-spec =

@@ -13,8 +13,10 @@ use Rattle.engine.proofs.rounds.Tie as tie
 
 abbrev Inv-loop : tie.InvT-loop
 Inv-loop rows arcs firsts lengths spans regions labels₀ predecessors₀ own₀ keys₀ winners₀ limit left₀ n₀ labels predecessors own keys winners left n =
-    (g : Graph) (d : Division) (k : ℕ) → Represents g d (tablesOf rows arcs firsts lengths spans regions) (stateOf labels₀ predecessors₀ own₀ keys₀ n₀) winners₀ → (stateOf labels₀ predecessors₀ own₀ keys₀ n₀) ≡ after g d spans k
-    → Looping g d (tablesOf rows arcs firsts lengths spans regions) (running g d) (round g d spans) left₀ (stateOf labels₀ predecessors₀ own₀ keys₀ n₀) left (stateOf labels predecessors own keys n) winners
+    (g : Graph) (d : Division) (k : ℕ) → Represents g d (tablesOf rows arcs firsts lengths spans regions) (stateOf labels₀ predecessors₀ own₀ keys₀ n₀)
+    winners₀ → (stateOf labels₀ predecessors₀ own₀ keys₀ n₀) ≡ after g d spans k
+    → Looping g d (tablesOf rows arcs firsts lengths spans regions) (running g d) (round g d spans) left₀ (stateOf labels₀ predecessors₀ own₀ keys₀ n₀) left
+    (stateOf labels predecessors own keys n) winners
 
 abbrev μ-loop : tie.MeasureT-loop
 μ-loop rows arcs firsts lengths spans regions labels₀ predecessors₀ own₀ keys₀ winners₀ limit left₀ n₀ labels predecessors own keys winners left n = left

@@ -43,8 +43,12 @@ update-outgoing-requires c κs =
     let fill-keys3 = earlier .before .before .before .before .before .fill-keys3 in
     let fill-keys2 = early .before .fill-keys2 in
     let fill-keys = early .before .before .before .before .before .fill-keys in
-    let pre = prior .before .before .before .before .before .before .before .pre in
-    (pre .0, pre .1, start-asks (pre .5) (pre .6) (fill-keys .ensures) (fill-keys2 .ensures) (fill-keys3 .ensures) (clear .ensures .0) (clear .ensures .1 (pre .1) (pre .5 .laid)))
+    let pre = prior .before .before .before .before .before .before .before .pre in (
+      pre .0,
+      pre .1,
+      start-asks (pre .5) (pre .6) (fill-keys .ensures) (fill-keys2 .ensures) (fill-keys3 .ensures) (clear .ensures .0)
+          (clear .ensures .1 (pre .1) (pre .5 .laid)),
+    )
 
 same-length : tie.Need-same-length
 same-length c = search needs
@@ -74,7 +78,9 @@ returns c =
     let fill-keys = prior .before .before .before .before .fill-keys in
     λ g d lengths spans regions B source.
     let Q = clear .ensures .1 d (B .laid) in
-    started B source (fill-keys .ensures) (fill-keys2 .ensures) (fill-keys3 .ensures) (clear .ensures .0) Q (update-outgoing .ensures g d (start-asks B source (fill-keys .ensures) (fill-keys2 .ensures) (fill-keys3 .ensures) (clear .ensures .0) Q)) (update-outgoing .kept .1 .1 .1 .0)
+    started B source (fill-keys .ensures) (fill-keys2 .ensures) (fill-keys3 .ensures) (clear .ensures .0) Q
+    (update-outgoing .ensures g d (start-asks B source (fill-keys .ensures) (fill-keys2 .ensures) (fill-keys3 .ensures) (clear .ensures .0) Q))
+    (update-outgoing .kept .1 .1 .1 .0)
 
 pub start-spec : {M : Type 1} → statement M
 start-spec =

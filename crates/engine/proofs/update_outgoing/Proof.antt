@@ -41,8 +41,12 @@ update-arc-requires c κs =
     let loop = earlier .before .loop in
     let first-of = earlier .before .before .first-of in
     let pre = prior .before .pre in
-    let args = prior .before .args in
-    (pre .0, pre .1, spread-asks (loop .inv (pre .0) (pre .1) (args .v .0) _ (spread-start (pre .2) (first-of .ensures))) (omega (arith, if1 .taken, pre .2 .updatable .owned)))
+    let args = prior .before .args in (
+      pre .0,
+      pre .1,
+      spread-asks (loop .inv (pre .0) (pre .1) (args .v .0) _ (spread-start (pre .2) (first-of .ensures)))
+          (omega (arith, if1 .taken, pre .2 .updatable .owned)),
+    )
 
 next-of-requires : tie.Need-next-of-requires Inv-loop μ-loop
 next-of-requires c κs =
@@ -65,7 +69,13 @@ loop-less c =
     let pre = early .before .before .before .before .before .pre in
     let args = early .before .before .before .before .before .args in
     let here : loop .a .0 < arcs (pre .0) = omega (arith, if1 .taken, pre .2 .updatable .owned) in
-    omega (arith, if1 .taken, pre .2 .updatable .owned, spread-falls (loop .inv (pre .0) (pre .1) (args .v .0) _ (spread-start (pre .2) (first-of .ensures))) here (c .next-of .ensures))
+    omega (
+      arith,
+      if1 .taken,
+      pre .2 .updatable .owned,
+      spread-falls (loop .inv (pre .0) (pre .1) (args .v .0) _ (spread-start (pre .2) (first-of .ensures)))
+          here (c .next-of .ensures),
+    )
 
 loop-again : tie.Need-loop-again Inv-loop μ-loop
 loop-again c =
@@ -87,7 +97,8 @@ same-length c =
     let first-of = c .before .before .before .first-of in
     let pre = early .before .before .pre in
     let args = early .before .before .args in
-    (c .before .before .loop .inv (pre .0) (pre .1) (args .v .0) _ (spread-start (pre .2) (first-of .ensures))) .updatable .owned ∙ sym (pre .2 .updatable .owned)
+    (c .before .before .loop .inv (pre .0) (pre .1) (args .v .0) _ (spread-start (pre .2) (first-of .ensures))) .updatable .owned ∙ sym
+    (pre .2 .updatable .owned)
 
 same-length-2 : tie.Need-same-length-2 Inv-loop μ-loop
 same-length-2 c =
@@ -96,7 +107,8 @@ same-length-2 c =
     let first-of = c .before .before .before .first-of in
     let pre = early .before .before .pre in
     let args = early .before .before .args in
-    (c .before .before .loop .inv (pre .0) (pre .1) (args .v .0) _ (spread-start (pre .2) (first-of .ensures))) .updatable .queues .keyed ∙ sym (pre .2 .updatable .queues .keyed)
+    (c .before .before .loop .inv (pre .0) (pre .1) (args .v .0) _ (spread-start (pre .2) (first-of .ensures))) .updatable .queues .keyed ∙ sym
+    (pre .2 .updatable .queues .keyed)
 
 same-length-3 : tie.Need-same-length-3 Inv-loop μ-loop
 same-length-3 c =
@@ -105,7 +117,8 @@ same-length-3 c =
     let first-of = c .before .before .before .first-of in
     let pre = early .before .before .pre in
     let args = early .before .before .args in
-    (c .before .before .loop .inv (pre .0) (pre .1) (args .v .0) _ (spread-start (pre .2) (first-of .ensures))) .updatable .queues .laid .seated .all ∙ sym (pre .2 .updatable .queues .laid .seated .all)
+    (c .before .before .loop .inv (pre .0) (pre .1) (args .v .0) _ (spread-start (pre .2) (first-of .ensures))) .updatable .queues .laid .seated .all ∙ sym
+    (pre .2 .updatable .queues .laid .seated .all)
 
 returns : tie.Need-returns Inv-loop μ-loop
 returns c =
