@@ -103,7 +103,8 @@ fn key_of(
     r: Region,
 ) -> u32
     requires { ⌜ ((m : ℕ) × (d : Division) × Keyed m d (now rows) (now regions) (now own) (now keys) (now winners) (r .0)) ⌝ }
-    ensures { λ k. ⌜ ((m : ℕ) (d : Division) (updates : ℕ) → Keyed m d (now (rows .entry)) (now (regions .entry)) (now (own .entry)) (now (keys .entry)) (now (winners .entry)) (r .0)
+    ensures { λ k. ⌜ ((m : ℕ) (d : Division) (updates : ℕ) → Keyed m d (now (rows .entry)) (now (regions .entry)) (now (own .entry)) (now (keys .entry))
+        (now (winners .entry)) (r .0)
         → k ≡ minKey d (queuesOf (now (own .entry)) (now (keys .entry)) updates) (r .0)) ⌝ }
 {
     let a = arc_of(regions, r);
@@ -125,8 +126,10 @@ fn update(
     count: u64,
 ) -> u64
     requires { ⌜ ((d : Division) × (own : List ℕ) × Updating d (now rows) (queuesOf own (now keys) count) (now winners) (r .0) (item .0) key) ⌝ }
-    ensures { λ n. ⌜ ((d : Division) (own : List ℕ) → Updating d (now (rows .entry)) (queuesOf own (now (keys .entry)) count) (now (winners .entry)) (r .0) (item .0) key
-        → Queued d (now (rows .entry)) (update d (r .0) (item .0) key (queuesOf own (now (keys .entry)) count)) (queuesOf own (now (keys .exit)) n) (now (winners .exit))) ⌝ }
+    ensures { λ n. ⌜ ((d : Division) (own : List ℕ) → Updating d (now (rows .entry)) (queuesOf own (now (keys .entry)) count)
+        (now (winners .entry)) (r .0) (item .0) key
+        → Queued d (now (rows .entry)) (update d (r .0) (item .0) key (queuesOf own (now (keys .entry)) count))
+        (queuesOf own (now (keys .exit)) n) (now (winners .exit))) ⌝ }
 {
     let old = queue::min_key(rows, keys, winners, r);
     queue::write(rows, keys, winners, item, key);
@@ -214,7 +217,8 @@ fn update_outgoing(
 // The label of v becomes `label`, and a its predecessor.
 fn lower_label(labels: &mut [u32], predecessors: &mut [u32], v: Node, label: u32, a: Arc)
     requires { ⌜ (v .0 < length (now labels)) × (v .0 < length (now predecessors)) ⌝ }
-    ensures { λ _. ⌜ (now (labels .exit) ≡ set (now (labels .entry)) (v .0) label) × (now (predecessors .exit) ≡ set (now (predecessors .entry)) (v .0) (a .0)) ⌝ }
+    ensures { λ _. ⌜ (now (labels .exit) ≡ set (now (labels .entry)) (v .0) label) × (now (predecessors .exit) ≡ set
+        (now (predecessors .entry)) (v .0) (a .0)) ⌝ }
 {
     let i = v.0 as usize;
     labels[i] = label;
@@ -237,11 +241,14 @@ fn process_leaf(
     c: Counts,
 ) -> Counts
     requires { ⌜ (let s = stateOf (now labels) (now predecessors) (now own) (now keys) c in
-        (g : Graph) × (d : Division) × (spans : List ℕ) × Processing g d (tablesOf (now rows) (now arcs) (now firsts) (now lengths) spans (now regions)) s (now winners) (r .0) (processLeaf g d (r .0) s) × isLeaf d (r .0) ≡ true) ⌝ }
+        (g : Graph) × (d : Division) × (spans : List ℕ) × Processing g d (tablesOf (now rows) (now arcs) (now firsts) (now lengths) spans (now regions)) s
+        (now winners) (r .0) (processLeaf g d (r .0) s) × isLeaf d (r .0) ≡ true) ⌝ }
     ensures { λ n. ⌜ (let s = stateOf (now (labels .entry)) (now (predecessors .entry)) (now (own .entry)) (now (keys .entry)) c in
         let s′ = stateOf (now (labels .exit)) (now (predecessors .exit)) (now (own .exit)) (now (keys .exit)) n in
-        (g : Graph) (d : Division) (spans : List ℕ) → Processing g d (tablesOf (now (rows .entry)) (now (arcs .entry)) (now (firsts .entry)) (now (lengths .entry)) spans (now (regions .entry))) s (now (winners .entry)) (r .0) (processLeaf g d (r .0) s) → isLeaf d (r .0) ≡ true
-        → Computed g d (tablesOf (now (rows .entry)) (now (arcs .entry)) (now (firsts .entry)) (now (lengths .entry)) spans (now (regions .entry))) (processLeaf g d (r .0) s) s′ (now (winners .exit))) ⌝ }
+        (g : Graph) (d : Division) (spans : List ℕ) → Processing g d (tablesOf (now (rows .entry)) (now (arcs .entry)) (now (firsts .entry))
+        (now (lengths .entry)) spans (now (regions .entry))) s (now (winners .entry)) (r .0) (processLeaf g d (r .0) s) → isLeaf d (r .0) ≡ true
+        → Computed g d (tablesOf (now (rows .entry)) (now (arcs .entry)) (now (firsts .entry)) (now (lengths .entry)) spans (now (regions .entry)))
+        (processLeaf g d (r .0) s) s′ (now (winners .exit))) ⌝ }
 {
     let a = arc_of(regions, r);
     let i = a.0 as usize;
@@ -279,7 +286,8 @@ fn process_region(
     requires { ⌜ (let t = tablesOf (now rows) (now arcs) (now firsts) (now lengths) (now spans) (now regions) in
         let s = stateOf (now labels) (now predecessors) (now own) (now keys) c in
         (g : Graph) × (d : Division) × Processing g d t s (now winners) (r .0) (process g d (t .spans) (r .0) s)) ⌝ }
-    ensures { λ n. ⌜ (let t = tablesOf (now (rows .entry)) (now (arcs .entry)) (now (firsts .entry)) (now (lengths .entry)) (now (spans .entry)) (now (regions .entry)) in
+    ensures { λ n. ⌜ (let t = tablesOf (now (rows .entry)) (now (arcs .entry)) (now (firsts .entry)) (now (lengths .entry)) (now (spans .entry))
+        (now (regions .entry)) in
         let s = stateOf (now (labels .entry)) (now (predecessors .entry)) (now (own .entry)) (now (keys .entry)) c in
         let s′ = stateOf (now (labels .exit)) (now (predecessors .exit)) (now (own .exit)) (now (keys .exit)) n in
         (g : Graph) (d : Division) → Processing g d t s (now (winners .entry)) (r .0) (process g d (t .spans) (r .0) s)
@@ -338,7 +346,8 @@ fn process_inner(
     requires { ⌜ (let t = tablesOf (now rows) (now arcs) (now firsts) (now lengths) (now spans) (now regions) in
         let s = stateOf (now labels) (now predecessors) (now own) (now keys) c in
         (g : Graph) × (d : Division) × Processing g d t s (now winners) (r .0) (process g d (t .spans) (r .0) s) × isLeaf d (r .0) ≡ false) ⌝ }
-    ensures { λ n. ⌜ (let t = tablesOf (now (rows .entry)) (now (arcs .entry)) (now (firsts .entry)) (now (lengths .entry)) (now (spans .entry)) (now (regions .entry)) in
+    ensures { λ n. ⌜ (let t = tablesOf (now (rows .entry)) (now (arcs .entry)) (now (firsts .entry)) (now (lengths .entry)) (now (spans .entry))
+        (now (regions .entry)) in
         let s = stateOf (now (labels .entry)) (now (predecessors .entry)) (now (own .entry)) (now (keys .entry)) c in
         let s′ = stateOf (now (labels .exit)) (now (predecessors .exit)) (now (own .exit)) (now (keys .exit)) n in
         (g : Graph) (d : Division) → Processing g d t s (now (winners .entry)) (r .0) (process g d (t .spans) (r .0) s) → isLeaf d (r .0) ≡ false
@@ -391,9 +400,11 @@ pub fn start(
         × (source .0 ≡ g .source)) ⌝ }
     ensures { λ n. ⌜ (let s = stateOf (now (labels .exit)) (now (predecessors .exit)) (now (own .exit)) (now (keys .exit)) n in
         (g : Graph) (d : Division) (lengths spans regions : List ℕ)
-        → Blank g d (tablesOf (now (rows .entry)) (now (arcs .entry)) (now (firsts .entry)) lengths spans regions) (now (labels .entry)) (now (predecessors .entry)) (now (own .entry)) (now (keys .entry)) (now (winners .entry))
+        → Blank g d (tablesOf (now (rows .entry)) (now (arcs .entry)) (now (firsts .entry)) lengths spans regions) (now (labels .entry))
+        (now (predecessors .entry)) (now (own .entry)) (now (keys .entry)) (now (winners .entry))
         → source .0 ≡ g .source
-        → Computed g d (tablesOf (now (rows .entry)) (now (arcs .entry)) (now (firsts .entry)) lengths spans regions) (start g d spans) s (now (winners .exit))) ⌝ }
+        → Computed g d (tablesOf (now (rows .entry)) (now (arcs .entry)) (now (firsts .entry)) lengths spans regions) (start g d spans) s
+        (now (winners .exit))) ⌝ }
 {
     queue::fill_keys(labels, NONE);
     queue::fill_keys(predecessors, NONE);
@@ -413,7 +424,8 @@ pub fn start(
 // Whether the run has ended.
 pub fn has_ended(rows: &[u16], keys: &[u32], winners: &[u16]) -> bool
     requires { ⌜ ((d : Division) × QueuesOk d (now rows) (now keys) (now winners)) ⌝ }
-    ensures { λ b. ⌜ ((g : Graph) (d : Division) (labels predecessors own : List ℕ) (c : Counts) → QueuesOk d (now (rows .entry)) (now (keys .entry)) (now (winners .entry))
+    ensures { λ b. ⌜ ((g : Graph) (d : Division) (labels predecessors own : List ℕ) (c : Counts) → QueuesOk d (now (rows .entry)) (now (keys .entry))
+        (now (winners .entry))
         → isLeaf d 0 ≡ false → b ≡ ended g d (stateOf labels predecessors own (now (keys .entry)) c)) ⌝ }
 {
     NONE <= queue::min_key(rows, keys, winners, Region(0))
@@ -437,7 +449,8 @@ fn round(
     requires { ⌜ (let t = tablesOf (now rows) (now arcs) (now firsts) (now lengths) (now spans) (now regions) in
         let s = stateOf (now labels) (now predecessors) (now own) (now keys) c in
         (g : Graph) × (d : Division) × Processing g d t s (now winners) 0 (round g d (t .spans) s)) ⌝ }
-    ensures { λ n. ⌜ (let t = tablesOf (now (rows .entry)) (now (arcs .entry)) (now (firsts .entry)) (now (lengths .entry)) (now (spans .entry)) (now (regions .entry)) in
+    ensures { λ n. ⌜ (let t = tablesOf (now (rows .entry)) (now (arcs .entry)) (now (firsts .entry)) (now (lengths .entry)) (now (spans .entry))
+        (now (regions .entry)) in
         let s = stateOf (now (labels .entry)) (now (predecessors .entry)) (now (own .entry)) (now (keys .entry)) c in
         let s′ = stateOf (now (labels .exit)) (now (predecessors .exit)) (now (own .exit)) (now (keys .exit)) n in
         (g : Graph) (d : Division) → Processing g d t s (now (winners .entry)) 0 (round g d (t .spans) s)
@@ -479,7 +492,8 @@ pub fn rounds(
     requires { ⌜ (let t = tablesOf (now rows) (now arcs) (now firsts) (now lengths) (now spans) (now regions) in
         let s = stateOf (now labels) (now predecessors) (now own) (now keys) c in
         (g : Graph) × (d : Division) × (k : ℕ) × Represents g d t s (now winners) × (s ≡ after g d (t .spans) k)) ⌝ }
-    ensures { λ n. ⌜ (let t = tablesOf (now (rows .entry)) (now (arcs .entry)) (now (firsts .entry)) (now (lengths .entry)) (now (spans .entry)) (now (regions .entry)) in
+    ensures { λ n. ⌜ (let t = tablesOf (now (rows .entry)) (now (arcs .entry)) (now (firsts .entry)) (now (lengths .entry)) (now (spans .entry))
+        (now (regions .entry)) in
         let s = stateOf (now (labels .entry)) (now (predecessors .entry)) (now (own .entry)) (now (keys .entry)) c in
         let s′ = stateOf (now (labels .exit)) (now (predecessors .exit)) (now (own .exit)) (now (keys .exit)) n in
         (g : Graph) (d : Division) (k : ℕ) → Represents g d t s (now (winners .entry)) → s ≡ after g d (t .spans) k

@@ -24,7 +24,16 @@ abbrev update-below : ℕ → In 3 update-kinds.ps
 update-below t = and 3 update-kinds.ps (falls 3 update-kinds.ps _<_ μ-update t) update.Pre
 
 abbrev update-heard : ℕ → update-lts.Claims
-update-heard t = (min-key-reads.Asked, min-key-reads.Learnt, write-reads.Asked, write-reads.Learnt, parent-of-reads.Asked, parent-of-reads.Learnt, update-below t, update.Post)
+update-heard t = (
+  min-key-reads.Asked,
+  min-key-reads.Learnt,
+  write-reads.Asked,
+  write-reads.Learnt,
+  parent-of-reads.Asked,
+  parent-of-reads.Learnt,
+  update-below t,
+  update.Post,
+)
 
 update-min-key-requires : (t : ℕ) → update-lts.Need-min-key-requires (update-heard t) (update-at t) update.Post
 update-min-key-requires t c κs =
@@ -104,7 +113,8 @@ update-returns-2 t c =
     let min-key2 = c .before .before .before .min-key2 in
     let write = early .before .before .write in
     let min-key = prior .before .min-key in
-    λ d own U. not-fallen U (write .ensures) (min-key .ensures d (U .queues) (region-inner U) own _) (min-key2 .ensures d (valid-still U (write .ensures)) (region-inner U) own _) (c .if2 .taken)
+    λ d own U. not-fallen U (write .ensures) (min-key .ensures d (U .queues) (region-inner U) own _)
+    (min-key2 .ensures d (valid-still U (write .ensures)) (region-inner U) own _) (omega (arith, c .if2 .taken))
 
 update-parent-of-requires : (t : ℕ) → update-lts.Need-parent-of-requires (update-heard t) (update-at t) update.Post
 update-parent-of-requires t c κs =
