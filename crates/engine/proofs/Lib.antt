@@ -3,3 +3,4 @@ mod Updates
 mod Leaves
 mod Loops
 mod Beginning
+pub mod Runs
