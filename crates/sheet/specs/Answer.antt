@@ -1,7 +1,7 @@
 -- What a call answers, in the paper's terms. Definitions; assumes nothing.
 use Prim.Native.Nat.{ℕ, zero, suc}
 use mathlib.Core.List.{List, [], _∷_}
-use mathlib.Core.Bool.{Bool, cond}
+use mathlib.Core.Bool.{Bool, true, false, cond}
 use Rattle.sheet.specs.declared.Fault.{Fault}
 use Rattle.sheet.specs.declared.Fault.the-variants.{Input, State}
 
@@ -15,9 +15,14 @@ abbrev pub refusalOf : Fault → Refusal
 refusalOf (Input n) = input n
 refusalOf (State n) = state n
 
--- "A good sheet is answered 'accepted' by the judge"
+-- "A good sheet is answered 'accepted' by the judge, and a run answers 'ended' or 'paused' as its table says." A route is answered by the count of
+-- its arcs; "for an unreached node the call answers 'no route'".
 pub data Answer : Type 0 where
   accepted : Answer
+  ended : Answer
+  paused : Answer
+  route : ℕ → Answer
+  noRoute : Answer
   refused : Refusal → Answer
 
 -- a refusal, and whether it applies
@@ -39,3 +44,20 @@ lowest (c ∷ cs) answer = cond (c .applies) (refused (c .refusal)) (lowest cs a
 abbrev pub numbered : ℕ → Answer
 numbered zero = accepted
 numbered (suc n) = refused (input (suc n))
+
+-- the answers that are refusals, and those that are routes
+abbrev pub isRefused : Answer → Bool
+isRefused accepted = false
+isRefused ended = false
+isRefused paused = false
+isRefused (route _) = false
+isRefused noRoute = false
+isRefused (refused _) = true
+
+abbrev pub isRoute : Answer → Bool
+isRoute accepted = false
+isRoute ended = false
+isRoute paused = false
+isRoute (route _) = true
+isRoute noRoute = false
+isRoute (refused _) = false
