@@ -1,4 +1,1 @@
-pub mod Order
-pub mod Pass
-pub mod Degrees
 pub mod Stages

@@ -1,0 +1,20 @@
+-- `arc_or_region` meets its contract: kind 4, or else a region. Assumes nothing.
+use borrow.Author.Needs.{needs}
+use borrow.Author.Tests.{eq-eqb, ne-eqb}
+use Rattle.order.specs.Kinds.{arcOrRegion}
+use Rattle.order.proofs.arc_or_region.Statement.{statement}
+use Rattle.order.proofs.arc_or_region.Tie as tie
+
+returns : tie.Need-returns
+unfolding arcOrRegion
+returns c = rw (eq-eqb _ _ (c .if1 .taken))
+
+region-kind-requires : tie.Need-region-kind-requires
+region-kind-requires c κs = search needs
+
+returns-2 : tie.Need-returns-2
+unfolding arcOrRegion
+returns-2 c = rw (ne-eqb _ _ (c .before .if1 .left)) (c .region-kind .ensures)
+
+pub arc-or-region-spec : {M : Type 1} → statement M
+arc-or-region-spec = tie.close (tie.spec returns region-kind-requires returns-2)

@@ -1,0 +1,71 @@
+-- `may_follow` meets its contract: by the kind before. Assumes nothing.
+use mathlib.Core.Path.{sym}
+use borrow.Author.Needs.{needs}
+use borrow.Author.Tests.{eq-eqb, ne-eqb}
+use Rattle.order.specs.Kinds.{mayFollow}
+use Rattle.order.proofs.Order.{region-follows, region-before, none-follows, span-follows, span-before}
+use Rattle.order.proofs.may_follow.Statement.{statement}
+use Rattle.order.proofs.may_follow.Tie as tie
+
+arc-or-region-requires : tie.Need-arc-or-region-requires
+arc-or-region-requires c κs = search needs
+
+returns : tie.Need-returns
+returns c = rw (
+  span-follows _ _ (span-before _ (c .before .if1 .taken) (c .before .before .match .rest .0 .0 .0 .1)
+      (c .before .before .match .rest .0 .0 .1)),
+  eq-eqb _ _ (c .if2 .taken),
+)
+
+arc-or-region-requires-2 : tie.Need-arc-or-region-requires-2
+arc-or-region-requires-2 c κs = search needs
+
+region-kind-requires : tie.Need-region-kind-requires
+region-kind-requires c κs = search needs
+
+returns-2 : tie.Need-returns-2
+unfolding mayFollow
+returns-2 c = rw (c .match .keys1)
+
+returns-3 : tie.Need-returns-3
+unfolding mayFollow
+returns-3 c = rw (c .match .keys2)
+
+returns-4 : tie.Need-returns-4
+unfolding mayFollow
+returns-4 c = rw (c .match .keys3)
+
+returns-5 : tie.Need-returns-5
+unfolding mayFollow
+returns-5 c = rw (c .before .match .keys4) (c .arc-or-region .ensures)
+
+returns-6 : tie.Need-returns-6
+returns-6 c =
+    let match = c .before .before .before .match in
+    rw (span-follows _ _ (span-before _ (c .before .before .if1 .taken) (match .rest .0 .0 .0 .1) (match .rest .0 .0 .1)), ne-eqb _ _ (c .before .if2 .left))
+    (c .arc-or-region2 .ensures)
+
+returns-7 : tie.Need-returns-7
+returns-7 c =
+    let match = c .before .before .before .match in
+    rw (region-follows _ _ (region-before _ (c .before .before .if1 .left) (c .before .if3 .taken) (match .rest .0 .1) (match .rest .1)))
+    (c .region-kind .ensures)
+
+returns-8 : tie.Need-returns-8
+returns-8 c = sym (none-follows _ _ (c .if3 .left))
+
+pub may-follow-spec : {M : Type 1} → statement M
+may-follow-spec =
+    tie.close
+    (tie.spec
+    arc-or-region-requires
+    returns
+    arc-or-region-requires-2
+    region-kind-requires
+    returns-2
+    returns-3
+    returns-4
+    returns-5
+    returns-6
+    returns-7
+    returns-8)

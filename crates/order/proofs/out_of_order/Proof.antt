@@ -1,0 +1,102 @@
+-- `out_of_order` meets its contract: what is left of the pass decides as the whole does. Assumes nothing.
+use Prim.Native.Nat.{_-_}
+use mathlib.Core.Path.{sym, ap, _∙_}
+use borrow.Author.Needs.{needs}
+use borrow.Author.Tests.{not-true, not-false}
+use native.Mathlib.Omega.{arith}
+use Rattle.sheet.specs.Words.{words}
+use Rattle.order.specs.Kinds.{mayFollow}
+use Rattle.order.proofs.Pass.{step-word, step-kind, step-end, Passing, pass-start, pass-on, pass-stop, pass-end}
+use Rattle.order.proofs.out_of_order.Statement.{statement}
+use Rattle.order.proofs.out_of_order.Tie as tie
+
+abbrev Inv-loop : tie.InvT-loop
+Inv-loop s at₀ before₀ at before = Passing s before (at .at)
+
+abbrev μ-loop : tie.MeasureT-loop
+μ-loop s at₀ before₀ at before = words s - at .at
+
+loop-holds : tie.Need-loop-holds Inv-loop μ-loop
+loop-holds c = pass-start _
+
+next-word-requires : tie.Need-next-word-requires Inv-loop μ-loop
+next-word-requires c κs = search needs
+
+enum-known-word : tie.Need-enum-known-word Inv-loop μ-loop
+enum-known-word c = search needs
+
+enum-told : tie.Need-enum-told Inv-loop μ-loop
+enum-told c = search needs
+
+may-end-requires : tie.Need-may-end-requires Inv-loop μ-loop
+may-end-requires c κs = search needs
+
+returns : tie.Need-returns Inv-loop μ-loop
+returns c =
+    let earlier = c .before .before .before .before in
+    let args = earlier .before .before .args in
+    let loop = earlier .loop in
+    let next-word = c .before .before .before .next-word in
+    rw (c .may-end .ensures) (pass-end (args .s .now) (loop .before) (loop .at .at)
+    (step-end (args .s .now) (loop .at) (sym (next-word .ensures) ∙ c .before .enum-told .given .1)) (loop .inv))
+
+kind-of-requires : tie.Need-kind-of-requires Inv-loop μ-loop
+kind-of-requires c κs = search needs
+
+may-follow-requires : tie.Need-may-follow-requires Inv-loop μ-loop
+may-follow-requires c κs = search needs
+
+returns-2 : tie.Need-returns-2 Inv-loop μ-loop
+returns-2 c =
+    let earlier = c .before .before .before .before in
+    let early = earlier .before .before .before .before in
+    let args = early .before .args in
+    let loop = earlier .before .before .before .loop in
+    let word = earlier .word in
+    let next-word = earlier .before .before .next-word in
+    let st = step-word (args .s .now) (loop .at) (word .given .0 .0) (word .given .0 .1 .0) (sym (next-word .ensures) ∙ word .given .1) in
+    let read = step-kind (args .s .now) (loop .at) (word .given .0 .0) _ (word .given .0 .1 .0) st (c .before .before .kind-of .ensures) in
+    sym (pass-stop (args .s .now) (loop .before) (loop .at .at) (st .inside)
+    (ap (mayFollow (loop .before)) (sym read) ∙ sym (c .before .may-follow .ensures) ∙ not-true (c .before .may-follow .result) (c .if1 .taken)) (loop .inv))
+
+loop-less : tie.Need-loop-less Inv-loop μ-loop
+loop-less c =
+    let earlier = c .before .before .before .before in
+    let early = earlier .before .before .before .before in
+    let args = early .before .args in
+    let loop = earlier .before .before .before .loop in
+    let word = earlier .word in
+    let next-word = earlier .before .before .next-word in
+    let st = step-word (args .s .now) (loop .at) (word .given .0 .0) (word .given .0 .1 .0) (sym (next-word .ensures) ∙ word .given .1) in
+    omega (arith, st .inside, st .moved)
+
+loop-again : tie.Need-loop-again Inv-loop μ-loop
+loop-again c =
+    let earlier = c .before .before .before .before in
+    let early = earlier .before .before .before .before in
+    let args = early .before .args in
+    let loop = earlier .before .before .before .loop in
+    let word = earlier .word in
+    let next-word = earlier .before .before .next-word in
+    let st = step-word (args .s .now) (loop .at) (word .given .0 .0) (word .given .0 .1 .0) (sym (next-word .ensures) ∙ word .given .1) in
+    let read = step-kind (args .s .now) (loop .at) (word .given .0 .0) _ (word .given .0 .1 .0) st (c .before .before .kind-of .ensures) in
+    rw (read, st .moved) (pass-on (args .s .now) (loop .before) (loop .at .at) (st .inside)
+    (ap (mayFollow (loop .before)) (sym read) ∙ sym (c .before .may-follow .ensures) ∙ not-false (c .before .may-follow .result) (c .if1 .left)) (loop .inv))
+
+pub out-of-order-spec : {M : Type 1} → statement M
+out-of-order-spec =
+    tie.close
+    (tie.spec
+    Inv-loop
+    μ-loop
+    loop-holds
+    next-word-requires
+    enum-known-word
+    enum-told
+    may-end-requires
+    returns
+    kind-of-requires
+    may-follow-requires
+    returns-2
+    loop-less
+    loop-again)
