@@ -14,8 +14,8 @@ use Rattle.procedure.specs.Procedure.{start}
 use Rattle.theory.specs.Counts.{Small}
 use Rattle.theory.proofs.Final.{no-rounds, after-small}
 use Rattle.queue.specs.Trees.{QueuesOk}
-use Rattle.engine.specs.Tables.{Tables, Tabled}
-use Rattle.engine.specs.States.{queuesOf, stateOf, Updatable, UpdatingOutgoing, Queued, Computed, Blank}
+use Rattle.slices.specs.Tables.{Tables, Tabled}
+use Rattle.slices.specs.States.{queuesOf, stateOf, Updatable, UpdatingOutgoing, Queued, Computed, Blank}
 
 -- at most four arcs leave a node
 pub few-out : mostArcsEachWay ≤ 4

@@ -1,6 +1,4 @@
-mod Regions
-mod Updates
-mod Leaves
-mod Loops
-mod Beginning
+pub mod Regions
+pub mod Beginning
+pub mod Loops
 pub mod Runs

@@ -20,8 +20,8 @@ use Rattle.procedure.specs.Procedure.{ended}
 use Rattle.procedure.specs.WellFormed.{DivisionOk}
 use Rattle.theory.proofs.Chosen.{minKey-leaf}
 use Rattle.theory.proofs.Process.{key-running, none-ended}
-use Rattle.engine.specs.Tables.{RegionRows, noArc, arcEntry}
-use Rattle.engine.specs.States.{queuesOf, Keyed}
+use Rattle.slices.specs.Tables.{RegionRows, noArc, arcEntry}
+use Rattle.slices.specs.States.{queuesOf, Keyed}
 
 -- a is what the row of region r has in place of its arc
 module _ {m : ℕ} {d : Division} {regionRows : List ℕ} (ok : DivisionOk m d) (few : m ≤ mostArcs) (R : RegionRows d regionRows) {r : ℕ} (lr : r < regions d)

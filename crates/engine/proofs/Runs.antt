@@ -9,8 +9,8 @@ use Rattle.procedure.specs.Division.{Division}
 use Rattle.procedure.specs.State.{State}
 use Rattle.procedure.specs.Procedure.{ended, start, round, after}
 use Rattle.theory.proofs.Final.{no-rounds, rounds-in-parts}
-use Rattle.engine.specs.Tables.{Tables}
-use Rattle.engine.specs.States.{Computed}
+use Rattle.slices.specs.Tables.{Tables}
+use Rattle.slices.specs.States.{Computed}
 
 module _ {g : Graph} {d : Division} {t : Tables} {s : State} {winners : List ℕ} where
   -- `start` leaves the state after no rounds, from which `rounds` may go on

@@ -5,8 +5,8 @@ use mathlib.Core.Path.{sym, _∙_}
 use native.Mathlib.Omega.{arith}
 use Rattle.procedure.specs.Graph.{Graph, arcs}
 use Rattle.procedure.specs.Division.{Division}
-use Rattle.engine.specs.Tables.{tablesOf, heightEntry}
-use Rattle.engine.specs.States.{stateOf}
+use Rattle.slices.specs.Tables.{tablesOf, heightEntry}
+use Rattle.slices.specs.States.{stateOf}
 use Rattle.engine.proofs.Loops.{
   Looping,
   turn,
@@ -39,11 +39,11 @@ use Rattle.engine.proofs.+process_inner+process_region.Lts-process_inne
 use Rattle.engine.proofs.process_region.Reads as process-region
 use Rattle.engine.proofs.process_region.Kinds as process-region-kinds
 use Rattle.engine.proofs.+process_inner+process_region.Lts-process_region as process-region-lts
-use Rattle.engine.proofs.arc_of.Reads as arc-of-reads
-use Rattle.engine.proofs.count_inner.Reads as count-inner-reads
+use Rattle.slices.proofs.arc_of.Reads as arc-of-reads
+use Rattle.slices.proofs.count_inner.Reads as count-inner-reads
 use Rattle.engine.proofs.key_of.Reads as key-of-reads
-use Rattle.engine.proofs.process_leaf.Reads as process-leaf-reads
-use Rattle.engine.proofs.span_of.Reads as span-of-reads
+use Rattle.updates.proofs.process_leaf.Reads as process-leaf-reads
+use Rattle.slices.proofs.span_of.Reads as span-of-reads
 use Rattle.queue.proofs.min_item.Reads as min-item-reads
 use Rattle.queue.proofs.min_key.Reads as min-key-reads
 use Rattle.queue.proofs.write.Reads as write-reads

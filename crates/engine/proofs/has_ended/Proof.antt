@@ -1,6 +1,6 @@
 -- `has_ended` meets its contract. Assumes nothing.
 use borrow.Author.Needs.{needs}
-use Rattle.engine.specs.States.{stateOf}
+use Rattle.slices.specs.States.{stateOf}
 use Rattle.engine.proofs.Regions.{ended-by-key}
 use Rattle.sheet.specs.Words.{top}
 use Rattle.engine.proofs.has_ended.Statement.{statement}

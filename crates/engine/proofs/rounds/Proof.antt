@@ -4,8 +4,8 @@ use mathlib.Core.Path.{_≡_, sym, _∙_}
 use native.Mathlib.Omega.{arith}
 use Rattle.procedure.specs.Graph.{Graph, arcs}
 use Rattle.procedure.specs.Division.{Division}
-use Rattle.engine.specs.Tables.{tablesOf}
-use Rattle.engine.specs.States.{stateOf, Represents}
+use Rattle.slices.specs.Tables.{tablesOf}
+use Rattle.slices.specs.States.{stateOf, Represents}
 use Rattle.engine.proofs.Loops.{Looping, loop-spent, running, rounds-first, rounds-ended, next-asks, rounds-step}
 use Rattle.procedure.specs.Procedure.{round, after}
 use Rattle.engine.proofs.rounds.Statement.{statement}

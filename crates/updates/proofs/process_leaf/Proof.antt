@@ -1,7 +1,7 @@
 -- `process_leaf` meets its contract: the label is lowered where the definition lowers it. Assumes nothing.
 use borrow.Author.Needs.{needs}
 use native.Mathlib.Omega.{arith}
-use Rattle.engine.proofs.Leaves.{
+use Rattle.updates.proofs.Leaves.{
   leaf-count-fits,
   leaf-row-in,
   leaf-own-in,
@@ -14,8 +14,8 @@ use Rattle.engine.proofs.Leaves.{
   leaf-falls,
 }
 use Rattle.sheet.specs.Words.{top}
-use Rattle.engine.proofs.process_leaf.Statement.{statement}
-use Rattle.engine.proofs.process_leaf.Tie as tie
+use Rattle.updates.proofs.process_leaf.Statement.{statement}
+use Rattle.updates.proofs.process_leaf.Tie as tie
 
 arc-of-requires : tie.Need-arc-of-requires
 arc-of-requires c κs = search needs

@@ -2,17 +2,17 @@
 use Prim.Native.Nat.{ℕ, _<_}
 use mathlib.Core.Path.{_∙_}
 use native.Mathlib.Omega.{arith}
-use Rattle.engine.proofs.Updates.{region-in, region-inner, count-fits, valid-still, root-stops, not-fallen, up-lower, climb-asks, climbed}
+use Rattle.updates.proofs.Updates.{region-in, region-inner, count-fits, valid-still, root-stops, not-fallen, up-lower, climb-asks, climbed}
 use borrow.Fn.Kinds.{In}
 use borrow.Fn.PlainCycle.{Measures, is, falls, and}
-use Rattle.engine.proofs.update.Reads as update
-use Rattle.engine.proofs.update.Kinds as update-kinds
-use Rattle.engine.proofs.+update.Lts-update as update-lts
+use Rattle.updates.proofs.update.Reads as update
+use Rattle.updates.proofs.update.Kinds as update-kinds
+use Rattle.updates.proofs.+update.Lts-update as update-lts
 use Rattle.queue.proofs.min_key.Reads as min-key-reads
 use Rattle.queue.proofs.parent_of.Reads as parent-of-reads
 use Rattle.queue.proofs.write.Reads as write-reads
-use Rattle.engine.proofs.+update.{statement}
-use Rattle.engine.proofs.+update.Tie.{close}
+use Rattle.updates.proofs.+update.{statement}
+use Rattle.updates.proofs.+update.Tie.{close}
 
 abbrev μ-update : Measures 3 update-kinds.ps ℕ
 μ-update κs a = a .1 .1 .1 .0 .0

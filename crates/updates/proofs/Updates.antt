@@ -27,8 +27,8 @@ use Rattle.queue.specs.Rows.{rowCount, rowTail, rowLeaf, rowNext}
 use Rattle.queue.specs.Trees.{Counted, QueuesOk, Written}
 use Rattle.queue.specs.Links.{stepAt}
 use Rattle.queue.proofs.Links.{Walk, walk-start, walk-step, walk-end, walk-part, walk-falls}
-use Rattle.engine.specs.Tables.{ArcRows, ArcLinks}
-use Rattle.engine.specs.States.{queuesOf, Updating, Updatable, UpdatingArc, UpdatingOutgoing, Queued}
+use Rattle.slices.specs.Tables.{ArcRows, ArcLinks}
+use Rattle.slices.specs.States.{queuesOf, Updating, Updatable, UpdatingArc, UpdatingOutgoing, Queued}
 
 -- AN ITEM OF AN INNER REGION
 module _ {d : Division} {rows own keys winners : List ℕ} {count r x k : ℕ} (U : Updating d rows (queuesOf own keys count) winners r x k) where

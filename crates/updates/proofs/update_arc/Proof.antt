@@ -1,8 +1,8 @@
 -- `update_arc` meets its contract: the arc's own key is its leaf's smallest. Assumes nothing.
 use borrow.Author.Needs.{needs}
-use Rattle.engine.proofs.Updates.{arc-count-fits, arc-stops, leaf-parent-asks, arc-climb-asks, arc-climbed}
-use Rattle.engine.proofs.update_arc.Statement.{statement}
-use Rattle.engine.proofs.update_arc.Tie as tie
+use Rattle.updates.proofs.Updates.{arc-count-fits, arc-stops, leaf-parent-asks, arc-climb-asks, arc-climbed}
+use Rattle.updates.proofs.update_arc.Statement.{statement}
+use Rattle.updates.proofs.update_arc.Tie as tie
 
 cast-i : tie.Need-cast-i
 cast-i c = search needs

@@ -4,10 +4,10 @@ use mathlib.Core.Path.{sym, _∙_}
 use native.Mathlib.Omega.{arith}
 use Rattle.procedure.specs.Graph.{Graph, arcs}
 use Rattle.procedure.specs.Division.{Division}
-use Rattle.engine.proofs.Updates.{Spread, spread-start, spread-row-in, spread-asks, spread-falls, spread-step, spread-end}
+use Rattle.updates.proofs.Updates.{Spread, spread-start, spread-row-in, spread-asks, spread-falls, spread-step, spread-end}
 use Rattle.procedure.specs.State.{Queues}
-use Rattle.engine.proofs.update_outgoing.Statement.{statement}
-use Rattle.engine.proofs.update_outgoing.Tie as tie
+use Rattle.updates.proofs.update_outgoing.Statement.{statement}
+use Rattle.updates.proofs.update_outgoing.Tie as tie
 
 abbrev Inv-loop : tie.InvT-loop
 Inv-loop rows arcs firsts own₀ keys₀ winners₀ key count none a₀ n₀ own keys winners a n =

@@ -11,8 +11,8 @@ use Rattle.procedure.specs.Queues.{update, updateArc, updateOutgoing}
 use Rattle.procedure.specs.WellFormed.{GraphOk, DivisionOk}
 use Rattle.theory.specs.Counts.{Small}
 use Rattle.queue.specs.Trees.{LaidOut, QueuesOk}
-use Rattle.engine.specs.declared.Counts.{Counts}
-use Rattle.engine.specs.Tables.{Tables, ArcRows, ArcLinks, RegionRows, Tabled}
+use Rattle.slices.specs.declared.Counts.{Counts}
+use Rattle.slices.specs.Tables.{Tables, ArcRows, ArcLinks, RegionRows, Tabled}
 
 -- a round, a leaf and an inner region counted
 abbrev pub roundCounted : Counts → Counts

@@ -1,0 +1,88 @@
+// The slices that a run reads and changes: what they represent, in specs/, and how their entries are read, written and counted.
+ghost use mathlib.Core.Path.{_≡_};
+ghost use Prim.Native.Nat.{_+_, _-_, _*_, _≤_, _<_};
+ghost use lib.ListN.{length, set};
+ghost use Rattle.indices.specs.Columns.{at};
+ghost use Rattle.slices.specs.Tables.{arcEntry, heightEntry};
+ghost use Rattle.slices.specs.States.{roundCounted, leafCounted, innerCounted};
+use sheet::Arc;
+use sheet::Node;
+use sheet::Region;
+
+// How much a run has done so far.
+pub struct Counts {
+    pub rounds: u64,
+    pub leaves: u64,
+    pub inner: u64,
+    pub updates: u64,
+}
+
+// In place of an inner region's arc.
+pub const INNER: u16 = 65535;
+
+pub fn count_round(c: Counts) -> Counts
+    requires { ⌜ c .rounds + 1 < 18446744073709551616 ⌝ }
+    ensures { λ n. ⌜ n ≡ roundCounted c ⌝ }
+{
+    Counts {
+        rounds: c.rounds + 1,
+        leaves: c.leaves,
+        inner: c.inner,
+        updates: c.updates,
+    }
+}
+
+// A leaf, with the updates after its working.
+pub fn count_leaf(c: Counts, updates: u64) -> Counts
+    requires { ⌜ c .leaves + 1 < 18446744073709551616 ⌝ }
+    ensures { λ n. ⌜ n ≡ leafCounted c updates ⌝ }
+{
+    Counts {
+        rounds: c.rounds,
+        leaves: c.leaves + 1,
+        inner: c.inner,
+        updates: updates,
+    }
+}
+
+pub fn count_inner(c: Counts) -> Counts
+    requires { ⌜ c .inner + 1 < 18446744073709551616 ⌝ }
+    ensures { λ n. ⌜ n ≡ innerCounted c ⌝ }
+{
+    Counts {
+        rounds: c.rounds,
+        leaves: c.leaves,
+        inner: c.inner + 1,
+        updates: c.updates,
+    }
+}
+
+// The arc of region r, INNER where it is inner.
+pub fn arc_of(regions: &[u16], r: Region) -> Arc
+    requires { ⌜ 2 * r .0 + 1 < length (now regions) ⌝ }
+    ensures { λ a. ⌜ a .0 ≡ arcEntry (now (regions .entry)) (r .0) ⌝ }
+{
+    let i = 2 * (r.0 as usize);
+    Arc(regions[i])
+}
+
+// The span of region r, which is inner: that of its height.
+pub fn span_of(spans: &[u32], regions: &[u16], r: Region) -> u32
+    requires { ⌜ (2 * r .0 + 1 < length (now regions)) × (0 < heightEntry (now regions) (r .0)) × (heightEntry (now regions) (r .0) ≤ length (now spans)) ⌝ }
+    ensures { λ n. ⌜ n ≡ at (now (spans .entry)) (heightEntry (now (regions .entry)) (r .0) - 1) ⌝ }
+{
+    let i = 2 * (r.0 as usize) + 1;
+    let height = regions[i] as usize;
+    spans[height - 1]
+}
+
+// The label of v becomes `label`, and a its predecessor.
+pub fn lower_label(labels: &mut [u32], predecessors: &mut [u32], v: Node, label: u32, a: Arc)
+    requires { ⌜ (v .0 < length (now labels)) × (v .0 < length (now predecessors)) ⌝ }
+    ensures { λ _. ⌜ (now (labels .exit) ≡ set (now (labels .entry)) (v .0) label) × (now (predecessors .exit) ≡ set
+        (now (predecessors .entry)) (v .0) (a .0)) ⌝ }
+{
+    let i = v.0 as usize;
+    labels[i] = label;
+    predecessors[i] = a.0 as u32;
+}

@@ -1,0 +1,2 @@
+pub mod Updates
+pub mod Leaves

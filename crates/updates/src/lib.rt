@@ -1,0 +1,164 @@
+// Updates, from a leaf up, and the working of a leaf, over slices that the caller lends. Each function computes its definition.
+ghost use mathlib.Core.Path.{_≡_};
+ghost use mathlib.Core.Bool.{true};
+ghost use mathlib.Core.List.{List};
+ghost use Prim.Native.Nat.{ℕ, _<_};
+ghost use Rattle.procedure.specs.Graph.{Graph};
+ghost use Rattle.procedure.specs.Division.{Division, isLeaf};
+ghost use Rattle.procedure.specs.Queues.{update, updateArc, updateOutgoing};
+ghost use Rattle.procedure.specs.Procedure.{processLeaf};
+ghost use Rattle.slices.specs.Tables.{tablesOf};
+ghost use Rattle.slices.specs.States.{queuesOf, stateOf};
+ghost use Rattle.slices.specs.States.{Updating, UpdatingArc, UpdatingOutgoing, Queued, Processing, Computed};
+use queue::NONE;
+use sheet::Arc;
+use sheet::Node;
+use sheet::Region;
+use slices::Counts;
+
+fn wide(x: u32) -> u64
+    ensures { λ r. ⌜ (r ≡ x) × (r < 4294967296) ⌝ }
+{
+    x as u64
+}
+
+// Updates item `item` of region r, which is inner, with a key. Own keys are the leaves', so they do not travel up.
+fn update(
+    rows: &[u16],
+    keys: &mut [u32],
+    winners: &mut [u16],
+    r: Region,
+    item: Region,
+    key: u32,
+    count: u64,
+) -> u64
+    requires { ⌜ ((d : Division) × (own : List ℕ) × Updating d (now rows) (queuesOf own (now keys) count) (now winners) (r .0) (item .0) key) ⌝ }
+    ensures { λ n. ⌜ ((d : Division) (own : List ℕ) → Updating d (now (rows .entry)) (queuesOf own (now (keys .entry)) count)
+        (now (winners .entry)) (r .0) (item .0) key
+        → Queued d (now (rows .entry)) (update d (r .0) (item .0) key (queuesOf own (now (keys .entry)) count))
+        (queuesOf own (now (keys .exit)) n) (now (winners .exit))) ⌝ }
+{
+    let old = queue::min_key(rows, keys, winners, r);
+    queue::write(rows, keys, winners, item, key);
+    let new = queue::min_key(rows, keys, winners, r);
+    if r.0 == 0 {
+        return count + 1;
+    }
+    if old <= new {
+        return count + 1;
+    }
+    update(
+        rows,
+        keys,
+        winners,
+        queue::parent_of(rows, r),
+        r,
+        key,
+        count + 1,
+    )
+}
+
+// Updates arc a: its own key, and from its leaf's parent on where that key fell.
+fn update_arc(
+    rows: &[u16],
+    arcs: &[u16],
+    own: &mut [u32],
+    keys: &mut [u32],
+    winners: &mut [u16],
+    a: Arc,
+    key: u32,
+    count: u64,
+) -> u64
+    requires { ⌜ (let q = queuesOf (now own) (now keys) count in
+        (g : Graph) × (d : Division) × UpdatingArc g d (now rows) (now arcs) q (now winners) (a .0) key) ⌝ }
+    ensures { λ n. ⌜ (let q = queuesOf (now (own .entry)) (now (keys .entry)) count in
+        (g : Graph) (d : Division) → UpdatingArc g d (now (rows .entry)) (now (arcs .entry)) q (now (winners .entry)) (a .0) key
+        → Queued d (now (rows .entry)) (updateArc d (a .0) key q) (queuesOf (now (own .exit)) (now (keys .exit)) n) (now (winners .exit))) ⌝ }
+{
+    let i = a.0 as usize;
+    let old = own[i];
+    own[i] = key;
+    if old <= key {
+        return count + 1;
+    }
+    let leaf = queue::leaf_of(arcs, a);
+    update(
+        rows,
+        keys,
+        winners,
+        queue::parent_of(rows, leaf),
+        leaf,
+        key,
+        count + 1,
+    )
+}
+
+// Updates the arcs that leave v, in arc order.
+pub fn update_outgoing(
+    rows: &[u16],
+    arcs: &[u16],
+    firsts: &[u16],
+    own: &mut [u32],
+    keys: &mut [u32],
+    winners: &mut [u16],
+    v: Node,
+    key: u32,
+    count: u64,
+) -> u64
+    requires { ⌜ (let q = queuesOf (now own) (now keys) count in
+        (g : Graph) × (d : Division) × UpdatingOutgoing g d (now rows) (now arcs) (now firsts) q (now winners) (v .0) key) ⌝ }
+    ensures { λ n. ⌜ (let q = queuesOf (now (own .entry)) (now (keys .entry)) count in
+        (g : Graph) (d : Division) → UpdatingOutgoing g d (now (rows .entry)) (now (arcs .entry)) (now (firsts .entry)) q (now (winners .entry)) (v .0) key
+        → Queued d (now (rows .entry)) (updateOutgoing d (g .tails) (v .0) key q) (queuesOf (now (own .exit)) (now (keys .exit)) n) (now (winners .exit))) ⌝ }
+{
+    let none = own.len() as u16;
+    let mut a = queue::first_of(firsts, v);
+    let mut n = count;
+    while a.0 < none {
+        n = update_arc(rows, arcs, own, keys, winners, a, key, n);
+        a = queue::next_of(arcs, a);
+    }
+    n
+}
+
+// Works the leaf r.
+pub fn process_leaf(
+    rows: &[u16],
+    arcs: &[u16],
+    firsts: &[u16],
+    lengths: &[u32],
+    regions: &[u16],
+    labels: &mut [u32],
+    predecessors: &mut [u32],
+    own: &mut [u32],
+    keys: &mut [u32],
+    winners: &mut [u16],
+    r: Region,
+    c: Counts,
+) -> Counts
+    requires { ⌜ (let s = stateOf (now labels) (now predecessors) (now own) (now keys) c in
+        (g : Graph) × (d : Division) × (spans : List ℕ) × Processing g d (tablesOf (now rows) (now arcs) (now firsts) (now lengths) spans (now regions)) s
+        (now winners) (r .0) (processLeaf g d (r .0) s) × isLeaf d (r .0) ≡ true) ⌝ }
+    ensures { λ n. ⌜ (let s = stateOf (now (labels .entry)) (now (predecessors .entry)) (now (own .entry)) (now (keys .entry)) c in
+        let s′ = stateOf (now (labels .exit)) (now (predecessors .exit)) (now (own .exit)) (now (keys .exit)) n in
+        (g : Graph) (d : Division) (spans : List ℕ) → Processing g d (tablesOf (now (rows .entry)) (now (arcs .entry)) (now (firsts .entry))
+        (now (lengths .entry)) spans (now (regions .entry))) s (now (winners .entry)) (r .0) (processLeaf g d (r .0) s) → isLeaf d (r .0) ≡ true
+        → Computed g d (tablesOf (now (rows .entry)) (now (arcs .entry)) (now (firsts .entry)) (now (lengths .entry)) spans (now (regions .entry)))
+        (processLeaf g d (r .0) s) s′ (now (winners .exit))) ⌝ }
+{
+    let a = slices::arc_of(regions, r);
+    let i = a.0 as usize;
+    let tail = queue::tail_of(arcs, a).0 as usize;
+    let v = queue::head_of(arcs, a);
+    let head = v.0 as usize;
+    let sum = wide(labels[tail]) + wide(lengths[i]);
+    if wide(labels[head]) <= sum {
+        own[i] = NONE;
+        return slices::count_leaf(c, c.updates);
+    }
+    let key = sum as u32;
+    slices::lower_label(labels, predecessors, v, key, a);
+    let n = update_outgoing(rows, arcs, firsts, own, keys, winners, v, key, c.updates);
+    own[i] = NONE;
+    slices::count_leaf(c, n)
+}
