@@ -180,9 +180,9 @@ pub fn start(
         → Computed g d (tablesOf (now (rows .entry)) (now (arcs .entry)) (now (firsts .entry)) lengths spans regions) (start g d spans) s
         (now (winners .exit))) ⌝ }
 {
-    queue::fill_keys(labels, NONE);
-    queue::fill_keys(predecessors, NONE);
-    queue::fill_keys(own, NONE);
+    rows::fill_keys(labels, NONE);
+    rows::fill_keys(predecessors, NONE);
+    rows::fill_keys(own, NONE);
     queue::clear(rows, keys, winners);
     let i = source.0 as usize;
     labels[i] = 0;

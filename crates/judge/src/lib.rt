@@ -8,8 +8,8 @@ ghost use Rattle.refusals.specs.Form.{wrongSize, outOfOrder, bitSet};
 ghost use Rattle.refusals.specs.Judgement.{formRefusals, judgement};
 ghost use Rattle.judge.specs.Said.{said};
 use division::WordTest;
-use sheet::Fault;
 use fields::ArcTest;
+use sheet::Fault;
 
 pub enum Judged {
     Accepted,

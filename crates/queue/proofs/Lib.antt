@@ -1,9 +1,6 @@
-pub mod Pairs
 pub mod Comparison
+pub mod Pairs
 pub mod Seats
 pub mod Trees
-pub mod Repair
 pub mod Reading
-pub mod Filled
-pub mod Planning
-pub mod Links
+pub mod Repair

@@ -11,7 +11,7 @@ use Rattle.sheet.specs.Words.{top}
 use Rattle.procedure.specs.Division.{Division, regions, isLeaf}
 use Rattle.procedure.specs.Queues.{minItem, minKey}
 use Rattle.theory.proofs.Chosen.{minItem-first, minKey-item, minKey-none}
-use Rattle.queue.specs.Rows.{field, rowCount}
+use Rattle.rows.specs.Rows.{field, rowCount}
 use Rattle.queue.specs.Trees.{childCount, Counted, QueuesOk}
 use Rattle.queue.proofs.Seats.{tree-room}
 use Rattle.queue.proofs.Trees.{minItem-place, minItem-childless}

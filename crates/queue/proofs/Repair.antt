@@ -9,7 +9,7 @@ use Rattle.indices.specs.Columns.{at}
 use Rattle.indices.proofs.Steps.{eq-or-ne, lt-or-le}
 use Rattle.procedure.specs.Division.{Division, regions, parent}
 use Rattle.theory.proofs.Chosen.{Child}
-use Rattle.queue.specs.Rows.{field}
+use Rattle.rows.specs.Rows.{field}
 use Rattle.queue.specs.Trees.{childCount, treeStart, Decided, Counted, LaidOut, QueuesOk, ValidBelow}
 use Rattle.queue.proofs.Seats.{tree-room, seat-low, seat-high, parent-in}
 use Rattle.queue.proofs.Trees.{here, above-le, above-cases, OpenAbove, ValidBut, valid-all, decided, written}

@@ -1,3 +1,1 @@
-pub mod Rows
 pub mod Trees
-pub mod Links

@@ -12,7 +12,7 @@ use Rattle.indices.specs.Steps.{if_then_else_}
 use Rattle.indices.specs.Tests.{count}
 use Rattle.procedure.specs.Division.{Division, regions, parent, isLeaf, isChild}
 use Rattle.procedure.specs.Queues.{before, minKey}
-use Rattle.queue.specs.Rows.{field}
+use Rattle.rows.specs.Rows.{field}
 
 module _ (d : Division) where
   -- how many children r has

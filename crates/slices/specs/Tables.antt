@@ -9,8 +9,8 @@ use Rattle.sheet.specs.Limits.{mostArcsEachWay}
 use Rattle.procedure.specs.Graph.{Graph, arcs, tail, head}
 use Rattle.procedure.specs.Division.{Division, regions, arcOf, isLeaf, leafOf, height}
 use Rattle.procedure.specs.WellFormed.{WellFormed}
-use Rattle.queue.specs.Rows.{rowTail, rowHead, rowLeaf, rowNext}
-use Rattle.queue.specs.Links.{Links}
+use Rattle.rows.specs.Rows.{rowTail, rowHead, rowLeaf, rowNext}
+use Rattle.rows.specs.Links.{Links}
 
 -- The rows of the regions' queues, of the arcs and of the regions, each node's first arc, each arc's length, each height's span.
 pub record Tables : Type 0 where

@@ -16,7 +16,7 @@ use Rattle.procedure.specs.Queues.{updateOutgoing}
 use Rattle.procedure.specs.Procedure.{relax, clearKey, processLeaf}
 use Rattle.theory.proofs.Process.{sumBy, lowered, relax-falls, relax-stays}
 use Rattle.theory.proofs.Grows.{relax-grows}
-use Rattle.queue.specs.Rows.{rowCount, rowTail, rowHead}
+use Rattle.rows.specs.Rows.{rowCount, rowTail, rowHead}
 use Rattle.slices.specs.declared.Counts.{Counts}
 use Rattle.slices.specs.Tables.{Tables, arcEntry}
 use Rattle.slices.specs.States.{leafCounted, queuesOf, stateOf, Updatable, UpdatingOutgoing, Queued, Represents, Processing, Computed}

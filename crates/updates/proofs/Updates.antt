@@ -23,10 +23,10 @@ use Rattle.procedure.specs.WellFormed.{DivisionOk}
 use Rattle.theory.proofs.Chosen.{minKey-leaf}
 use Rattle.theory.proofs.Update.{write-leaf, write-inner, write-counts, update-grows, update-rises, update-stops, update-elim}
 use Rattle.theory.proofs.Outgoing.{arc-leaf-test}
-use Rattle.queue.specs.Rows.{rowCount, rowTail, rowLeaf, rowNext}
+use Rattle.rows.specs.Rows.{rowCount, rowTail, rowLeaf, rowNext}
 use Rattle.queue.specs.Trees.{Counted, QueuesOk, Written}
-use Rattle.queue.specs.Links.{stepAt}
-use Rattle.queue.proofs.Links.{Walk, walk-start, walk-step, walk-end, walk-part, walk-falls}
+use Rattle.rows.specs.Links.{stepAt}
+use Rattle.rows.proofs.Links.{Walk, walk-start, walk-step, walk-end, walk-part, walk-falls}
 use Rattle.slices.specs.Tables.{ArcRows, ArcLinks}
 use Rattle.slices.specs.States.{queuesOf, Updating, Updatable, UpdatingArc, UpdatingOutgoing, Queued}
 

@@ -81,7 +81,7 @@ fn update_arc(
     if old <= key {
         return count + 1;
     }
-    let leaf = queue::leaf_of(arcs, a);
+    let leaf = rows::leaf_of(arcs, a);
     update(
         rows,
         keys,
@@ -112,11 +112,11 @@ pub fn update_outgoing(
         → Queued d (now (rows .entry)) (updateOutgoing d (g .tails) (v .0) key q) (queuesOf (now (own .exit)) (now (keys .exit)) n) (now (winners .exit))) ⌝ }
 {
     let none = own.len() as u16;
-    let mut a = queue::first_of(firsts, v);
+    let mut a = rows::first_of(firsts, v);
     let mut n = count;
     while a.0 < none {
         n = update_arc(rows, arcs, own, keys, winners, a, key, n);
-        a = queue::next_of(arcs, a);
+        a = rows::next_of(arcs, a);
     }
     n
 }
@@ -148,8 +148,8 @@ pub fn process_leaf(
 {
     let a = slices::arc_of(regions, r);
     let i = a.0 as usize;
-    let tail = queue::tail_of(arcs, a).0 as usize;
-    let v = queue::head_of(arcs, a);
+    let tail = rows::tail_of(arcs, a).0 as usize;
+    let v = rows::head_of(arcs, a);
     let head = v.0 as usize;
     let sum = wide(labels[tail]) + wide(lengths[i]);
     if wide(labels[head]) <= sum {

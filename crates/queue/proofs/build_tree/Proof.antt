@@ -4,7 +4,7 @@ use mathlib.Core.Path.{_≡_, sym, _∙_}
 use borrow.Author.Needs.{needs}
 use native.Mathlib.Omega.{arith}
 use Rattle.procedure.specs.Division.{Division}
-use Rattle.queue.specs.Rows.{field}
+use Rattle.rows.specs.Rows.{field}
 use Rattle.queue.proofs.Repair.{same-regions, Building, building-start, building-bounds, building-step, building-end}
 use Rattle.queue.proofs.Reading.{row-in}
 use Rattle.queue.proofs.build_tree.Statement.{statement}

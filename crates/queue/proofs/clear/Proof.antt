@@ -2,7 +2,7 @@
 use mathlib.Core.Path.{_∙_}
 use borrow.Author.Needs.{needs}
 use Rattle.sheet.specs.Words.{top}
-use Rattle.queue.proofs.Filled.{filled-length}
+use Rattle.rows.proofs.Filled.{filled-length}
 use Rattle.queue.proofs.clear.Statement.{statement}
 use Rattle.queue.proofs.clear.Tie as tie
 

@@ -1,7 +1,7 @@
 -- `parent_of` meets its contract: the first entry of a row is the parent. Assumes nothing.
 use mathlib.Core.Path.{_∙_}
 use native.Mathlib.Omega.{arith}
-use Rattle.queue.specs.Rows.{field}
+use Rattle.rows.specs.Rows.{field}
 use Rattle.queue.proofs.Repair.{same-regions}
 use Rattle.queue.proofs.Reading.{row-in}
 use Rattle.queue.proofs.parent_of.Statement.{statement}

@@ -5,7 +5,7 @@ use borrow.Author.Needs.{needs}
 use native.Mathlib.Omega.{arith}
 use lib.ListN.{length-set}
 use Rattle.procedure.specs.Division.{Division}
-use Rattle.queue.specs.Rows.{field}
+use Rattle.rows.specs.Rows.{field}
 use Rattle.queue.proofs.Repair.{same-regions, Repairing, repair-start, repair-bounds, repair-step, repair-end}
 use Rattle.queue.proofs.Reading.{row-in}
 use Rattle.queue.proofs.write.Statement.{statement}

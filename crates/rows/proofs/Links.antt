@@ -15,9 +15,9 @@ use Rattle.indices.proofs.Steps.{eq-or-ne, set-elim}
 use Rattle.procedure.specs.Division.{Division}
 use Rattle.procedure.specs.State.{Queues}
 use Rattle.procedure.specs.Queues.{updateArc, updateOutgoing}
-use Rattle.queue.specs.Rows.{field, rowCount, rowTail, rowNext}
-use Rattle.queue.specs.Links.{nextFor, nextFrom, Links, stepAt, Linkable, Linked}
-use Rattle.queue.proofs.Filled.{filled-at, filled-length}
+use Rattle.rows.specs.Rows.{field, rowCount, rowTail, rowNext}
+use Rattle.rows.specs.Links.{nextFor, nextFrom, Links, stepAt, Linkable, Linked}
+use Rattle.rows.proofs.Filled.{filled-at, filled-length}
 
 module _ (column : ℕ → ℕ) where
   -- THE NEXT INDEX WITH A VALUE

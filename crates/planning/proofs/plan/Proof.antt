@@ -1,7 +1,7 @@
 -- `plan` meets its contract: the three passes, one after the other. Assumes nothing.
 use borrow.Author.Needs.{needs}
-use Rattle.queue.proofs.plan.Statement.{statement}
-use Rattle.queue.proofs.plan.Tie as tie
+use Rattle.planning.proofs.plan.Statement.{statement}
+use Rattle.planning.proofs.plan.Tie as tie
 
 count-children-requires : tie.Need-count-children-requires
 count-children-requires c κs = search needs

@@ -6,7 +6,7 @@ use lib.ListN.{length}
 use lib.Dec.{eqb}
 use Rattle.indices.specs.Columns.{at}
 use Rattle.indices.specs.Steps.{if_then_else_}
-use Rattle.queue.specs.Rows.{rowCount, rowTail, rowHead, rowLeaf, rowNext}
+use Rattle.rows.specs.Rows.{rowCount, rowTail, rowHead, rowLeaf, rowNext}
 
 module _ (column : ℕ → ℕ) where
   -- the first of n indices from a on at which the column has v, and a + n where there is none

@@ -4,12 +4,12 @@ use mathlib.Core.Path.{sym, ap, _∙_}
 use mathlib.Core.List.{List}
 use native.Mathlib.Omega.{arith}
 use Rattle.procedure.specs.Division.{Division, regions}
-use Rattle.queue.specs.Rows.{field}
+use Rattle.rows.specs.Rows.{field}
 use Rattle.queue.specs.Trees.{Ranked}
-use Rattle.queue.proofs.Planning.{Laying, laying-start, laying-fits, laying-step, laying-end}
+use Rattle.planning.proofs.Planning.{Laying, laying-start, laying-fits, laying-step, laying-end}
 use Rattle.queue.proofs.Reading.{row-in}
-use Rattle.queue.proofs.lay_trees.Statement.{statement}
-use Rattle.queue.proofs.lay_trees.Tie as tie
+use Rattle.planning.proofs.lay_trees.Statement.{statement}
+use Rattle.planning.proofs.lay_trees.Tie as tie
 
 abbrev Inv-loop : tie.InvT-loop
 Inv-loop rows₀ n start₀ r₀ rows start r = (d : Division) → Ranked d rows₀ → Laying d rows start r

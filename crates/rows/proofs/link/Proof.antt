@@ -4,10 +4,10 @@ use mathlib.Core.Path.{_∙_}
 use borrow.Author.Needs.{needs}
 use native.Mathlib.Omega.{arith}
 use lib.ListN.{length}
-use Rattle.queue.proofs.Filled.{filled-length}
-use Rattle.queue.proofs.Links.{Linking, linking-start, link-bounds, linking-step, linking-end}
-use Rattle.queue.proofs.link.Statement.{statement}
-use Rattle.queue.proofs.link.Tie as tie
+use Rattle.rows.proofs.Filled.{filled-length}
+use Rattle.rows.proofs.Links.{Linking, linking-start, link-bounds, linking-step, linking-end}
+use Rattle.rows.proofs.link.Statement.{statement}
+use Rattle.rows.proofs.link.Tie as tie
 
 abbrev Inv-loop : tie.InvT-loop
 Inv-loop arcs₀ firsts₀ m a₀ arcs firsts a = Linking arcs₀ (length firsts₀) arcs firsts a

@@ -15,11 +15,11 @@ use Rattle.indices.proofs.Steps.{eq-or-ne, set-elim}
 use Rattle.procedure.specs.Division.{Division, regions, parent, isChild}
 use Rattle.procedure.specs.WellFormed.{DivisionOk}
 use Rattle.theory.proofs.Chosen.{Child, parent-child}
-use Rattle.queue.specs.Rows.{field, rowCount}
+use Rattle.rows.specs.Rows.{field, rowCount}
 use Rattle.queue.specs.Trees.{childCount, lowerSiblings, treeStart, seat, place, ParentsOf, Counted, Ranked, Started, LaidOut}
 use Rattle.queue.proofs.Seats.{child-passes, other-fails, start-next, start-first, tree-room, seat-high, seat-one}
 use Rattle.queue.proofs.Trees.{place-in, place-same, place-other, named-set}
-use Rattle.queue.proofs.Filled.{filled-at, filled-length}
+use Rattle.rows.proofs.Filled.{filled-at, filled-length}
 
 -- to prove P of an entry after a store in the same column, prove it of the value stored and of the entries of other rows
 field-elim : (P : ℕ → Type 0) (rows : List ℕ) (i j k x : ℕ) → 4 * i + k < length rows → (j ≡ i → P x) → (j ≢ i → P (field rows j k))

@@ -4,12 +4,12 @@ use mathlib.Core.Path.{sym, _∙_}
 use borrow.Author.Needs.{needs}
 use native.Mathlib.Omega.{arith}
 use Rattle.procedure.specs.Division.{Division, regions}
 use Rattle.queue.specs.Trees.{Started}
 use Rattle.queue.proofs.Repair.{same-regions}
-use Rattle.queue.proofs.Planning.{Seating, seating-start, seat-row, seat-fits, seat-bounds, seating-step, seating-end}
+use Rattle.planning.proofs.Planning.{Seating, seating-start, seat-row, seat-fits, seat-bounds, seating-step, seating-end}
 use Rattle.queue.proofs.Reading.{row-in}
-use Rattle.queue.proofs.seat_children.Statement.{statement}
-use Rattle.queue.proofs.seat_children.Tie as tie
+use Rattle.planning.proofs.seat_children.Statement.{statement}
+use Rattle.planning.proofs.seat_children.Tie as tie
 
 abbrev Inv-loop : tie.InvT-loop
 Inv-loop rows₀ winners₀ n c₀ rows winners c = (d : Division) → Started d rows₀ → Seating d rows winners c

@@ -4,10 +4,10 @@ use mathlib.Core.Path.{sym, _∙_}
 use borrow.Author.Needs.{needs}
 use native.Mathlib.Omega.{arith}
 use Rattle.procedure.specs.Division.{Division, regions}
 use Rattle.queue.specs.Trees.{ParentsOf}
-use Rattle.queue.proofs.Planning.{Counting, counting-start, count-row, count-bounds, counting-step, counting-end}
-use Rattle.queue.proofs.count_children.Statement.{statement}
-use Rattle.queue.proofs.count_children.Tie as tie
+use Rattle.planning.proofs.Planning.{Counting, counting-start, count-row, count-bounds, counting-step, counting-end}
+use Rattle.planning.proofs.count_children.Statement.{statement}
+use Rattle.planning.proofs.count_children.Tie as tie
 
 abbrev Inv-loop : tie.InvT-loop
 Inv-loop parents rows₀ n c₀ rows c = (d : Division) → ParentsOf d parents → Counting d rows c

@@ -3,9 +3,9 @@ use Prim.Native.Nat.{_-_}
 use borrow.Author.Needs.{needs}
 use native.Mathlib.Omega.{arith}
 use lib.ListN.{length, length-set}
-use Rattle.queue.proofs.Filled.{Filling, filling-start, filling-step, filling-end}
-use Rattle.queue.proofs.fill_keys.Statement.{statement}
-use Rattle.queue.proofs.fill_keys.Tie as tie
+use Rattle.rows.proofs.Filled.{Filling, filling-start, filling-step, filling-end}
+use Rattle.rows.proofs.fill_keys.Statement.{statement}
+use Rattle.rows.proofs.fill_keys.Tie as tie
 
 abbrev Inv-loop : tie.InvT-loop
 Inv-loop keys₀ k i₀ keys i = Filling keys₀ k keys i

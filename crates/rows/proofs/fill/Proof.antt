@@ -3,9 +3,9 @@ use Prim.Native.Nat.{_-_}
 use borrow.Author.Needs.{needs}
 use native.Mathlib.Omega.{arith}
 use lib.ListN.{length, length-set}
-use Rattle.queue.proofs.Filled.{Filling, filling-start, filling-step, filling-end}
-use Rattle.queue.proofs.fill.Statement.{statement}
-use Rattle.queue.proofs.fill.Tie as tie
+use Rattle.rows.proofs.Filled.{Filling, filling-start, filling-step, filling-end}
+use Rattle.rows.proofs.fill.Statement.{statement}
+use Rattle.rows.proofs.fill.Tie as tie
 
 abbrev Inv-loop : tie.InvT-loop
 Inv-loop a₀ v i₀ a i = Filling a₀ v a i
