@@ -16,22 +16,22 @@ use Rattle.sheet.specs.Words.{words}
 use Rattle.sheet.specs.Regions.{regionCount, isLeaf, parent, height}
 use Rattle.sheet.proofs.Highest.{Highest, highestFrom, highest-start, highest-turn, highest-le, height-highest}
 use Rattle.engine.specs.Tables.{arcEntry, heightEntry}
-use Rattle.layout.specs.Layout.{Nested, arcInRow, Flat, Raised}
+use Rattle.layout.specs.Layout.{Nested, arcInRow, ArcsEntered, HeightsEntered}
 
 -- the largest height of a child of q among the regions from i on
-abbrev highest : List ℕ → ℕ → ℕ → ℕ
-highest d i q = highestFrom (isLeaf d) (parent d) (regionCount d) i q
+abbrev highestOf : List ℕ → ℕ → ℕ → ℕ
+highestOf d i q = highestFrom (isLeaf d) (parent d) (regionCount d) i q
 
 -- the regions above r have their heights
-pub record Rising (d rows : List ℕ) (r : ℕ) : Type 0 where
+pub record EnteringHeights (d rows : List ℕ) (r : ℕ) : Type 0 where
   pub within : r ≤ words d
   pub all : length rows ≡ 2 * regionCount d
   pub arcs : (q : ℕ) → q < regionCount d → arcEntry rows q ≡ arcInRow d q
   pub above : (q : ℕ) → r < q → q < regionCount d → heightEntry rows q ≡ height d q
-  pub rest : (q : ℕ) → q ≤ r → heightEntry rows q ≡ highest d (suc r) q
+  pub rest : (q : ℕ) → q ≤ r → heightEntry rows q ≡ highestOf d (suc r) q
 
-pub rising-start : {d rows : List ℕ} → Flat d rows → Rising d rows (words d)
-rising-start {d} {rows} F = record {
+pub heights-none : {d rows : List ℕ} → ArcsEntered d rows → EnteringHeights d rows (words d)
+heights-none {d} {rows} F = record {
   within = omega arith;
   all = F .all;
   arcs = F .arcs;
@@ -39,18 +39,19 @@ rising-start {d} {rows} F = record {
   rest =
       λ q l.
       let none = highest-start (isLeaf d) (parent d) (regionCount d) (regionCount d) (words d) refl in
-      F .flat q (omega arith) ∙ sym (getD-replicate (regionCount d) q 0 0 (omega arith))
+      F .zeros q (omega arith) ∙ sym (getD-replicate (regionCount d) q 0 0 (omega arith))
       ∙ none .entry q (simp length-replicate (omega arith));
 }
 
-module _ {d rows : List ℕ} {r : ℕ} (ok : Nested d) (R : Rising d rows r) where
-  -- so far no entry is above the number of regions
-  pub rising-fits : (q : ℕ) → q ≤ r → heightEntry rows q < 65535
-  rising-fits q l = omega (arith, R .rest q l, highest-le (isLeaf d) (parent d) (regionCount d) (suc r) q, ok .few)
+module _ {d rows : List ℕ} {r : ℕ} (ok : Nested d) (R : EnteringHeights d rows r) where
+  -- no entry so far is above the number of regions
+  pub heights-fit : (q : ℕ) → q ≤ r → heightEntry rows q < 65535
+  heights-fit q l = omega (arith, R .rest q l, highest-le (isLeaf d) (parent d) (regionCount d) (suc r) q, ok .few)
 
   own-height : (own : ℕ) (leaf : Bool) → leaf ≡ isLeaf d r → own ≡ cond leaf 0 (suc (heightEntry rows r)) → own ≡ height d r
   own-height own leaf el eo =
-      eo ∙ rw (el, R .rest r (le-refl r)) (sym (height-highest (isLeaf d) (parent d) (regionCount d) (ok .nesting) (suc r) r (omega (arith, R .within)) (le-refl (suc r))))
+      eo ∙ rw (el, R .rest r (le-refl r))
+      (sym (height-highest (isLeaf d) (parent d) (regionCount d) (ok .nesting) (suc r) r (omega (arith, R .within)) (le-refl (suc r))))
 
   -- region r gets its height and hands it to its parent p
   module _ (p own x : ℕ) (leaf : Bool) (pos : 0 < r) (ep : p ≡ parent d r) (el : leaf ≡ isLeaf d r) (eo : own ≡ cond leaf 0 (suc (heightEntry rows r)))
@@ -99,9 +100,9 @@ module _ {d rows : List ℕ} {r : ℕ} (ok : Nested d) (R : Rising d rows r) whe
         (λ e. let same : q ≡ r = omega arith in own-height own leaf el eo ∙ ap (height d) (sym same))
         (λ n. R .above q (omega arith) h)
 
-    pub rising-step : Rising d (set (set rows (2 * r + 1) own) (2 * p + 1) x) (r - 1)
+    handed : EnteringHeights d (set (set rows (2 * r + 1) own) (2 * p + 1) x) (r - 1)
     unfolding rows₁
-    rising-step = record {
+    handed = record {
       within = omega (arith, R .within);
       all = simp length-set (R .all);
       arcs =
@@ -111,17 +112,27 @@ module _ {d rows : List ℕ} {r : ℕ} (ok : Nested d) (R : Rising d rows r) whe
       rest = λ q l. rest-after q l ∙ turned .entry q (simp length-set (omega (arith, best-long)));
     }
 
+-- Region r gets its height, one above the `highest` handed up to it if it is inner, and hands it to its parent p, which had `other`.
+pub heights-more : {d rows rows₁ rows₂ : List ℕ} {r p own x highest other : ℕ} {leaf : Bool} → Nested d → EnteringHeights d rows r → 0 < r
+    → p ≡ parent d r → leaf ≡ isLeaf d r → highest ≡ heightEntry rows r → own ≡ cond leaf 0 (suc highest) → rows₁ ≡ set rows (2 * r + 1) own
+    → other ≡ heightEntry rows₁ p → x ≡ max other own → rows₂ ≡ set rows₁ (2 * p + 1) x → EnteringHeights d rows₂ (r - 1)
+heights-more {d} {rows} {rows₁} {rows₂} {r} {p} {own} {x} {highest} {other} {leaf} ok R pos ep el eh eo e₁ et ex e₂ =
+    rw (e₂, e₁)
+    (handed ok R p own x leaf pos ep el (rw eh at eo) (ex ∙ ap (λ (h : ℕ). max h own) (et ∙ ap (λ (l : List ℕ). heightEntry l p) e₁)))
+
 -- region 0, which is inner, comes last
-pub rising-end : {d rows : List ℕ} {r : ℕ} (x : ℕ) → Nested d → Rising d rows r → r ≤ 0 → x ≡ suc (at rows 1) → Raised d (set rows 1 x)
-rising-end {d} {rows} {r} x ok R l e =
+pub heights-all : {d rows rows′ : List ℕ} {r x highest : ℕ} → Nested d → EnteringHeights d rows r → r ≤ 0 → highest ≡ heightEntry rows 0 → x ≡ suc highest
+    → rows′ ≡ set rows (2 * 0 + 1) x → HeightsEntered d rows′
+heights-all {d} {rows} {rows′} {r} {x} ok R l eh e e′ =
     let last : r ≡ 0 = omega arith in
-    let R₀ : Rising d rows 0 = rw last at R in
-    record {
+    let R₀ : EnteringHeights d rows 0 = rw last at R in
+    rw e′
+    (record {
       all = simp length-set (R .all);
       arcs = λ q h. getD-set-other rows 1 (2 * q) x 0 (omega arith) ∙ R .arcs q h;
       heights =
           λ q h.
           set-elim (λ z. z ≡ height d q) rows 1 (2 * q + 1) x 0 (omega (arith, R .all))
-          (λ same. let root : q ≡ 0 = omega arith in own-height ok R₀ x false refl e ∙ ap (height d) (sym root))
+          (λ same. let root : q ≡ 0 = omega arith in own-height ok R₀ x false refl (e ∙ ap suc eh) ∙ ap (height d) (sym root))
           (λ other. R₀ .above q (omega arith) h);
-    }
+    })
