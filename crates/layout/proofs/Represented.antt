@@ -98,15 +98,15 @@ module _ (b : List ℕ) (ok : Accepted b) where
       P .same c pos inside ∙ sym (division-parent b c inside))
 
   pub region-rows : {rows : List ℕ} → HeightsEntered (regionWords b) rows → RegionRows (divisionOf b) rows
-  region-rows {rows} R = record {
-    all = omega (arith, R .all, division-regions b);
+  region-rows {rows} H = record {
+    all = omega (arith, H .all, division-regions b);
     leaf =
         λ r l leaf.
         let inside = is-region r l in
-        R .arcs r inside ∙ leaf-row (regionWords b) r (sym (division-leaf b r inside) ∙ leaf) .1 ∙ sym (division-arc b r inside);
+        H .arcs r inside ∙ leaf-row (regionWords b) r (sym (division-leaf b r inside) ∙ leaf) .1 ∙ sym (division-arc b r inside);
     inner =
-        λ r l inner. let inside = is-region r l in R .arcs r inside ∙ inner-row (regionWords b) r (sym (division-leaf b r inside) ∙ inner);
-    heights = λ r l. let inside = is-region r l in R .heights r inside ∙ sym (division-height b r inside);
+        λ r l inner. let inside = is-region r l in H .arcs r inside ∙ inner-row (regionWords b) r (sym (division-leaf b r inside) ∙ inner);
+    heights = λ r l. let inside = is-region r l in H .heights r inside ∙ sym (division-height b r inside);
   }
     where
       is-region : (r : ℕ) → r < regions (divisionOf b) → r < regionCount (regionWords b)

@@ -105,13 +105,13 @@ region-arcs-none d rows e = record { within = omega arith; all = e; arcs = enter
 
 pub region-arcs-more : {d rows : List ℕ} {r : ℕ} (a : ℕ) → EnteringArcs d rows r → r < regionCount d → a ≡ arcInRow d r
     → EnteringArcs d (set (set rows (2 * r) a) (2 * r + 1) 0) (r + 1)
-region-arcs-more {d} {rows} {r} a F l e = record {
+region-arcs-more {d} {rows} {r} a A l e = record {
   within = omega arith;
-  all = simp length-set (F .all);
-  arcs = entered-kept (2 * r + 1) 0 (λ j h. omega arith) (entered-more a (λ j h. omega arith) (omega (arith, F .all)) e (F .arcs));
+  all = simp length-set (A .all);
+  arcs = entered-kept (2 * r + 1) 0 (λ j h. omega arith) (entered-more a (λ j h. omega arith) (omega (arith, A .all)) e (A .arcs));
   zeros =
-      entered-more 0 (λ j h. omega arith) (simp length-set (omega (arith, F .all))) refl (entered-kept (2 * r) a (λ j h. omega arith) (F .zeros));
+      entered-more 0 (λ j h. omega arith) (simp length-set (omega (arith, A .all))) refl (entered-kept (2 * r) a (λ j h. omega arith) (A .zeros));
 }
 
 pub region-arcs-all : {d rows : List ℕ} {r : ℕ} → EnteringArcs d rows r → regionCount d ≤ r → ArcsEntered d rows
-region-arcs-all F l = record { all = F .all; arcs = λ q h. F .arcs .entry q (omega arith); zeros = λ q h. F .zeros .entry q (omega arith) }
+region-arcs-all A l = record { all = A .all; arcs = λ q h. A .arcs .entry q (omega arith); zeros = λ q h. A .zeros .entry q (omega arith) }
