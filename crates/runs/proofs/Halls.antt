@@ -157,7 +157,8 @@ module _ (b : List ℕ) where
         let back : keep (column (m + r) (λ i. word b (arcsAt b + i))) ≡ arcWords =
         ap keep (column-append m r (λ i. word b (arcsAt b + i)))
         ∙ passing-append ofHall arcWords (column r (λ i. word b (arcsAt b + (m + i))))
-        ∙ rw (all-pass ofHall m (λ i. word b (arcsAt b + i)) arc-of-hall, none-pass ofHall r (λ i. word b (arcsAt b + (m + i))) region-not) (append-nil arcWords) in
+        ∙ rw (all-pass ofHall m (λ i. word b (arcsAt b + i)) arc-of-hall, none-pass ofHall r (λ i. word b (arcsAt b + (m + i))) region-not)
+        (append-nil arcWords) in
         ap (λ (n : ℕ). keep (column n (word b))) all
         ∙ ap keep (column-append (arcsAt b) (m + r) (word b))
         ∙ passing-append ofHall (column (arcsAt b) (word b)) (column (m + r) (λ i. word b (arcsAt b + i)))

@@ -45,8 +45,23 @@ run-parts-requires c κs =
     let earlier = c .before .before .before .before in
     let early = earlier .before .before .before .before in
     let prior = early .before .before .before .before in
-    let pre = prior .before .before .before .pre in
-    (pre, record { parents-room = refl; rows-room = refl; arcs-room = refl; firsts-room = refl; lengths-room = refl; spans-room = refl; regions-room = refl; labels-room = refl; predecessors-room = refl; own-room = refl; keys-room = refl; winners-room = refl })
+    let pre = prior .before .before .before .pre in (
+      pre,
+      record {
+        parents-room = refl;
+        rows-room = refl;
+        arcs-room = refl;
+        firsts-room = refl;
+        lengths-room = refl;
+        spans-room = refl;
+        regions-room = refl;
+        labels-room = refl;
+        predecessors-room = refl;
+        own-room = refl;
+        keys-room = refl;
+        winners-room = refl;
+      },
+    )
 
 same-length : tie.Need-same-length
 same-length c = search needs

@@ -50,7 +50,8 @@ slice-aggregate-run-slices-2 c =
     let early = earlier .before .before .before .before .before .before .before .before in
     let args = early .before .args in
     let pre = early .before .pre in
-    part-length (args .rows .now) (4 * c .before .before .sizes-of .result .regions) (pre .1 .rows-room) (omega (arith, c .before .before .sizes-of .ensures .few-regions))
+    part-length (args .rows .now) (4 * c .before .before .sizes-of .result .regions) (pre .1 .rows-room)
+    (omega (arith, c .before .before .sizes-of .ensures .few-regions))
 
 mul-run-slices-2 : tie.Need-mul-run-slices-2
 mul-run-slices-2 c = omega (arith, c .before .before .sizes-of .ensures .few-arcs)
@@ -69,7 +70,8 @@ slice-aggregate-run-slices-3 c =
     let args = early .before .before .args in
     let sizes-of = c .before .before .before .sizes-of in
     let pre = early .before .before .pre in
-    part-length (args .arcs .now) (4 * sizes-of .result .arcs) (pre .1 .arcs-room) (omega (arith, sizes-of .ensures .few-arcs))
+    part-length (args .arcs .now) (4 * sizes-of .result .arcs) (pre .1 .arcs-room)
+    (omega (arith, sizes-of .ensures .few-arcs))
 
 slice-relend-prefix-run-slices-4 : tie.Need-slice-relend-prefix-run-slices-4
 slice-relend-prefix-run-slices-4 c =
@@ -143,7 +145,8 @@ slice-aggregate-run-slices-7 c =
     let args = early .before .before .before .before .before .before .args in
     let sizes-of = c .before .before .before .before .before .before .before .sizes-of in
     let pre = early .before .before .before .before .before .before .pre in
-    part-length (args .regions .now) (2 * sizes-of .result .regions) (pre .1 .regions-room) (omega (arith, sizes-of .ensures .few-regions))
+    part-length (args .regions .now) (2 * sizes-of .result .regions) (pre .1 .regions-room)
+    (omega (arith, sizes-of .ensures .few-regions))
 
 slice-relend-prefix-run-slices-8 : tie.Need-slice-relend-prefix-run-slices-8
 slice-relend-prefix-run-slices-8 c =
@@ -242,7 +245,8 @@ slice-aggregate-run-slices-12 c =
     let args = prior .before .before .before .args in
     let sizes-of = earlier .before .before .before .before .sizes-of in
     let pre = prior .before .before .before .pre in
-    part-length (args .winners .now) (2 * sizes-of .result .regions) (pre .1 .winners-room) (omega (arith, sizes-of .ensures .few-regions))
+    part-length (args .winners .now) (2 * sizes-of .result .regions) (pre .1 .winners-room)
+    (omega (arith, sizes-of .ensures .few-regions))
 
 run-slices-requires : tie.Need-run-slices-requires
 run-slices-requires c κs =
@@ -262,7 +266,8 @@ same-length c =
     let args = first .before .before .before .before .before .before .before .args in
     let run-slices = early .before .before .run-slices in
     let sizes-of = prior .before .before .before .before .sizes-of in
-    length-front (args .parents .now) (run-slices .last .1 .1 .0) (sizes-of .result .regions) (run-slices .kept .1 .1 .0)
+    length-front (args .parents .now) (run-slices .last .1 .1 .0)
+    (sizes-of .result .regions) (run-slices .kept .1 .1 .0)
 
 same-length-2 : tie.Need-same-length-2
 same-length-2 c =
@@ -273,7 +278,8 @@ same-length-2 c =
     let args = first .before .before .before .before .before .before .before .args in
     let run-slices = early .before .before .run-slices in
     let sizes-of = prior .before .before .before .before .sizes-of in
-    length-front (args .rows .now) (run-slices .last .1 .1 .1 .0) (4 * sizes-of .result .regions) (run-slices .kept .1 .1 .1 .0)
+    length-front (args .rows .now) (run-slices .last .1 .1 .1 .0)
+    (4 * sizes-of .result .regions) (run-slices .kept .1 .1 .1 .0)
 
 same-length-3 : tie.Need-same-length-3
 same-length-3 c =
@@ -284,7 +290,8 @@ same-length-3 c =
     let args = first .before .before .before .before .before .before .before .args in
     let run-slices = early .before .before .run-slices in
     let sizes-of = prior .before .before .before .before .sizes-of in
-    length-front (args .arcs .now) (run-slices .last .1 .1 .1 .1 .0) (4 * sizes-of .result .arcs) (run-slices .kept .1 .1 .1 .1 .0)
+    length-front (args .arcs .now) (run-slices .last .1 .1 .1 .1 .0)
+    (4 * sizes-of .result .arcs) (run-slices .kept .1 .1 .1 .1 .0)
 
 same-length-4 : tie.Need-same-length-4
 same-length-4 c =
@@ -295,7 +302,8 @@ same-length-4 c =
     let args = first .before .before .before .before .before .before .before .args in
     let run-slices = early .before .before .run-slices in
     let sizes-of = prior .before .before .before .before .sizes-of in
-    length-front (args .firsts .now) (run-slices .last .1 .1 .1 .1 .1 .0) (sizes-of .result .nodes) (run-slices .kept .1 .1 .1 .1 .1 .0)
+    length-front (args .firsts .now) (run-slices .last .1 .1 .1 .1 .1 .0)
+    (sizes-of .result .nodes) (run-slices .kept .1 .1 .1 .1 .1 .0)
 
 same-length-5 : tie.Need-same-length-5
 same-length-5 c =
@@ -306,7 +314,8 @@ same-length-5 c =
     let args = first .before .before .before .before .before .before .before .args in
     let run-slices = early .before .before .run-slices in
     let sizes-of = prior .before .before .before .before .sizes-of in
-    length-front (args .lengths .now) (run-slices .last .1 .1 .1 .1 .1 .1 .0) (sizes-of .result .arcs) (run-slices .kept .1 .1 .1 .1 .1 .1 .0)
+    length-front (args .lengths .now) (run-slices .last .1 .1 .1 .1 .1 .1 .0)
+    (sizes-of .result .arcs) (run-slices .kept .1 .1 .1 .1 .1 .1 .0)
 
 same-length-6 : tie.Need-same-length-6
 same-length-6 c =
@@ -317,7 +326,8 @@ same-length-6 c =
     let args = first .before .before .before .before .before .before .before .args in
     let run-slices = early .before .before .run-slices in
     let sizes-of = prior .before .before .before .before .sizes-of in
-    length-front (args .spans .now) (run-slices .last .1 .1 .1 .1 .1 .1 .1 .0) (sizes-of .result .spans) (run-slices .kept .1 .1 .1 .1 .1 .1 .1 .0)
+    length-front (args .spans .now) (run-slices .last .1 .1 .1 .1 .1 .1 .1 .0)
+    (sizes-of .result .spans) (run-slices .kept .1 .1 .1 .1 .1 .1 .1 .0)
 
 same-length-7 : tie.Need-same-length-7
 same-length-7 c =
@@ -328,7 +338,8 @@ same-length-7 c =
     let args = first .before .before .before .before .before .before .before .args in
     let run-slices = early .before .before .run-slices in
     let sizes-of = prior .before .before .before .before .sizes-of in
-    length-front (args .regions .now) (run-slices .last .1 .1 .1 .1 .1 .1 .1 .1 .0) (2 * sizes-of .result .regions) (run-slices .kept .1 .1 .1 .1 .1 .1 .1 .1 .0)
+    length-front (args .regions .now) (run-slices .last .1 .1 .1 .1 .1 .1 .1 .1 .0)
+    (2 * sizes-of .result .regions) (run-slices .kept .1 .1 .1 .1 .1 .1 .1 .1 .0)
 
 same-length-8 : tie.Need-same-length-8
 same-length-8 c =
@@ -339,7 +350,8 @@ same-length-8 c =
     let args = first .before .before .before .before .before .before .before .args in
     let run-slices = early .before .before .run-slices in
     let sizes-of = prior .before .before .before .before .sizes-of in
-    length-front (args .labels .now) (run-slices .last .1 .1 .1 .1 .1 .1 .1 .1 .1 .0) (sizes-of .result .nodes) (run-slices .kept .1 .1 .1 .1 .1 .1 .1 .1 .1 .0)
+    length-front (args .labels .now) (run-slices .last .1 .1 .1 .1 .1 .1 .1 .1 .1 .0)
+    (sizes-of .result .nodes) (run-slices .kept .1 .1 .1 .1 .1 .1 .1 .1 .1 .0)
 
 same-length-9 : tie.Need-same-length-9
 same-length-9 c =
@@ -350,7 +362,8 @@ same-length-9 c =
     let args = first .before .before .before .before .before .before .before .args in
     let run-slices = early .before .before .run-slices in
     let sizes-of = prior .before .before .before .before .sizes-of in
-    length-front (args .predecessors .now) (run-slices .last .1 .1 .1 .1 .1 .1 .1 .1 .1 .1 .0) (sizes-of .result .nodes) (run-slices .kept .1 .1 .1 .1 .1 .1 .1 .1 .1 .1 .0)
+    length-front (args .predecessors .now) (run-slices .last .1 .1 .1 .1 .1 .1 .1 .1 .1 .1 .0)
+    (sizes-of .result .nodes) (run-slices .kept .1 .1 .1 .1 .1 .1 .1 .1 .1 .1 .0)
 
 same-length-10 : tie.Need-same-length-10
 same-length-10 c =
@@ -361,7 +374,8 @@ same-length-10 c =
     let args = first .before .before .before .before .before .before .before .args in
     let run-slices = early .before .before .run-slices in
     let sizes-of = prior .before .before .before .before .sizes-of in
-    length-front (args .own .now) (run-slices .last .1 .1 .1 .1 .1 .1 .1 .1 .1 .1 .1 .0) (sizes-of .result .arcs) (run-slices .kept .1 .1 .1 .1 .1 .1 .1 .1 .1 .1 .1 .0)
+    length-front (args .own .now) (run-slices .last .1 .1 .1 .1 .1 .1 .1 .1 .1 .1 .1 .0)
+    (sizes-of .result .arcs) (run-slices .kept .1 .1 .1 .1 .1 .1 .1 .1 .1 .1 .1 .0)
 
 same-length-11 : tie.Need-same-length-11
 same-length-11 c =
@@ -372,7 +386,8 @@ same-length-11 c =
     let args = first .before .before .before .before .before .before .before .args in
     let run-slices = early .before .before .run-slices in
     let sizes-of = prior .before .before .before .before .sizes-of in
-    length-front (args .keys .now) (run-slices .last .1 .1 .1 .1 .1 .1 .1 .1 .1 .1 .1 .1 .0) (sizes-of .result .regions) (run-slices .kept .1 .1 .1 .1 .1 .1 .1 .1 .1 .1 .1 .1 .0)
+    length-front (args .keys .now) (run-slices .last .1 .1 .1 .1 .1 .1 .1 .1 .1 .1 .1 .1 .0)
+    (sizes-of .result .regions) (run-slices .kept .1 .1 .1 .1 .1 .1 .1 .1 .1 .1 .1 .1 .0)
 
 same-length-12 : tie.Need-same-length-12
 same-length-12 c =
@@ -383,7 +398,8 @@ same-length-12 c =
     let args = first .before .before .before .before .before .before .before .args in
     let run-slices = early .before .before .run-slices in
     let sizes-of = prior .before .before .before .before .sizes-of in
-    length-front (args .winners .now) (run-slices .last .1 .1 .1 .1 .1 .1 .1 .1 .1 .1 .1 .1 .1 .0) (2 * sizes-of .result .regions) (run-slices .kept .1 .1 .1 .1 .1 .1 .1 .1 .1 .1 .1 .1 .1 .0)
+    length-front (args .winners .now) (run-slices .last .1 .1 .1 .1 .1 .1 .1 .1 .1 .1 .1 .1 .1 .0)
+    (2 * sizes-of .result .regions) (run-slices .kept .1 .1 .1 .1 .1 .1 .1 .1 .1 .1 .1 .1 .1 .0)
 
 same-length-13 : tie.Need-same-length-13
 same-length-13 c =

@@ -35,7 +35,8 @@ rounds-requires c κs =
     let pre = first .before .before .before .pre in
     let source-of = early .before .before .before .before .before .source-of in
     let b = args .s .now in
-    let S = start .ensures (graphOf b) (divisionOf b) (args .lengths .now) (args .spans .now) (args .regions .now) (blank (pre .2) (pre .3)) (source-of .ensures) in
+    let S = start .ensures (graphOf b) (divisionOf b) (args .lengths .now) (args .spans .now) (args .regions .now)
+    (blank (pre .2) (pre .3)) (source-of .ensures) in
     (graphOf b, divisionOf b, 0, S .represents, started-after S)
 
 has-ended-requires : tie.Need-has-ended-requires
@@ -52,7 +53,8 @@ has-ended-requires c κs =
     let source-of = first .before .before .source-of in
     let rounds = earlier .before .before .before .before .rounds in
     let b = args .s .now in
-    let S = start .ensures (graphOf b) (divisionOf b) (args .lengths .now) (args .spans .now) (args .regions .now) (blank (pre .2) (pre .3)) (source-of .ensures) in
+    let S = start .ensures (graphOf b) (divisionOf b) (args .lengths .now) (args .spans .now) (args .regions .now)
+    (blank (pre .2) (pre .3)) (source-of .ensures) in
     let R = rounds .ensures (graphOf b) (divisionOf b) 0 (S .represents) (started-after S) in
     (divisionOf b, R .represents .queues)
 
@@ -68,7 +70,8 @@ write-table-requires c κs =
     let source-of = prior .before .before .source-of in
     let rounds = earlier .before .before .before .before .rounds in
     let b = args .s .now in
-    let S = start .ensures (graphOf b) (divisionOf b) (args .lengths .now) (args .spans .now) (args .regions .now) (blank (pre .2) (pre .3)) (source-of .ensures) in
+    let S = start .ensures (graphOf b) (divisionOf b) (args .lengths .now) (args .spans .now) (args .regions .now)
+    (blank (pre .2) (pre .3)) (source-of .ensures) in
     let R = rounds .ensures (graphOf b) (divisionOf b) 0 (S .represents) (started-after S) in
     writable b (args .limit) (pre .0) (ran (args .limit) (pre .2) S R) _ (pre .1)
 
@@ -138,10 +141,12 @@ returns c =
     let rounds = earlier .before .before .before .before .before .before .before .rounds in
     let has-ended = c .before .before .before .before .before .before .has-ended in
     let b = args .s .now in
-    let S = start .ensures (graphOf b) (divisionOf b) (args .lengths .now) (args .spans .now) (args .regions .now) (blank (pre .2) (pre .3)) (source-of .ensures) in
+    let S = start .ensures (graphOf b) (divisionOf b) (args .lengths .now) (args .spans .now) (args .regions .now)
+    (blank (pre .2) (pre .3)) (source-of .ensures) in
     let R = rounds .ensures (graphOf b) (divisionOf b) 0 (S .represents) (started-after S) in
     outcome b (args .limit) (pre .0) (ran (args .limit) (pre .2) S R)
-    (has-ended .ensures (graphOf b) (divisionOf b) _ _ _ _ (R .represents .queues) (pre .2 .tabled .ok .division .root-inner)) (c .before .before .write-table .ensures)
+    (has-ended .ensures (graphOf b) (divisionOf b) _ _ _ _ (R .represents .queues) (pre .2 .tabled .ok .division .root-inner))
+    (c .before .before .write-table .ensures)
 
 pub run-tables-spec : {M : Type 1} → statement M
 run-tables-spec =
