@@ -5,18 +5,13 @@ the script stops and writes nothing.
 Run it by `python3 tests/judge_cases.py`: it writes the same files each time.
 """
 import sys
-from collections import Counter
-from pathlib import Path
 
+from cases import bytes_in, data, digits_of, hold, write_cases
 from paper import applies, judge
 from sheets import (
     FAULTS, HALL_A, Chance, alternate, chain, changed, damaged, flat, halving, inner, leaf, many_chains, one_deep, packed, random_words,
     sheet_of, side_by_side, two_each_way, with_faults, words_of,
 )
-
-ROOT = Path(__file__).resolve().parent.parent
-MOST_INPUT = 3_000_000
-
 
 # The cases: pairs of a sheet and the answer stated for it, None where the judge alone says it.
 
@@ -247,38 +242,23 @@ FAMILIES = [
 
 
 def vectors():
-    for line in (ROOT / 'tests' / 'judge_vectors.txt').read_text().splitlines():
-        if not line.startswith('#'):
-            digits, answer = line.split()
-            yield bytes.fromhex('' if digits == '-' else digits), int(answer)
+    for line in data('judge_vectors.txt'):
+        digits, answer = line.split()
+        yield bytes_in(digits), int(answer)
 
 
-def checked(name, cases):
-    """The cases with their answers, where the judge agrees with each answer that is stated."""
-    for at, (sheet, stated) in enumerate(cases):
-        answer = judge(sheet)
-        if stated is not None and answer != stated:
-            sys.exit('%s, case %d: the judge answers %d, stated is %d: %s' % (name, at, answer, stated, sheet.hex()[:300]))
-        yield sheet, answer
+def said(answer):
+    """The line expected for an answer of the judge."""
+    return 'refused input %d' % answer if answer else 'accepted'
 
 
-def main():
-    cases = list(checked('vectors', vectors()))
-    seen = {sheet for sheet, _ in cases}
-    for family in FAMILIES:
-        for sheet, answer in checked(family.__name__, family()):
-            if sheet not in seen:
-                seen.add(sheet)
-                cases.append((sheet, answer))
-    lines = ''.join((sheet.hex() or '-') + '\n' for sheet, _ in cases)
-    if len(lines) > MOST_INPUT:
-        sys.exit('%d bytes of cases' % len(lines))
-    (ROOT / 'crates' / 'judge_cases' / 'stdin').write_text(lines)
-    said = ['refused input %d' % answer if answer else 'accepted' for _, answer in cases]
-    (ROOT / 'crates' / 'judge_cases' / 'stdout').write_text('\n'.join(said) + '\n')
-    counts = Counter(answer for _, answer in cases)
-    print('%d cases, %d bytes; ' % (len(cases), len(lines)) + ', '.join('%d: %d' % pair for pair in sorted(counts.items())))
+def checked(family):
+    """The cases of a family with the lines expected."""
+    for sheet, stated in family():
+        case, line = digits_of(sheet), said(judge(sheet))
+        hold(family, case, line, None if stated is None else said(stated))
+        yield case, line
 
 
 if __name__ == '__main__':
-    main()
+    write_cases('judge_cases', [vectors], FAMILIES, checked, str)

@@ -1,6 +1,8 @@
 """Sheets for the cases: their words, divisions of several shapes, sheets with faults, and random sheets."""
 from random import Random
 
+from paper import Lists, hall_height
+
 
 def packed(words):
     return b''.join(word.to_bytes(4, 'big') for word in words)
@@ -216,3 +218,60 @@ def damaged(chance, words, way):
     if way == 2:
         return words[:at] + words[at + 1:]
     return changed(changed(words, at, words[other]), other, words[at])
+
+
+# Halls and divisions for runs. A division is a list of region words; `divided` gives it as many spans as region 0 is high.
+
+def divided(nodes, source, arcs, regions, span):
+    """The sheet of a hall with a division; span gives the span for a height."""
+    height = hall_height(Lists(sheet_of(nodes, source, [], arcs, regions)))
+    return sheet_of(nodes, source, [span(h) for h in range(1, height + 1)], arcs, regions)
+
+
+def ladder(height, arcs):
+    """A chain of inner regions with leaves at every one of them."""
+    return [inner(parent) for parent in range(height - 1)] + [leaf(height - 1 - a % height, a) for a in range(arcs)]
+
+
+def single_children(height, arcs):
+    """Each leaf at the end of a chain of its own, all as deep."""
+    return side_by_side([height] * arcs)
+
+
+def balanced(fan, order):
+    """Arcs in an order, as many children for each inner region as the fan; no region has one child alone, if fan is at least 2."""
+    regions, waiting = [], [(0, order)]
+    while waiting:
+        parent, some = waiting.pop(0)
+        size = -(-len(some) // fan)
+        for at in range(0, len(some), size or 1):
+            part = some[at:at + size]
+            regions.append(leaf(parent, part[0]) if len(part) == 1 else inner(parent))
+            if len(part) > 1:
+                waiting.append((len(regions), part))
+    return regions
+
+
+def random_arcs(chance, nodes, count, lengths):
+    """At most two arcs from and to each node, self-arcs and parallel arcs among them, with lengths from a list."""
+    tails, heads = (chance.shuffled([v for v in range(nodes) for _ in range(2)])[:count] for _ in range(2))
+    return [(tail, head, lengths[chance.below(len(lengths))]) for tail, head in zip(tails, heads)]
+
+
+def woken(levels, links):
+    """Arcs and division in which the deepest region is woken 2^levels times.
+
+    From node j on, a long arc leads to node j + 1 and two short ones lead there too, by way of a node of its own; after the last of these
+    comes a chain of so many links. The long arcs and the chain are in the deepest region, the short arcs of node j in region j, so a long
+    way is taken to its end before the next shorter one is tried.
+    """
+    arcs, short = [], []
+    for j in range(levels):
+        more = 2 ** (levels - 1 - j)
+        arcs += [(j, j + 1, more + 2), (j, levels + 1 + j, 1), (levels + 1 + j, j + 1, 1)]
+        short += [leaf(j, 3 * j + 1), leaf(j, 3 * j + 2)]
+    first = 2 * levels + 1
+    ends = [levels] + [first + link for link in range(links)]
+    chained = [(tail, head, 1) for tail, head in zip(ends, ends[1:])]
+    deepest = [leaf(levels, 3 * j) for j in range(levels)] + [leaf(levels, 3 * levels + link) for link in range(links)]
+    return first + links, arcs + chained, [inner(j) for j in range(levels)] + short + deepest
