@@ -324,12 +324,28 @@ pub fn put_decimal(line: &mut [u8], at: usize, n: u64) -> usize
 }
 
 // Puts a word in eight hexadecimal digits.
-pub fn put_word(line: &mut [u8], at: usize, word: u32) -> usize
+fn put_word(line: &mut [u8], at: usize, word: u32) -> usize
     ensures { λ r. ⌜ Counts r (now (line .exit)) ⌝ }
 {
     let mut digits = [0u8; 16];
     let k = io::hex(word as u64, 8, &mut digits);
     put(line, at, &digits[..k])
+}
+
+// Puts words, each in eight hexadecimal digits.
+pub fn put_words(line: &mut [u8], at: usize, words: &[u32]) -> usize
+    ensures { λ r. ⌜ Counts r (now (line .exit)) ⌝ }
+{
+    if at > line.len() {
+        return line.len();
+    }
+    let mut end = at;
+    let mut i = 0;
+    while i < words.len() {
+        end = put_word(line, end, words[i]);
+        i += 1;
+    }
+    end
 }
 
 // Puts what a refusal says.
