@@ -95,8 +95,7 @@ module _ (b table : List ℕ) where
   pub shortest-agrees : Accepted b → (notShortest b table ≡ false) ↔ ShortestTable b table
   unfolding notShortest
   shortest-agrees ok =
-      let good = accepted-well-formed b ok .graph in
-      (
+      let good = accepted-well-formed b ok .graph in (
         λ e. test-shortest (graphOf b) good (labelsIn (nodeCount b) table) (predecessorsIn (nodeCount b) table) (not-false _ e),
         λ s. ap not (shortest-test (graphOf b) good (labelsIn (nodeCount b) table) (predecessorsIn (nodeCount b) table) s),
       )
