@@ -12,8 +12,8 @@ use Rattle.indices.specs.Steps.{if_then_else_}
 use Rattle.indices.proofs.Tests.{and-left, and-right}
 use Rattle.sheet.specs.Words.{top}
 use Rattle.sheet.specs.Sections.{nodeCount}
-use Rattle.sheet.specs.Answer.{Refusal, input, state, Answer, accepted, ended, paused, route, noRoute, refused, Case, isRefused, lowest}
-use Rattle.sheet.proofs.Lowest.{lowest-append, lowest-clear}
+use Rattle.sheet.specs.Answer.{Refusal, input, state, Answer, accepted, ended, paused, route, noRoute, refused, Case, _when_, isRefused, lowest}
+use Rattle.sheet.proofs.Lowest.{lowest-append, lowest-clear, lowest-stop}
 use Rattle.refusals.specs.Judgement.{formRefusals, countRefusals, arcRefusals, divisionRefusals, refusals, judgement, Accepted}
 use Rattle.procedure.specs.OfSheet.{graphOf}
 use Rattle.procedure.proofs.WellFormed.{accepted-well-formed}
@@ -103,10 +103,24 @@ module _ (b table : List ℕ) where
   module _ (node : ℕ) (buffer : List ℕ) where
     -- the answer is the sheet's refusal, or the later ones decide
     answer-staged : routeAnswer b table node buffer
-        ≡ lowest (refusals b) (later (nodeOutside b node) (wrongLength b table) (malformed b table) (isPaused table) (notShortest b table)
-        (foundRoute b table node buffer))
-    unfolding routeAnswer routeRefusals tableRefusals later
+        ≡ lowest (refusals b)
+        (lowest (input 15 when nodeOutside b node ∷ state 21 when wrongLength b table ∷ tableRefusals b table) (foundRoute b table node buffer))
+    unfolding routeAnswer routeRefusals
     answer-staged = lowest-append (refusals b) _ (foundRoute b table node buffer)
+
+    pub sheet-stops : (r : Refusal) → judgement b ≡ refused r → routeAnswer b table node buffer ≡ refused r
+    unfolding judgement
+    sheet-stops r e = answer-staged ∙ lowest-stop (refusals b) _ r e
+
+    pub after-sheet : Accepted b → routeAnswer b table node buffer
+        ≡ lowest (input 15 when nodeOutside b node ∷ state 21 when wrongLength b table ∷ tableRefusals b table) (foundRoute b table node buffer)
+    unfolding judgement
+    after-sheet ok = answer-staged ∙ lowest-clear (refusals b) _ ok
+
+    as-later : Accepted b → routeAnswer b table node buffer
+        ≡ later (nodeOutside b node) (wrongLength b table) (malformed b table) (isPaused table) (notShortest b table) (foundRoute b table node buffer)
+    unfolding tableRefusals later
+    as-later ok = after-sheet ok
 
     -- a search for a route does not answer 24
     found-past : rank (foundRoute b table node buffer) ≢ 24
@@ -118,27 +132,22 @@ module _ (b table : List ℕ) where
         at false true e = omega arith
         at false false e = omega arith
 
-    -- the answer comes after 14: the sheet is accepted, and the later cases decide
+    -- the answer comes after 14: the sheet is accepted
     sheet-accepted : 14 < rank (routeAnswer b table node buffer) → Accepted b
     unfolding judgement
     sheet-accepted p = early-clear (refusals b) _ (sheet-early b) (rw answer-staged at p)
 
-    after-sheet : Accepted b → routeAnswer b table node buffer
-        ≡ later (nodeOutside b node) (wrongLength b table) (malformed b table) (isPaused table) (notShortest b table) (foundRoute b table node buffer)
-    unfolding judgement
-    after-sheet ok = answer-staged ∙ lowest-clear (refusals b) _ ok
-
     past-right : 24 < rank (routeAnswer b table node buffer) → ShortestTable b table
     past-right p =
         let ok = sheet-accepted (omega arith) in
-        shortest-agrees ok .0 (later-past _ _ _ _ _ _ (rw (after-sheet ok) at p))
+        shortest-agrees ok .0 (later-past _ _ _ _ _ _ (rw (as-later ok) at p))
 
     -- What the answer says of the table holds of it.
     pub table-known : TableKnown b table (routeAnswer b table node buffer)
     table-known = record {
       wrong = λ e s.
           let ok = sheet-accepted (rw e (omega arith)) in
-          let applies = later-24 _ _ _ _ _ _ (ap rank (sym (after-sheet ok) ∙ e)) found-past in
+          let applies = later-24 _ _ _ _ _ _ (ap rank (sym (as-later ok) ∙ e)) found-past in
           true≢false (sym applies ∙ shortest-agrees ok .1 s);
       right = λ e. past-right (answered-rank (routeAnswer b table node buffer) e);
       right-too = λ e. past-right (rw e (omega arith));
