@@ -29,7 +29,7 @@ pub struct Counts {
 }
 
 // In place of an inner region's arc.
-const INNER: u16 = 65535;
+pub const INNER: u16 = 65535;
 
 fn count_round(c: Counts) -> Counts
     requires { ⌜ c .rounds + 1 < 18446744073709551616 ⌝ }

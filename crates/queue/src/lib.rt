@@ -28,11 +28,11 @@ const START: usize = 2;
 const SEAT: usize = 3;
 
 // The entries of an arc's row.
-const TAIL: usize = 0;
+pub const TAIL: usize = 0;
 
-const HEAD: usize = 1;
+pub const HEAD: usize = 1;
 
-const LEAF: usize = 2;
+pub const LEAF: usize = 2;
 
 const NEXT: usize = 3;
 
@@ -45,7 +45,8 @@ fn field(rows: &[u16], i: u16, k: usize) -> u16
     rows[at]
 }
 
-fn set_field(rows: &mut [u16], i: u16, k: usize, x: u16)
+// Enters x as entry k of row i.
+pub fn set_field(rows: &mut [u16], i: u16, k: usize, x: u16)
     requires { ⌜ (k < 4) × (i < rowCount (now rows)) ⌝ }
     ensures { λ _. ⌜ now (rows .exit) ≡ set (now (rows .entry)) (4 * i + k) x ⌝ }
 {
