@@ -40,8 +40,10 @@ def write_cases(crate, vectors, families, checked, kind):
     lines, seen = [], set()
     for family in vectors + families:
         before = len(lines)
-        lines += [(case, line) for case, line in checked(family) if family in vectors or not (case in seen or seen.add(case))]
-        seen.update(case for case, _ in lines)
+        for case, line in checked(family):
+            if family in vectors or case not in seen:
+                lines.append((case, line))
+            seen.add(case)
         print('%s: %d cases' % (family.__name__, len(lines) - before))
     files = {name: ''.join(pair[at] + '\n' for pair in lines) for at, name in enumerate(('stdin', 'stdout'))}
     for name, text in files.items():
