@@ -38,7 +38,9 @@ loop-less : tie.Need-loop-less Inv-loop μ-loop
 loop-less c = search needs
 
 loop-again : tie.Need-loop-again Inv-loop μ-loop
-loop-again c = (omega arith, any-more _ _ (c .before .before .before .loop .inv .1) (ap not (eq-eqb _ _ (c .if1 .left))))
+loop-again c =
+    let loop = c .before .before .before .loop in
+    (omega arith, any-more _ _ (loop .inv .1) (ap not (eq-eqb _ _ (c .if1 .left))))
 
 returns-2 : tie.Need-returns-2 Inv-loop μ-loop
 unfolding changed
