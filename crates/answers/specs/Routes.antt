@@ -1,6 +1,7 @@
--- What the route reader answers, and what it leaves in the buffer. Definitions; assumes nothing.
+-- What the route reader answers, what it leaves in the buffer, and what its answer says of the table. Definitions; assumes nothing.
 use Prim.Native.Nat.{ℕ, _+_, _*_}
-use mathlib.Core.Bool.{Bool, not, _||_, _&&_}
+use mathlib.Core.Bool.{Bool, false, not, _||_, _&&_}
+use mathlib.Core.Path.{_≡_}
 use mathlib.Core.List.{List, [], _∷_, _++_}
 use lib.ListN.{length, drop}
 use lib.Dec.{ltb, leb, eqb}
@@ -8,11 +9,11 @@ use Rattle.indices.specs.Steps.{if_then_else_}
 use Rattle.indices.specs.Tests.{any}
 use Rattle.sheet.specs.Words.{top}
 use Rattle.sheet.specs.Sections.{nodeCount, arcCount}
-use Rattle.sheet.specs.Answer.{input, state, Answer, route, noRoute, Case, _when_, isRoute, lowest}
+use Rattle.sheet.specs.Answer.{input, state, Answer, route, noRoute, refused, Case, _when_, isRefused, isRoute, lowest}
 use Rattle.refusals.specs.Judgement.{refusals}
 use Rattle.procedure.specs.OfSheet.{graphOf}
 use Rattle.procedure.specs.Table.{headerLength}
-use Rattle.procedure.specs.Routes.{chainTo}
+use Rattle.procedure.specs.Routes.{chainTo, Shortest}
 use Rattle.shortest.specs.TableTest.{settled?}
 use Rattle.answers.specs.Tables.{wrongLength, kindIn, statusIn, labelIn, predecessorIn, labelsIn, predecessorsIn}
 
@@ -20,53 +21,79 @@ use Rattle.answers.specs.Tables.{wrongLength, kindIn, statusIn, labelIn,
 unfoldable pub nodeOutside : List ℕ → ℕ → Bool
 nodeOutside b node = leb (nodeCount b) node
 
-module _ (b table : List ℕ) where
+module _ (table : List ℕ) where
+  -- the word at a place is not of the kind that it is to be
+  abbrev pub wrongKind : ℕ → ℕ → Bool
+  wrongKind i kind = not (eqb (kindIn table i) kind)
+
   -- "eight words of kind 11"
   abbrev pub wrongCount : ℕ → Bool
-  wrongCount i = not (eqb (kindIn table (1 + i)) 11)
+  wrongCount i = wrongKind (1 + i) 11
 
   -- "per node a kind 9 word, its label, and a kind 10 word, its feeding arc"
   abbrev pub wrongKinds : ℕ → Bool
-  wrongKinds v = not (eqb (kindIn table (headerLength + 2 * v)) 9 && eqb (kindIn table (headerLength + 2 * v + 1)) 10)
+  wrongKinds v = wrongKind (headerLength + 2 * v) 9 || wrongKind (headerLength + 2 * v + 1) 10
 
-  -- "a feeding arc that is neither an arc of the sheet nor 'none'"
-  abbrev pub wrongPredecessor : ℕ → Bool
-  wrongPredecessor v = not (ltb (predecessorIn table v) (arcCount b) || eqb (predecessorIn table v) top)
+  -- "a feeding arc that is neither an arc of the sheet nor 'none'": of so many arcs
+  abbrev pub wrongPredecessor : ℕ → ℕ → Bool
+  wrongPredecessor arcs v = not (ltb (predecessorIn table v) arcs || eqb (predecessorIn table v) top)
 
-  -- "22. Wrong kind at a place, status above 1, or a feeding arc that is neither an arc of the sheet nor 'none'."
-  unfoldable pub malformed : Bool
-  malformed =
-      (not (eqb (kindIn table 0) 8) || any wrongCount 8)
-      || (ltb 1 (statusIn table) || any (λ v. wrongKinds v || wrongPredecessor v) (nodeCount b))
+  unfoldable pub wrongNode : ℕ → ℕ → Bool
+  wrongNode arcs v = wrongKinds v || wrongPredecessor arcs v
 
   -- "23. Table paused."
   unfoldable pub isPaused : Bool
   isPaused = eqb (statusIn table) 0
 
-  -- "24. Some distance isn't the shortest for this sheet, or the feeding arcs don't form routes of exactly those lengths from the source": see `settled?`
+module _ (b table : List ℕ) where
+  -- "22. Wrong kind at a place, status above 1, or a feeding arc that is neither an arc of the sheet nor 'none'."
+  unfoldable pub malformed : Bool
+  malformed =
+      (wrongKind table 0 8 || any (wrongCount table) 8) || (ltb 1 (statusIn table) || any (wrongNode table (arcCount b)) (nodeCount b))
+
+  -- "Some distance isn't the shortest for this sheet, or the feeding arcs don't form routes of exactly those lengths from the source (source and
+  -- unreached nodes: none)": this does not hold of the table. "The counts aren't examined."
+  abbrev pub ShortestTable : Type 0
+  ShortestTable = Shortest (graphOf b) (labelsIn (nodeCount b) table) (predecessorsIn (nodeCount b) table)
+
+  -- 24 as it is computed. It is false just where the table is a `ShortestTable`: crates/answers/proofs/Routes.antt.
   unfoldable pub notShortest : Bool
   notShortest = not (settled? (graphOf b) (labelsIn (nodeCount b) table) (predecessorsIn (nodeCount b) table))
 
+  -- 22 to 24, of a table that has its length
+  unfoldable pub tableRefusals : List Case
+  tableRefusals = state 22 when malformed ∷ state 23 when isPaused table ∷ state 24 when notShortest ∷ []
+
   -- 1 to 14, 15, and 21 to 24, in this order
   unfoldable pub routeRefusals : ℕ → List Case
-  routeRefusals node =
-      refusals b ++ (input 15 when nodeOutside b node ∷ state 21 when wrongLength b table ∷ state 22 when malformed ∷ state 23 when isPaused
-      ∷ state 24 when notShortest ∷ [])
+  routeRefusals node = refusals b ++ (input 15 when nodeOutside b node ∷ state 21 when wrongLength b table ∷ tableRefusals)
 
   -- "the arc numbers from source to node": the predecessors followed back
   unfoldable pub routeTo : ℕ → List ℕ
   routeTo node = chainTo (graphOf b) (predecessorsIn (nodeCount b) table) node
 
-  -- "25. Route buffer shorter than the route." An unreached node has no route, whatever the buffer.
-  unfoldable pub routeAnswer : ℕ → List ℕ → Answer
-  routeAnswer node buffer =
+  -- "For an unreached node the call answers 'no route'", whatever the buffer. "25. Route buffer shorter than the route."
+  unfoldable pub foundRoute : ℕ → List ℕ → Answer
+  foundRoute node buffer =
       let way = routeTo node in
-      let found = lowest (state 25 when ltb (length buffer) (length way) ∷ []) (route (length way)) in
-      lowest (routeRefusals node) (if eqb (labelIn table node) top then noRoute else found)
+      let fitted = lowest (state 25 when ltb (length buffer) (length way) ∷ []) (route (length way)) in
+      if eqb (labelIn table node) top then noRoute else fitted
 
-  -- "as plain words at the front of a lent buffer", "the rest of the buffer stays"
-  unfoldable pub bufferAfter : ℕ → List ℕ → List ℕ
-  bufferAfter node buffer =
+  unfoldable pub routeAnswer : ℕ → List ℕ → Answer
+  routeAnswer node buffer = lowest (routeRefusals node) (foundRoute node buffer)
+
+  -- what an answer leaves: a route "as plain words at the front of a lent buffer", "the rest of the buffer stays"; else the buffer as it was lent
+  unfoldable pub leftBy : Answer → ℕ → List ℕ → List ℕ
+  leftBy answer node buffer =
       let way = routeTo node in
       let made = way ++ drop (length way) buffer in
-      if isRoute (routeAnswer node buffer) then made else buffer
+      if isRoute answer then made else buffer
+
+  unfoldable pub bufferAfter : ℕ → List ℕ → List ℕ
+  bufferAfter node buffer = leftBy (routeAnswer node buffer) node buffer
+
+  -- What an answer says of the table: 24, that it is no `ShortestTable`; 25, 'no route' and a route, that it is one.
+  pub record TableKnown (answer : Answer) : Type 0 where
+    pub wrong : answer ≡ refused (state 24) → ShortestTable → ⊥
+    pub right : isRefused answer ≡ false → ShortestTable
+    pub right-too : answer ≡ refused (state 25) → ShortestTable

@@ -1,6 +1,6 @@
 -- Laws of `any`, `all`, `count` and `lead`, in the forms that a loop asks: no index, one index more, a stop, the end. Assumes nothing.
 use Prim.Native.Nat.{ℕ, zero, suc, _+_, _<_, _≤_}
-use mathlib.Core.Bool.{Bool, true, false, cond, _&&_, _||_, true≢false, or-true}
+use mathlib.Core.Bool.{Bool, true, false, cond, _&&_, _||_, true≢false, or-true, and-false}
 use mathlib.Core.Path.{_≡_, refl, sym, ap, _∙_}
 use mathlib.Core.Logic.{⊎-elim}
 use native.Mathlib.Nat.{eq-or-lt-of-le, le-of-suc-le-suc, not-suc-le-zero}
@@ -88,6 +88,22 @@ any-front p zero = or-false (p 0)
 any-front p (suc n) = ap (λ (b : Bool). b || p (suc n)) (any-front p n) ∙ or-assoc (p 0) (any (λ i. p (suc i)) n) (p (suc n))
 
 -- ALL
+pub all-none : (p : ℕ → Bool) → all p 0 ≡ true
+unfolding all
+all-none p = refl
+
+pub all-more : (p : ℕ → Bool) (i : ℕ) → all p i ≡ true → p i ≡ true → all p (i + 1) ≡ true
+unfolding all
+all-more p i before here = rw (add-one, all, before, here)
+
+pub all-miss : (p : ℕ → Bool) (i n : ℕ) → i < n → p i ≡ false → all p n ≡ false
+unfolding all
+all-miss p i zero l h = absurd (not-suc-le-zero l)
+all-miss p i (suc n) l h = ⊎-elim (λ e. rw (← e, h, and-false)) (λ lt. rw (all-miss p i n lt h)) (eq-or-lt-of-le (le-of-suc-le-suc l))
+
+pub all-end : (p : ℕ → Bool) (i n : ℕ) → i ≡ n → all p i ≡ true → all p n ≡ true
+all-end p i n e h = rw (← e) h
+
 pub all-at : (p : ℕ → Bool) (n i : ℕ) → all p n ≡ true → i < n → p i ≡ true
 unfolding all
 all-at p zero i e l = absurd (not-suc-le-zero l)

@@ -1,0 +1,4 @@
+pub mod AtArcs
+pub mod Fits
+pub mod Parts
+pub mod Walks

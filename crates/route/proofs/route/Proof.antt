@@ -1,0 +1,53 @@
+-- `route` meets its contract: the sheet's refusal, or the answer for an accepted sheet. Assumes nothing.
+use mathlib.Core.Path.{_≡_, sym, ap, _∙_}
+use Rattle.judge.specs.Said.{said as saidByJudge}
+use Rattle.answers.proofs.Routes.{sheet-stops}
+use Rattle.route.proofs.Stages.{left-refused, left-after, answer-known}
+use borrow.Author.Needs.{needs}
+use Rattle.route.proofs.route.Statement.{statement}
+use Rattle.route.proofs.route.Tie as tie
+
+judge-requires : tie.Need-judge-requires
+judge-requires c κs = search needs
+
+enum-told : tie.Need-enum-told
+enum-told c = search needs
+
+answer-requires : tie.Need-answer-requires
+answer-requires c κs =
+    let judge = c .before .before .before .judge in
+    sym (judge .ensures) ∙ ap saidByJudge (c .before .enum-told .given .1)
+
+enum-known-judged : tie.Need-enum-known-judged
+enum-known-judged c = search needs
+
+same-length : tie.Need-same-length
+same-length c = search needs
+
+returns : tie.Need-returns
+returns c =
+    let earlier = c .before .before .before .before in
+    let early = earlier .before .before .before .before in
+    let args = early .before .before .args in
+    let same = c .before .before .answer .ensures .0 in
+    (same, c .before .before .answer .ensures .1 ∙ left-after (args .sheet .now) (args .table .now) (args .node) (args .buffer .now) _ same, answer-known (args .sheet .now) (args .table .now) (args .node) (args .buffer .now) _ same)
+
+returns-2 : tie.Need-returns-2
+returns-2 c =
+    let earlier = c .before .before .before .before in
+    let args = earlier .before .before .before .args in
+    let judge = c .before .before .before .judge in
+    let same = sym (sheet-stops (args .sheet .now) (args .table .now) (args .node) (args .buffer .now) _ (sym (judge .ensures) ∙ ap saidByJudge (c .before .judged .given .1))) in
+    (same, left-refused (args .sheet .now) (args .table .now) (args .node) (args .buffer .now) _ ∙ left-after (args .sheet .now) (args .table .now) (args .node) (args .buffer .now) _ same, answer-known (args .sheet .now) (args .table .now) (args .node) (args .buffer .now) _ same)
+
+pub route-spec : {M : Type 1} → statement M
+route-spec =
+    tie.close
+    (tie.spec
+    judge-requires
+    enum-told
+    answer-requires
+    enum-known-judged
+    same-length
+    returns
+    returns-2)

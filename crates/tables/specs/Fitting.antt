@@ -1,0 +1,30 @@
+-- What the functions over a sheet and a table ask of the two, and the table's columns for the sheet. Definitions; assumes nothing.
+use Prim.Native.Nat.{ℕ}
+use mathlib.Core.Path.{_≡_}
+use mathlib.Core.List.{List}
+use lib.ListN.{length}
+use Rattle.indices.specs.Columns.{at}
+use Rattle.sheet.specs.declared.Sections.{Sections}
+use Rattle.sheet.specs.Sections.{Located, nodeCount}
+use Rattle.refusals.specs.Judgement.{Accepted}
+use Rattle.procedure.specs.Graph.{tail}
+use Rattle.procedure.specs.OfSheet.{graphOf}
+use Rattle.answers.specs.Tables.{tableLength, labelsIn, predecessorsIn}
+
+-- an accepted sheet whose sections are found, and a table of its length
+pub record Fitting (b : List ℕ) (at : Sections) (table : List ℕ) : Type 0 where
+  pub located : Located b at
+  pub accepted : Accepted b
+  pub sized : length table ≡ tableLength (nodeCount b)
+
+-- the labels and predecessors of the sheet's nodes
+module _ (b table : List ℕ) where
+  abbrev pub labels : List ℕ
+  labels = labelsIn (nodeCount b) table
+
+  abbrev pub predecessors : List ℕ
+  predecessors = predecessorsIn (nodeCount b) table
+
+  -- the node that v's predecessor leads from
+  abbrev pub nodeBefore : ℕ → ℕ
+  nodeBefore v = tail (graphOf b) (at predecessors v)

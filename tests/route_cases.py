@@ -1,0 +1,334 @@
+"""Writes the cases of crates/route_cases: stdin, a line of a sheet and a table's words in hexadecimal, a node and the buffer's length, and stdout,
+the route, 'no route' or the refusal expected.
+
+What is expected comes from the route reader of tests/procedure.py. It has to agree with every line of tests/route_vectors.txt and with each answer that
+a case states; otherwise the script stops and writes nothing.
+Run it by `python3 tests/route_cases.py`: it writes the same files each time.
+"""
+from cases import bytes_in, data, digits_of, digits_of_words, hold, words_in, write_cases
+from procedure import HEADER, NONE, Hall, distances, route, tables
+from sheets import (
+    FAULTS, HALL_A, Chance, balanced, chain, changed, divided, flat, halving, ladder, one_deep, packed, random_arcs, random_regions,
+    sheet_of, single_children, two_each_way, with_faults,
+)
+
+
+# Tables. A case is (sheet, table, node, room) with the answer stated, None where the route reader alone says it.
+
+def ended(sheet):
+    return tables(Hall(sheet))[None]
+
+
+def table_of(labels, feeding, status=1, counts=(0,) * 8):
+    words = [8 << 28 | status] + [11 << 28 | count for count in counts]
+    for label, arc in zip(labels, feeding):
+        words += [9 << 28 | label, 10 << 28 | arc]
+    return words
+
+
+def other_tree(chance, sheet):
+    """A table of distances whose feeding arcs are some shortest ones, grown from the source, and not those of a run."""
+    hall = Hall(sheet)
+    labels = distances(hall)
+    feeding, reached, fresh = [NONE] * hall.nodes, {hall.source}, True
+    while fresh:
+        fresh = [
+            arc for arc, (tail, head) in enumerate(zip(hall.tails, hall.heads))
+            if tail in reached and head not in reached and labels[tail] + hall.lengths[arc] == labels[head]
+        ]
+        if fresh:
+            arc = fresh[chance.below(len(fresh))]
+            feeding[hall.heads[arc]] = arc
+            reached.add(hall.heads[arc])
+    return table_of(labels, feeding, counts=[chance.below(2**28) for _ in range(8)])
+
+
+def routes(sheet, table, nodes=None):
+    """Each node's route into a buffer just long enough, one word longer, one short and none; 15 on its near side and far."""
+    count = Hall(sheet).nodes
+    for node in range(count) if nodes is None else nodes:
+        answer = route(sheet, table, node, 1024)
+        length = len(answer[1]) if answer[0] == 'route' else 0
+        for room in sorted({length, length + 3, max(length - 1, 0), 0}):
+            yield (sheet, table, node, room), None if answer[0] == 'route' else 'no route'
+    for node in (count, 2**32 - 1):
+        yield (sheet, table, node, 1), 'refused input 15'
+
+
+def with_payload(table, at, payload):
+    return changed(table, at, table[at] >> 28 << 28 | payload)
+
+
+def label_at(node):
+    return HEADER + 2 * node
+
+
+def feeding_at(node):
+    return HEADER + 2 * node + 1
+
+
+A = packed(HALL_A)
+TABLE_A = ended(A)
+ROUTE_A = 'route 3: 000000010000000200000003'
+
+
+def marked():
+    yield (A, TABLE_A, 3, 3), ROUTE_A
+    yield (A, TABLE_A, 3, 2), 'refused state 25'
+    yield (A, with_payload(TABLE_A, label_at(3), 9), 3, 3), 'refused state 24'
+    yield from routes(A, TABLE_A)
+    ring = sheet_of(3, 0, [1], [(1, 2, 0), (2, 1, 0)], flat(2))
+    for label in (0, 7, 268172289, NONE - 1):
+        yield (ring, table_of([0, label, label], [NONE, 1, 0]), 1, 9), 'refused state 24'
+    yield from routes(ring, ended(ring))
+
+
+def small_halls():
+    chance = Chance(5)
+    lengths = [[0], [0, 1], [1], [0, 1, 2, 5], [262143], list(range(0, 262144, 4099))]
+    for turn in range(40):
+        nodes = 2 + chance.below(8)
+        count = 2 * nodes - chance.below(nodes)
+        arcs = random_arcs(chance, nodes, count, lengths[turn % 6])
+        shapes = [
+            flat(count), ladder(1 + turn % 15, count), chain(1 + turn % 15, count), single_children(2 + turn % 3, count),
+            balanced(2, chance.shuffled(range(count))), random_regions(chance, count)[0],
+        ]
+        at = chance.below(len(shapes))
+        source = arcs[0][0]
+        sheet, other = (divided(nodes, source, arcs, shapes[(at + step) % 6], lambda h: 1 + (turn + h) % 4) for step in range(2))
+        yield chance, sheet, other
+
+
+def good_tables():
+    """Tables of a run, of a run of another division of the same hall, and of other shortest trees."""
+    for chance, sheet, other in small_halls():
+        yield from routes(sheet, ended(sheet))
+        for table in (ended(other), other_tree(chance, sheet)):
+            nodes = Hall(sheet).nodes
+            yield from routes(sheet, table, sorted({chance.below(nodes), nodes - 1}))
+
+
+def lengths_of_tables():
+    for sheet in (A, sheet_of(1, 0, [1]), sheet_of(64, 63, [1])):
+        table = ended(sheet)
+        for wrong in ([], table[:1], table[:HEADER], table[:-2], table[:-1], table + [0], table + table[-2:], table + table, table + [0] * 1000):
+            yield (sheet, wrong, 0, 9), 'refused state 21'
+        yield (sheet, table, 0, 9), None
+    two = sheet_of(2, 0, [1], [(0, 1)], flat(1))
+    yield (A, ended(two), 0, 9), 'refused state 21'
+    yield (two, TABLE_A, 0, 9), 'refused state 21'
+
+
+def kinds():
+    """Every kind at every place of the table of hall A."""
+    for at, word in enumerate(TABLE_A):
+        for kind in range(16):
+            table = changed(TABLE_A, at, kind << 28 | word % 2**28)
+            yield (A, table, 3, 3), ROUTE_A if kind == word >> 28 else 'refused state 22'
+
+
+def payloads():
+    """Status, feeding arcs, labels and counts with other payloads, at every place of the table of hall A."""
+    yield (A, with_payload(TABLE_A, 0, 0), 3, 3), 'refused state 23'
+    for status in (2, 3, 8, 65537, NONE):
+        yield (A, with_payload(TABLE_A, 0, status), 3, 3), 'refused state 22'
+    for at in range(1, HEADER):
+        for count in (0, 1, 65535, NONE):
+            yield (A, with_payload(TABLE_A, at, count), 3, 3), ROUTE_A
+    for node in range(4):
+        for arc in (4, 5, 2047, 2048, 65535, 65536, NONE - 1):
+            yield (A, with_payload(TABLE_A, feeding_at(node), arc), 0, 0), 'refused state 22'
+        for arc in (0, 1, 2, 3, NONE):
+            right = TABLE_A[feeding_at(node)] % 2**28
+            yield (A, with_payload(TABLE_A, feeding_at(node), arc), 3, 3), ROUTE_A if arc == right else 'refused state 24'
+        label = TABLE_A[label_at(node)] % 2**28
+        for wrong in {label - 1, label + 1, label + 65536, 2**27, NONE - 1, NONE} - {-1}:
+            yield (A, with_payload(TABLE_A, label_at(node), wrong), 0, 0), 'refused state 24'
+
+
+def one_off():
+    """One distance one too small or too large, one feeding arc another, with all else right."""
+    chance = Chance(6)
+    for _, sheet, _ in list(small_halls())[::4]:
+        hall, table = Hall(sheet), ended(sheet)
+        for node in range(hall.nodes):
+            label = table[label_at(node)] % 2**28
+            for wrong in {label - 1, label + 1} - {-1, NONE + 1}:
+                yield (sheet, with_payload(table, label_at(node), wrong), 0, 9), 'refused state 24'
+            yield (sheet, with_payload(table, feeding_at(node), chance.below(len(hall.tails))), node, 99), None
+
+
+def unreached():
+    """Node 2 is not reached, node 3 leads to it and is not reached either."""
+    sheet = sheet_of(4, 0, [1], [(0, 1, 5), (3, 2, 1)], flat(2))
+    table = ended(sheet)
+    for room in (0, 1, 9):
+        yield (sheet, table, 2, room), 'no route, unchanged'
+    for at, payload in ((label_at(2), 0), (label_at(2), 6), (feeding_at(2), 1), (feeding_at(2), 0), (label_at(1), NONE), (feeding_at(1), NONE)):
+        for node in range(4):
+            yield (sheet, with_payload(table, at, payload), node, 0), 'refused state 24'
+    fed = with_payload(with_payload(table, label_at(2), 6), feeding_at(2), 1)
+    yield (sheet, fed, 1, 1), 'refused state 24'
+    yield (sheet, with_payload(fed, label_at(3), 5), 1, 1), 'refused state 24'
+    lost = with_payload(with_payload(table, label_at(1), NONE), feeding_at(1), NONE)
+    yield (sheet, lost, 1, 1), 'refused state 24'
+    yield (sheet, lost, 2, 1), 'refused state 24'
+
+
+def rings():
+    """Feeding arcs that are all tight and run round a ring, or come from one, or lead back to the source."""
+    sheet = sheet_of(4, 0, [1], [(0, 1, 7), (1, 2, 0), (2, 1, 0), (2, 3, 1)], flat(4))
+    labels = [0, 7, 7, 8]
+    yield from routes(sheet, table_of(labels, [NONE, 0, 1, 3]))
+    for node in range(4):
+        yield (sheet, table_of(labels, [NONE, 2, 1, 3]), node, 9), 'refused state 24'
+    for feeding in ([NONE, 0, 1, NONE], [NONE, 0, 0, 3], [NONE, 0, 1, 1], [NONE, 3, 1, 3], [NONE, 0, 3, 3]):
+        yield (sheet, table_of(labels, feeding), 1, 9), 'refused state 24'
+    own = sheet_of(2, 0, [1], [(0, 0, 0), (0, 1, 3), (1, 1, 0), (1, 0, 0)], flat(4))
+    yield from routes(own, table_of([0, 3], [NONE, 1]))
+    for feeding in ([0, 1], [3, 1], [NONE, 2], [1, 1], [NONE, 0], [NONE, 3]):
+        yield (own, table_of([0, 3], feeding), 1, 9), 'refused state 24'
+    back = sheet_of(3, 0, [1], [(0, 1, 0), (1, 2, 0), (2, 0, 0), (2, 1, 0)], flat(4))
+    yield from routes(back, table_of([0, 0, 0], [NONE, 0, 1]))
+    for feeding in ([2, 0, 1], [NONE, 3, 1], [2, 3, 1]):
+        for node in range(3):
+            yield (back, table_of([0, 0, 0], feeding), node, 9), 'refused state 24'
+    long_ring = sheet_of(9, 0, [1], [(0, 1, 2)] + [(v, v % 8 + 1, 0) for v in range(1, 9)], flat(9))
+    yield from routes(long_ring, ended(long_ring))
+    yield (long_ring, table_of([0] + [2] * 8, [NONE, 8] + list(range(1, 8))), 0, 9), 'refused state 24'
+
+
+def parallel():
+    """Two arcs with the same ends: either feeds where they are as long, the shorter one alone where not."""
+    for lengths in ((3, 3), (3, 4), (4, 3), (0, 0)):
+        sheet = sheet_of(2, 0, [1], [(0, 1, lengths[0]), (0, 1, lengths[1])], flat(2))
+        for arc in range(2):
+            good = lengths[arc] == min(lengths)
+            yield (sheet, table_of([0, min(lengths)], [NONE, arc]), 1, 1), said(('route', [arc])) if good else 'refused state 24'
+
+
+# Two faults in one case. Each change makes one fault of a case over a sheet of 8 nodes, of which 0 and 7 are not reached.
+
+PAIRED = with_faults()
+PAIRED_TABLE = ended(PAIRED)
+
+
+def made(*changes):
+    case = {'sheet': PAIRED, 'table': PAIRED_TABLE, 'node': 5, 'room': 4}
+    for change in changes:
+        case.update(change(case))
+    return case['sheet'], case['table'], case['node'], case['room']
+
+
+def put_at(at, payload):
+    return lambda case: {'table': with_payload(case['table'], at, payload)}
+
+
+CASE_FAULTS = {
+    'input 15': [lambda case: {'node': 8}, lambda case: {'node': 2**32 - 1}],
+    'state 21': [lambda case: {'table': case['table'] + [0]}, lambda case: {'table': case['table'][:-1]}],
+    'state 22': [
+        put_at(feeding_at(3), 6), lambda case: {'table': changed(case['table'], 4, 0)}, lambda case: {'table': changed(case['table'], label_at(7), 10 << 28)},
+    ],
+    'state 23': [put_at(0, 0)],
+    'state 24': [put_at(label_at(6), 1), put_at(feeding_at(2), NONE), put_at(feeding_at(1), 0), put_at(feeding_at(0), 1)],
+    'state 25': [lambda case: {'room': 3}, lambda case: {'room': 0}],
+}
+
+
+def pairs():
+    """Each fault alone and every two together, those of the sheet among them: the answer is the one that is looked at first."""
+    yield made(), said(('route', [1, 2, 3, 4]))
+    yield made(lambda case: {'node': 7, 'room': 0}), 'no route'
+    for change in CASE_FAULTS['state 24']:
+        yield made(change, lambda case: {'node': 7, 'room': 0}), 'refused state 24'
+    names = list(CASE_FAULTS)
+    for at, name in enumerate(names):
+        for change in CASE_FAULTS[name]:
+            yield made(change), 'refused ' + name
+            for later in names[at + 1:]:
+                for other in CASE_FAULTS[later]:
+                    yield made(other, change), 'refused ' + name
+    for number, changes in FAULTS.items():
+        for change in changes:
+            sheet = with_faults(change)
+            yield made(lambda case: {'sheet': sheet}), 'refused input %d' % number
+            for name in names:
+                other = CASE_FAULTS[name][number % len(CASE_FAULTS[name])]
+                yield made(other, lambda case: {'sheet': sheet}), 'refused input %d' % number
+
+
+# Larger halls.
+
+def middling():
+    chance = Chance(7)
+    for turn in range(6):
+        nodes = 60 + chance.below(60)
+        arcs = random_arcs(chance, nodes, 2 * nodes, [[0, 1], list(range(262144)), [0]][turn % 3])
+        sheet = divided(nodes, chance.below(nodes), arcs, balanced(3, chance.shuffled(range(2 * nodes))), lambda h: 3)
+        for table in (ended(sheet), other_tree(chance, sheet)):
+            yield from routes(sheet, table, [chance.below(nodes)])
+
+
+def full_size():
+    chance = Chance(8)
+    line = [(v, v + 1, 262143) for v in range(1023)] + [(v + 1, v, 0) for v in range(1023)]
+    longest = divided(1024, 0, line, flat(2046), lambda h: 1)
+    table = ended(longest)
+    yield (longest, table, 1023, 1023), None
+    yield (longest, table, 1023, 1022), 'refused state 25'
+    yield (longest, with_payload(table, label_at(1023), 268172288), 0, 0), 'refused state 24'
+    back = divided(1024, 1023, line, flat(2046), lambda h: 1)
+    yield (back, ended(back), 0, 1024), None
+    ring = divided(1024, 0, [(0, 1, 5)] + [(v, v % 1023 + 1, 0) for v in range(1, 1024)], flat(1024), lambda h: 1)
+    yield (ring, ended(ring), 1023, 2000), None
+    yield (ring, table_of([0] + [5] * 1023, [NONE, 1023] + list(range(1, 1023))), 0, 0), 'refused state 24'
+    arcs = random_arcs(chance, 1024, 2048, [0, 1, 2])
+    sheet = divided(1024, 7, arcs, one_deep(2032), lambda h: 1_000_000)
+    yield (sheet, other_tree(chance, sheet), 9, 1023), None
+    yield (sheet, ended(divided(1024, 7, arcs, halving(), lambda h: 2)), 1000, 4096), None
+    wide = divided(1024, 0, two_each_way(1024), halving(), lambda h: 1_000_000)
+    yield (wide, ended(wide), 1023, 600), None
+    alone = sheet_of(1024, 5, [1])
+    yield from routes(alone, ended(alone), [0, 5])
+
+
+FAMILIES = [
+    marked, good_tables, lengths_of_tables, kinds, payloads, one_off, unreached, rings, parallel, pairs, middling, full_size,
+]
+
+
+def vectors():
+    for line in data('route_vectors.txt'):
+        sheet, words, node, room, answer, arcs = line.split()
+        if answer.startswith('route:'):
+            stated = said(('route', [] if arcs == '-' else [int(arc) for arc in arcs.split(',')]))
+        else:
+            stated = 'no route, unchanged' if answer == 'no-route' else 'refused %s, unchanged' % answer.replace(':', ' ')
+        yield (bytes_in(sheet), words_in(words), int(node), int(room)), stated
+
+
+def said(answer):
+    """The line expected for an answer of the route reader."""
+    if answer[0] == 'route':
+        return 'route %d: %s, unchanged' % (len(answer[1]), digits_of_words(answer[1]))
+    return 'no route, unchanged' if answer[0] == 'no route' else 'refused %s %d, unchanged' % answer
+
+
+def checked(family):
+    """The cases of a family with the lines expected."""
+    for (sheet, table, node, room), stated in family():
+        case = '%s %s %d %d' % (digits_of(sheet), digits_of_words(table) or '-', node, room)
+        line = said(route(sheet, table, node, room))
+        hold(family, case, line, stated)
+        yield case, line
+
+
+def kind(line):
+    """The answer that a line says, without the route."""
+    return 'route' if line.startswith('route') else line.split(',')[0]
+
+
+if __name__ == '__main__':
+    write_cases('route_cases', [vectors], FAMILIES, checked, kind)

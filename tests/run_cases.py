@@ -1,0 +1,249 @@
+"""Writes the cases of crates/run_cases: stdin, a line of a sheet in hexadecimal, a limit of rounds ('-' for none) and the table's length, and
+stdout, the answer and the table expected, or the refusal.
+
+What is expected comes from tests/procedure.py. It has to agree with every line of tests/limited_vectors.txt and tests/marks_vectors.txt
+and with each answer that a case states; every ended table has to hold the distances found a second way, and on small halls the run without heaps has
+to make the same tables. Otherwise the script stops and writes nothing.
+Run it by `python3 tests/run_cases.py`: it writes the same files each time.
+"""
+import sys
+
+from cases import bytes_in, data, digits_of, digits_of_words, hold, write_cases
+from paper import judge
+from procedure import HEADER, NONE, Hall, PlainRun, Run, distances, shortest, table_refusal, table_size, tables
+from sheets import (
+    FAULTS, HALL_A, Chance, alternate, balanced, chain, changed, divided, flat, halving, ladder, many_chains, one_deep, packed,
+    random_arcs, random_regions, sheet_of, side_by_side, single_children, two_each_way, with_faults, woken,
+)
+
+MOST_LIMIT = 2**32 - 1
+
+
+# A group of cases: a sheet with a list of limits and table lengths, and for each the answer stated, None where the procedure alone says it.
+
+def right(sheet):
+    """The length of the table of a sheet that has to be accepted."""
+    if judge(sheet):
+        sys.exit('refused with %d: %s' % (judge(sheet), sheet.hex()[:300]))
+    return table_size(Hall(sheet).nodes)
+
+
+def rounds_of(sheet):
+    return tables(Hall(sheet))[None][2] % 2**28
+
+
+def around_the_end(sheet):
+    """Limits from 0 to beyond the end: those next to either, and one between."""
+    rounds = rounds_of(sheet)
+    limits = {0, 1, 2, rounds // 2, rounds - 1, rounds, rounds + 1, MOST_LIMIT}
+    return sheet, [(limit, right(sheet), None) for limit in sorted(limits) if limit >= 0] + [(None, right(sheet), None)]
+
+
+def marked():
+    a = packed(HALL_A)
+    yield a, [(None, 17, 'ended'), (1, 17, 'paused'), (0, 17, 'paused')]
+    yield around_the_end(a)
+    yield packed([0x10000001, 0x20000000, 0x30000001]), [(limit, 11, 'ended') for limit in (0, 1, MOST_LIMIT, None)]
+    yield packed([0x10000001, 0x20000000]), [(None, 11, 'refused input 14')]
+    yield around_the_end(packed(changed(HALL_A, 0, 1 << 28 | 1024)))
+    for at in (5, 7, 9, 11):
+        yield around_the_end(packed(changed(HALL_A, at, 5 << 28 | 262143)))
+        yield packed(changed(HALL_A, at, 5 << 28 | 262144)), [(None, 17, 'refused input 9')]
+
+
+def lengths_of_tables():
+    for sheet in (packed(HALL_A), sheet_of(1, 0, [1]), sheet_of(1024, 1023, [7], [(1023, 0, 5)], flat(1)), single(5)):
+        good = right(sheet)
+        wrong = [length for length in (0, 1, HEADER, good - HEADER, good - 2, good - 1, good + 1, good + 2, good + 1000, 4096) if length != good]
+        for limit in (0, 1, MOST_LIMIT, None):
+            yield sheet, [(limit, length, 'refused state 21') for length in wrong]
+            yield sheet, [(limit, good, None)]
+
+
+def single(height):
+    """A hall of five nodes in a division of single children."""
+    arcs = [(0, 1, 3), (0, 2, 1), (2, 1, 1), (1, 3, 0), (3, 3, 0), (4, 4, 2)]
+    return divided(5, 0, arcs, single_children(height, len(arcs)), lambda h: 1)
+
+
+def refused():
+    """Each refusal with a table of the right length, one short, one long and none: the lower number wins."""
+    for number, changes in FAULTS.items():
+        for at, change in enumerate(changes):
+            sheet = with_faults(change)
+            lengths = (25, 24, 26, 0) if at == 0 else (25, 17)
+            yield sheet, [(limit, length, 'refused input %d' % number) for length in lengths for limit in (None, at)]
+    yield b'', [(None, 0, 'refused input 2'), (0, 9, 'refused input 2'), (5, 11, 'refused input 2')]
+    yield packed([0x10000000, 0x20000000]), [(None, 9, 'refused input 4')]
+
+
+# Small halls.
+
+SPANS = [lambda h: 1, lambda h: 1_000_000, lambda h: 1 + h % 3, lambda h: 2 if h == 1 else 1]
+
+
+def small_halls():
+    """Halls with ties, zero lengths, parallel arcs, self-arcs and nodes that no route reaches, in every shape of division."""
+    chance = Chance(2)
+    lengths = [[0], [0, 1], [1], [0, 1, 2, 5], [262143], list(range(0, 262144, 4099))]
+    for turn in range(72):
+        nodes = 2 + chance.below(9)
+        count = 1 + chance.below(2 * nodes) if turn % 4 else 2 * nodes
+        arcs = random_arcs(chance, nodes, count, lengths[turn % 6])
+        shapes = [
+            flat(count), flat(count)[::-1], chain(1 + turn % 15, count), ladder(1 + turn % 15, count), single_children(1 + turn % 15, count),
+            balanced(2, chance.shuffled(range(count))), balanced(3, list(range(count))), random_regions(chance, count)[0],
+        ]
+        source = arcs[chance.below(count)][0] if turn % 5 else chance.below(nodes)
+        yield divided(nodes, source, arcs, shapes[turn % 8], SPANS[chance.below(4)])
+
+
+def listed_halls():
+    for height in range(1, 16):
+        yield single(height)
+        arcs = two_each_way(4)
+        yield divided(4, height % 4, arcs, chain(height, 8), lambda h: 1 + h % 2)
+        yield divided(4, height % 4, arcs, ladder(height, 8), lambda h: 1_000_000)
+    for arcs in ([(0, 0, 0)], [(0, 0, 5)], [(0, 0, 0)] * 2, [(0, 1, 4), (0, 1, 3)], [(0, 1, 3), (0, 1, 3)], [(1, 0, 2)], [(1, 2, 0), (2, 1, 0)],
+                 [(0, 1, 0), (1, 0, 0)], [(0, 1, 7), (1, 2, 0), (2, 1, 0)], [(0, 2, 3), (0, 1, 2), (1, 2, 1)], [(0, 2, 3), (0, 1, 1), (1, 2, 1)]):
+        for regions in (flat(len(arcs)), flat(len(arcs))[::-1], chain(3, len(arcs)), single_children(2, len(arcs))):
+            yield divided(3, 0, arcs, regions, lambda h: 1)
+
+
+def small():
+    for sheet in listed_halls():
+        yield around_the_end(sheet)
+    for sheet in small_halls():
+        yield around_the_end(sheet)
+
+
+# Larger halls: middling ones, such in which the deepest region is woken again and again, and full size.
+
+def middling():
+    chance = Chance(3)
+    for turn in range(16):
+        nodes = 40 + chance.below(60)
+        count = 2 * nodes - chance.below(nodes)
+        arcs = random_arcs(chance, nodes, count, [[0, 1, 2, 3], list(range(262144)), list(range(100))][turn % 3])
+        shapes = [
+            flat(count), ladder(15, count), chain(15, count), balanced(2, chance.shuffled(range(count))), balanced(5, list(range(count))),
+            side_by_side([1 + chance.below(15) for _ in range(count)]), random_regions(chance, count)[0], balanced(2, list(range(count))),
+        ]
+        span = [lambda h: 1, lambda h: 1 + chance.below(6), lambda h: 1_000_000][chance.below(3)]
+        sheet = divided(nodes, arcs[0][0], arcs, shapes[turn % 8], span)
+        rounds = rounds_of(sheet)
+        yield sheet, [(limit, right(sheet), None) for limit in (rounds // 2, rounds - 1, rounds + 5)] + [(None, right(sheet), None)]
+
+
+def woken_again():
+    for levels, links in ((1, 1), (2, 3), (3, 1), (5, 20), (8, 60), (11, 100), (14, 12)):
+        nodes, arcs, regions = woken(levels, links)
+        yield around_the_end(divided(nodes, 0, arcs, regions, lambda h: 1_000_000))
+        if levels < 9:
+            yield around_the_end(divided(nodes, 0, arcs, regions, lambda h: 1))
+            yield around_the_end(divided(nodes, 0, arcs, regions, lambda h: 3 - h % 2))
+
+
+def full_size():
+    chance = Chance(4)
+    arcs = two_each_way(1024)
+    mixed = random_arcs(chance, 1024, 2048, list(range(1000)))
+    ties = random_arcs(chance, 1024, 2048, [0, 1, 2])
+    wide = random_arcs(chance, 1024, 2048, list(range(262144)))
+    longest = [(v, v + 1, 262143) for v in range(1023)] + [(v + 1, v, 0) for v in range(1023)]
+    for sheet, limits in (
+        (divided(1024, 1023, arcs, one_deep(2032), lambda h: 1_000_000), (None,)),
+        (divided(1024, 1023, mixed, one_deep(2032), lambda h: 1 + chance.below(9)), (40,)),
+        (divided(1024, 0, wide, halving(), lambda h: 1), (1000,)),
+        (divided(1024, 0, mixed, halving(), lambda h: 1_000_000), (1,)),
+        (divided(1024, 7, ties, alternate(), lambda h: 2), (100,)),
+        (divided(1024, 7, wide, flat(2048)[::-1], lambda h: 1_000_000), (None,)),
+        (divided(1024, 9, mixed, flat(2048), lambda h: 1), (MOST_LIMIT,)),
+        (divided(1024, 0, longest, balanced(4, chance.shuffled(range(2046))), lambda h: 1 + h), (None,)),
+        (divided(1024, 0, wide, balanced(13, chance.shuffled(range(2048))), lambda h: 1 + chance.below(1_000_000)), (2,)),
+        (divided(200, 199, two_each_way(200)[:286], many_chains(272, 14), lambda h: 1 + h % 2), (5, None)),
+    ):
+        yield sheet, [(limit, right(sheet), None) for limit in limits]
+
+
+FAMILIES = [marked, lengths_of_tables, refused, small, middling, woken_again, full_size]
+
+
+# The vectors.
+
+def limited_vectors():
+    for line in data('limited_vectors.txt'):
+        sheet, limit, length, answer, words = line.split()
+        said = {'ended': 'ended ' + words, 'paused': 'paused ' + words}.get(answer, 'refused %s, unchanged' % answer.replace(':', ' '))
+        yield bytes_in(sheet), [(int(limit), int(length), said)]
+
+
+def marks_vectors():
+    """The sheets of the vectors of `marks`, to their end, where what it prints is what the procedure says."""
+    for line in data('marks_vectors.txt'):
+        digits, printed = line.split(' ', 1)
+        sheet = bytes_in(digits)
+        if '|'.join(marks(sheet)) != printed:
+            sys.exit('marks prints %s: %s' % ('|'.join(marks(sheet))[:200], line[:200]))
+        yield sheet, [(None, 25 if judge(sheet) else right(sheet), None)]
+
+
+def marks(sheet):
+    """The lines that `marks` prints."""
+    number = judge(sheet)
+    if number:
+        return ['refused %d' % number]
+    run = Run(Hall(sheet))
+    while not run.ended():
+        run.round()
+    lines = ['ended rounds %d leaves %d inner %d updates %d' % (run.rounds, run.leaves, run.inner, run.updates)]
+    for node, values in enumerate(zip(run.labels, run.feeding)):
+        lines.append(' '.join([str(node)] + ['-' if value == NONE else str(value) for value in values]))
+    return lines
+
+
+# What is expected.
+
+def sound(hall, table):
+    """Whether a table can be one of a run: an ended one is shortest, and no label of a paused one is below the distance."""
+    labels, feeding = ([word % 2**28 for word in table[HEADER + at::2]] for at in range(2))
+    if table[0] % 2:
+        return shortest(hall, labels, feeding)
+    return all(label >= distance for label, distance in zip(labels, distances(hall)))
+
+
+def answers(sheet, wanted):
+    """The lines expected for a sheet and pairs of a limit and a length."""
+    refusals = [table_refusal(sheet, length) for _, length in wanted]
+    if all(refusals):
+        return ['refused %s %d, unchanged' % refusal for refusal in refusals]
+    hall = Hall(sheet)
+    made = tables(hall, [limit for limit, _ in wanted])
+    if not all(sound(hall, table) for table in made.values()):
+        sys.exit('a table is not one of a run: %s' % sheet.hex()[:300])
+    if len(hall.tails) < 40 and tables(hall, list(made), PlainRun) != made:
+        sys.exit('the run without heaps differs: %s' % sheet.hex()[:300])
+    lines = []
+    for refusal, (limit, _) in zip(refusals, wanted):
+        table = made[limit]
+        said = ('paused ', 'ended ')[table[0] % 2] + digits_of_words(table)
+        lines.append('refused %s %d, unchanged' % refusal if refusal else said)
+    return lines
+
+
+def checked(family):
+    """The cases of a family with the lines expected."""
+    for sheet, cases in family():
+        for (limit, length, stated), line in zip(cases, answers(sheet, [case[:2] for case in cases])):
+            case = '%s %s %d' % (digits_of(sheet), '-' if limit is None else limit, length)
+            hold(family, case, line, stated)
+            yield case, line
+
+
+def kind(line):
+    """The answer that a line says."""
+    return line.split(',')[0] if line.startswith('refused') else line.split(' ')[0]
+
+
+if __name__ == '__main__':
+    write_cases('run_cases', [limited_vectors, marks_vectors], FAMILIES, checked, kind)
