@@ -38,6 +38,20 @@ fn status_word(ended: bool) -> u32
     word(STATUS, 0)
 }
 
+fn label_word(label: u32) -> u32
+    requires { ⌜ label < 268435456 ⌝ }
+    ensures { λ w. ⌜ w ≡ tableWord 9 label ⌝ }
+{
+    word(LABEL, label)
+}
+
+fn predecessor_word(predecessor: u32) -> u32
+    requires { ⌜ predecessor < 268435456 ⌝ }
+    ensures { λ w. ⌜ w ≡ tableWord 10 predecessor ⌝ }
+{
+    word(PREDECESSOR, predecessor)
+}
+
 // Writes two words from place i on.
 fn write_pair(table: &mut [u32], i: usize, first: u32, second: u32)
     requires { ⌜ i + 1 < length (now table) ⌝ }
@@ -77,8 +91,8 @@ fn write_nodes(table: &mut [u32], labels: &[u32], predecessors: &[u32])
 {
     let mut v = 0;
     while v < labels.len() {
-        let label = word(LABEL, labels[v]);
-        let predecessor = word(PREDECESSOR, predecessors[v]);
+        let label = label_word(labels[v]);
+        let predecessor = predecessor_word(predecessors[v]);
         write_pair(table, HEADER + 2 * v, label, predecessor);
         v += 1;
     }
