@@ -42,17 +42,17 @@ pub record Prefix (n : ℕ) (f : ℕ → ℕ) (l : List ℕ) (i : ℕ) : Type 0 
   pub long : length l ≡ n
   pub entries : Entered (λ i. i) f l i
 
-pub prefix-start : (n : ℕ) (f : ℕ → ℕ) (l : List ℕ) → length l ≡ n → Prefix n f l 0
-prefix-start n f l e = record { within = omega arith; long = e; entries = entered-none (λ i. i) f l }
+pub prefix-none : (n : ℕ) (f : ℕ → ℕ) (l : List ℕ) → length l ≡ n → Prefix n f l 0
+prefix-none n f l e = record { within = omega arith; long = e; entries = entered-none (λ i. i) f l }
 
-pub prefix-step : {n : ℕ} {f : ℕ → ℕ} {l : List ℕ} {i : ℕ} (x : ℕ) → Prefix n f l i → i < n → x ≡ f i → Prefix n f (set l i x) (i + 1)
-prefix-step x P h e = record {
+pub prefix-more : {n : ℕ} {f : ℕ → ℕ} {l : List ℕ} {i : ℕ} (x : ℕ) → Prefix n f l i → i < n → x ≡ f i → Prefix n f (set l i x) (i + 1)
+prefix-more x P h e = record {
   within = omega arith;
   long = simp length-set (P .long);
   entries = entered-more x (λ j k. omega arith) (omega (arith, P .long)) e (P .entries);
 }
 
-pub prefix-end : {n : ℕ} {f : ℕ → ℕ} {l : List ℕ} {i : ℕ} → Prefix n f l i → n ≤ i → l ≡ column n f
-prefix-end {n} {f} {l} {i} P h =
+pub prefix-all : {n : ℕ} {f : ℕ → ℕ} {l : List ℕ} {i : ℕ} → Prefix n f l i → n ≤ i → l ≡ column n f
+prefix-all {n} {f} {l} {i} P h =
     ext-getD 0 l (column n f) (P .long ∙ sym (length-column n f))
     (λ j k. let inside : j < n = omega (arith, P .long) in P .entries .entry j (omega arith) ∙ sym (at-column n f j inside))

@@ -11,24 +11,24 @@ use Rattle.indices.proofs.Steps.{set-elim}
 use Rattle.sheet.specs.Words.{words}
 use Rattle.sheet.specs.Regions.{regionCount, leafWord, arcWord, isLeaf, leafArc}
 use Rattle.queue.specs.Rows.{field, rowCount, rowLeaf}
-use Rattle.layout.specs.Layout.{LeavesApart, leafEntered, LeavesLaid}
+use Rattle.layout.specs.Layout.{LeavesApart, leafEntered, LeavesEntered}
 
 -- the words before word k are entered
-pub record Entering (d arcs₀ arcs : List ℕ) (k : ℕ) : Type 0 where
+pub record EnteringLeaves (d arcs₀ arcs : List ℕ) (k : ℕ) : Type 0 where
   pub within : k ≤ words d
   pub long : length arcs ≡ length arcs₀
   pub leaves : (j : ℕ) → j < k → leafWord d j ≡ true → rowLeaf arcs (arcWord d j) ≡ suc j
   pub kept : (a i : ℕ) → i < 2 → field arcs a i ≡ field arcs₀ a i
 
-pub entering-start : (d arcs : List ℕ) → Entering d arcs arcs 0
-entering-start d arcs = record { within = omega arith; long = refl; leaves = λ j h leaf. absurd (omega arith); kept = λ a i h. refl }
+pub leaves-none : (d arcs : List ℕ) → EnteringLeaves d arcs arcs 0
+leaves-none d arcs = record { within = omega arith; long = refl; leaves = λ j h leaf. absurd (omega arith); kept = λ a i h. refl }
 
 -- there are as many rows as before
-pub entering-asks : {d arcs₀ arcs : List ℕ} {k : ℕ} → LeavesApart d (rowCount arcs₀) → Entering d arcs₀ arcs k → LeavesApart d (rowCount arcs)
-entering-asks ok E = record { few = ok .few; below = λ j h leaf. omega (arith, ok .below j h leaf, E .long); apart = ok .apart }
+pub leaves-ask : {d arcs₀ arcs : List ℕ} {k : ℕ} → LeavesApart d (rowCount arcs₀) → EnteringLeaves d arcs₀ arcs k → LeavesApart d (rowCount arcs)
+leaves-ask ok E = record { few = ok .few; below = λ j h leaf. omega (arith, ok .below j h leaf, E .long); apart = ok .apart }
 
-module _ {d arcs₀ arcs : List ℕ} {k : ℕ} (ok : LeavesApart d (rowCount arcs₀)) (E : Entering d arcs₀ arcs k) (l : k < words d) where
-  at-leaf : leafWord d k ≡ true → Entering d arcs₀ (set arcs (4 * arcWord d k + 2) (k + 1)) (k + 1)
+module _ {d arcs₀ arcs : List ℕ} {k : ℕ} (ok : LeavesApart d (rowCount arcs₀)) (E : EnteringLeaves d arcs₀ arcs k) (l : k < words d) where
+  at-leaf : leafWord d k ≡ true → EnteringLeaves d arcs₀ (set arcs (4 * arcWord d k + 2) (k + 1)) (k + 1)
   at-leaf leaf = record {
     within = omega arith;
     long = simp length-set (E .long);
@@ -40,7 +40,7 @@ module _ {d arcs₀ arcs : List ℕ} {k : ℕ} (ok : LeavesApart d (rowCount arc
     kept = λ a i h. getD-set-other arcs (4 * arcWord d k + 2) (4 * a + i) (k + 1) 0 (omega arith) ∙ E .kept a i h;
   }
 
-  at-inner : leafWord d k ≡ false → Entering d arcs₀ arcs (k + 1)
+  at-inner : leafWord d k ≡ false → EnteringLeaves d arcs₀ arcs (k + 1)
   at-inner inner = record {
     within = omega arith;
     long = E .long;
@@ -48,15 +48,15 @@ module _ {d arcs₀ arcs : List ℕ} {k : ℕ} (ok : LeavesApart d (rowCount arc
     kept = E .kept;
   }
 
-  pub entering-step : (arcs′ : List ℕ) → arcs′ ≡ leafEntered d k arcs → Entering d arcs₀ arcs′ (k + 1)
-  entering-step arcs′ e = rw e (at (leafWord d k) refl)
+  pub leaves-more : (arcs′ : List ℕ) → arcs′ ≡ leafEntered d k arcs → EnteringLeaves d arcs₀ arcs′ (k + 1)
+  leaves-more arcs′ e = rw e (at (leafWord d k) refl)
     where
-      at : (b : Bool) → leafWord d k ≡ b → Entering d arcs₀ (cond b (set arcs (4 * arcWord d k + 2) (k + 1)) arcs) (k + 1)
+      at : (b : Bool) → leafWord d k ≡ b → EnteringLeaves d arcs₀ (cond b (set arcs (4 * arcWord d k + 2) (k + 1)) arcs) (k + 1)
       at true leaf = at-leaf leaf
       at false inner = at-inner inner
 
-pub entering-end : {d arcs₀ arcs : List ℕ} {k : ℕ} → Entering d arcs₀ arcs k → words d ≤ k → LeavesLaid d arcs₀ arcs
-entering-end {d} {arcs₀} {arcs} {k} E l = record { leaves = by-region; kept = E .kept }
+pub leaves-all : {d arcs₀ arcs : List ℕ} {k : ℕ} → EnteringLeaves d arcs₀ arcs k → words d ≤ k → LeavesEntered d arcs₀ arcs
+leaves-all {d} {arcs₀} {arcs} {k} E l = record { leaves = by-region; kept = E .kept }
   where
     by-region : (r : ℕ) → r < regionCount d → isLeaf d r ≡ true → rowLeaf arcs (leafArc d r) ≡ r
     by-region zero h leaf = absurd (true≢false (sym leaf))

@@ -1,6 +1,6 @@
 mod Entries
 mod Rows
 mod Leaves
-mod Rising
+mod Heights
 mod Represented
 pub mod Ready

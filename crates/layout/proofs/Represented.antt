@@ -1,6 +1,5 @@
 -- The slices that are laid out represent the graph and the division of an accepted sheet. Assumes nothing.
 use Prim.Native.Nat.{ℕ, _*_, _<_}
-use mathlib.Core.Bool.{true}
 use mathlib.Core.Path.{_≡_, refl, sym, ap, _∙_}
 use mathlib.Core.List.{List}
 use native.Mathlib.Omega.{arith}
@@ -11,23 +10,23 @@ use Rattle.indices.specs.Columns.{at}
 use Rattle.indices.proofs.Tests.{and-both, count-once}
 use Rattle.sheet.specs.Words.{words, top}
 use Rattle.sheet.specs.Sections.{nodeCount, source, arcCount, regionWords}
-use Rattle.sheet.specs.Regions.{regionCount, leafWord, arcWord, isLeaf, leafArc}
+use Rattle.sheet.specs.Regions.{regionCount, leafWord, arcWord}
 use Rattle.refusals.specs.Judgement.{Accepted}
 use Rattle.refusals.specs.Nesting.{leafOfArc}
 use Rattle.refusals.proofs.Accepted.{few-arcs, few-nodes, source-in, tail-in, few-region-words, nesting, leaf-arc, one-leaf}
 use Rattle.procedure.specs.Graph.{arcs}
-use Rattle.procedure.specs.Division.{regions, arcOf, leafOf, isLeaf as isLeafIn}
+use Rattle.procedure.specs.Division.{regions, arcOf, leafOf}
 use Rattle.procedure.specs.OfSheet.{graphOf, divisionOf, spansOf}
 use Rattle.procedure.proofs.OfSheet.{graph-nodes, graph-arcs, graph-tail, graph-head}
 use Rattle.procedure.proofs.OfSheet.{division-regions, division-parent, division-arc, division-leaf, division-height}
 use Rattle.procedure.proofs.WellFormed.{accepted-well-formed}
-use Rattle.queue.specs.Rows.{rowCount, rowTail, rowLeaf, rowNext}
+use Rattle.queue.specs.Rows.{rowCount, rowTail, rowLeaf}
 use Rattle.queue.specs.Trees.{ParentsOf}
-use Rattle.queue.specs.Links.{Links, Linkable, Linked}
+use Rattle.queue.specs.Links.{Linkable, Linked}
 use Rattle.queue.proofs.Planning.{division-parents}
 use Rattle.queue.proofs.Links.{links-same}
 use Rattle.engine.specs.Tables.{ArcRows, RegionRows, tablesOf}
-use Rattle.layout.specs.Layout.{Laid, EndsLaid, LeavesApart, LeavesLaid, ArcsLaid, Nested, ParentsLaid, arcInRow, Raised, RegionsLaid}
+use Rattle.layout.specs.Layout.{Laid, EndsEntered, LeavesApart, LeavesEntered, ArcsLaid, Nested, ParentsEntered, HeightsEntered, RegionsLaid}
 use Rattle.layout.proofs.Rows.{leaf-row, inner-row}
 
 module _ (b : List ℕ) (ok : Accepted b) where
@@ -46,7 +45,7 @@ module _ (b : List ℕ) (ok : Accepted b) where
   }
 
   -- ends, then leaves, then links
-  module _ {ended entered : List ℕ} (E : EndsLaid b ended) (L : LeavesLaid (regionWords b) ended entered) (long : length entered ≡ 4 * arcCount b) where
+  module _ {ended entered : List ℕ} (E : EndsEntered b ended) (L : LeavesEntered (regionWords b) ended entered) (long : length entered ≡ 4 * arcCount b) where
     pub linkable : (firsts : List ℕ) → length firsts ≡ nodeCount b → Linkable entered firsts
     linkable firsts e = record {
       short = omega (arith, long, few-arcs b ok);
@@ -91,23 +90,23 @@ module _ (b : List ℕ) (ok : Accepted b) where
   pub nested : Nested (regionWords b)
   nested = record { few = few-region-words b ok; nesting = nesting b ok }
 
-  pub parents-of : {parents : List ℕ} → ParentsLaid (regionWords b) parents → ParentsOf (divisionOf b) parents
+  pub parents-of : {parents : List ℕ} → ParentsEntered (regionWords b) parents → ParentsOf (divisionOf b) parents
   parents-of {parents} P =
       division-parents parents (accepted-well-formed b ok .division) (P .all ∙ sym (division-regions b))
       (λ c pos l.
       let inside : c < regionCount (regionWords b) = omega (arith, division-regions b) in
       P .same c pos inside ∙ sym (division-parent b c inside))
 
-  pub region-rows : {rows : List ℕ} → Raised (regionWords b) rows → RegionRows (divisionOf b) rows
-  region-rows {rows} R = record {
-    all = omega (arith, R .all, division-regions b);
+  pub region-rows : {rows : List ℕ} → HeightsEntered (regionWords b) rows → RegionRows (divisionOf b) rows
+  region-rows {rows} H = record {
+    all = omega (arith, H .all, division-regions b);
     leaf =
         λ r l leaf.
         let inside = is-region r l in
-        R .arcs r inside ∙ leaf-row (regionWords b) r (sym (division-leaf b r inside) ∙ leaf) .1 ∙ sym (division-arc b r inside);
+        H .arcs r inside ∙ leaf-row (regionWords b) r (sym (division-leaf b r inside) ∙ leaf) .1 ∙ sym (division-arc b r inside);
     inner =
-        λ r l inner. let inside = is-region r l in R .arcs r inside ∙ inner-row (regionWords b) r (sym (division-leaf b r inside) ∙ inner);
-    heights = λ r l. let inside = is-region r l in R .heights r inside ∙ sym (division-height b r inside);
+        λ r l inner. let inside = is-region r l in H .arcs r inside ∙ inner-row (regionWords b) r (sym (division-leaf b r inside) ∙ inner);
+    heights = λ r l. let inside = is-region r l in H .heights r inside ∙ sym (division-height b r inside);
   }
     where
       is-region : (r : ℕ) → r < regions (divisionOf b) → r < regionCount (regionWords b)

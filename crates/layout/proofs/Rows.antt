@@ -12,24 +12,24 @@ use Rattle.sheet.specs.Arcs.{tail, head}
 use Rattle.sheet.specs.Regions.{regionCount, arcWord, parentWord, isLeaf, leafArc}
 use Rattle.sheet.proofs.Regions.{parent-of-word}
 use Rattle.engine.specs.Tables.{noArc}
-use Rattle.layout.specs.Layout.{EndsLaid, Nested, ParentsLaid, arcInRow, Flat}
+use Rattle.layout.specs.Layout.{EndsEntered, Nested, ParentsEntered, arcInRow, ArcsEntered}
 use Rattle.layout.proofs.Entries.{Entered, entered-none, entered-kept, entered-more}
 
 -- TAILS AND HEADS
 
 -- the arcs below a have their tails and heads
-pub record Ending (b arcs : List ℕ) (a : ℕ) : Type 0 where
+pub record EnteringEnds (b arcs : List ℕ) (a : ℕ) : Type 0 where
   pub within : a ≤ arcCount b
   pub all : length arcs ≡ 4 * arcCount b
   pub tails : Entered (λ i. 4 * i + 0) (tail b) arcs a
   pub heads : Entered (λ i. 4 * i + 1) (head b) arcs a
 
-pub ending-start : (b arcs : List ℕ) → length arcs ≡ 4 * arcCount b → Ending b arcs 0
-ending-start b arcs e = record { within = omega arith; all = e; tails = entered-none _ _ arcs; heads = entered-none _ _ arcs }
+pub ends-none : (b arcs : List ℕ) → length arcs ≡ 4 * arcCount b → EnteringEnds b arcs 0
+ends-none b arcs e = record { within = omega arith; all = e; tails = entered-none _ _ arcs; heads = entered-none _ _ arcs }
 
-pub ending-step : {b arcs : List ℕ} {a : ℕ} (t h : ℕ) → Ending b arcs a → a < arcCount b → t ≡ tail b a → h ≡ head b a
-    → Ending b (set (set arcs (4 * a + 0) t) (4 * a + 1) h) (a + 1)
-ending-step {b} {arcs} {a} t h E l et eh = record {
+pub ends-more : {b arcs : List ℕ} {a : ℕ} (t h : ℕ) → EnteringEnds b arcs a → a < arcCount b → t ≡ tail b a → h ≡ head b a
+    → EnteringEnds b (set (set arcs (4 * a + 0) t) (4 * a + 1) h) (a + 1)
+ends-more {b} {arcs} {a} t h E l et eh = record {
   within = omega arith;
   all = simp length-set (E .all);
   tails = entered-kept (4 * a + 1) h (λ j k. omega arith) (entered-more t (λ j k. omega arith) (omega (arith, E .all)) et (E .tails));
@@ -37,30 +37,30 @@ ending-step {b} {arcs} {a} t h E l et eh = record {
       entered-more h (λ j k. omega arith) (simp length-set (omega (arith, E .all))) eh (entered-kept (4 * a + 0) t (λ j k. omega arith) (E .heads));
 }
 
-pub ending-end : {b arcs : List ℕ} {a : ℕ} → Ending b arcs a → arcCount b ≤ a → EndsLaid b arcs
-ending-end E l = record { tails = λ i h. E .tails .entry i (omega arith); heads = λ i h. E .heads .entry i (omega arith) }
+pub ends-all : {b arcs : List ℕ} {a : ℕ} → EnteringEnds b arcs a → arcCount b ≤ a → EndsEntered b arcs
+ends-all E l = record { tails = λ i h. E .tails .entry i (omega arith); heads = λ i h. E .heads .entry i (omega arith) }
 
 -- PARENTS
 
 -- the regions of the words below k have their parents
-pub record Parenting (d parents : List ℕ) (k : ℕ) : Type 0 where
+pub record EnteringParents (d parents : List ℕ) (k : ℕ) : Type 0 where
   pub within : k ≤ words d
   pub all : length parents ≡ regionCount d
   pub entries : Entered (λ j. j + 1) (parentWord d) parents k
 
-pub parenting-start : (d parents : List ℕ) → length parents ≡ regionCount d → Parenting d parents 0
-parenting-start d parents e = record { within = omega arith; all = e; entries = entered-none _ _ parents }
+pub parents-none : (d parents : List ℕ) → length parents ≡ regionCount d → EnteringParents d parents 0
+parents-none d parents e = record { within = omega arith; all = e; entries = entered-none _ _ parents }
 
-pub parenting-step : {d parents : List ℕ} {k : ℕ} (p : ℕ) → Parenting d parents k → k < words d → p ≡ parentWord d k
-    → Parenting d (set parents (k + 1) p) (k + 1)
-parenting-step p P l e = record {
+pub parents-more : {d parents : List ℕ} {k : ℕ} (p : ℕ) → EnteringParents d parents k → k < words d → p ≡ parentWord d k
+    → EnteringParents d (set parents (k + 1) p) (k + 1)
+parents-more p P l e = record {
   within = omega arith;
   all = simp length-set (P .all);
   entries = entered-more p (λ j h. omega arith) (omega (arith, P .all)) e (P .entries);
 }
 
-pub parenting-end : {d parents : List ℕ} {k : ℕ} → Parenting d parents k → words d ≤ k → ParentsLaid d parents
-parenting-end {d} {parents} P l = record {
+pub parents-all : {d parents : List ℕ} {k : ℕ} → EnteringParents d parents k → words d ≤ k → ParentsEntered d parents
+parents-all {d} {parents} P l = record {
   all = P .all;
   same =
       λ r pos h.
@@ -73,7 +73,7 @@ pub parent-fits : {d : List ℕ} → Nested d → (k : ℕ) → k < words d → 
 parent-fits ok k l = omega (arith, ok .nesting .lower (suc k) (omega arith) (omega arith), ok .few)
 
 -- and it is lower
-pub parent-lower : {d parents : List ℕ} → Nested d → ParentsLaid d parents → (r : ℕ) → 0 < r → r ≤ words d → at parents r < r
+pub parent-lower : {d parents : List ℕ} → Nested d → ParentsEntered d parents → (r : ℕ) → 0 < r → r ≤ words d → at parents r < r
 parent-lower ok P r pos l = omega (arith, P .same r pos (omega arith), ok .nesting .lower r pos (omega arith))
 
 -- ARCS OF REGIONS
@@ -94,24 +94,24 @@ inner-row d zero inner = refl
 inner-row d (suc k) inner = rw inner
 
 -- the regions below r have their arcs, and no height
-pub record Flattening (d rows : List ℕ) (r : ℕ) : Type 0 where
+pub record EnteringArcs (d rows : List ℕ) (r : ℕ) : Type 0 where
   pub within : r ≤ regionCount d
   pub all : length rows ≡ 2 * regionCount d
   pub arcs : Entered (λ q. 2 * q) (arcInRow d) rows r
-  pub flat : Entered (λ q. 2 * q + 1) (λ q. 0) rows r
+  pub zeros : Entered (λ q. 2 * q + 1) (λ q. 0) rows r
 
-pub flattening-start : (d rows : List ℕ) → length rows ≡ 2 * regionCount d → Flattening d rows 0
-flattening-start d rows e = record { within = omega arith; all = e; arcs = entered-none _ _ rows; flat = entered-none _ _ rows }
+pub region-arcs-none : (d rows : List ℕ) → length rows ≡ 2 * regionCount d → EnteringArcs d rows 0
+region-arcs-none d rows e = record { within = omega arith; all = e; arcs = entered-none _ _ rows; zeros = entered-none _ _ rows }
 
-pub flattening-step : {d rows : List ℕ} {r : ℕ} (a : ℕ) → Flattening d rows r → r < regionCount d → a ≡ arcInRow d r
-    → Flattening d (set (set rows (2 * r) a) (2 * r + 1) 0) (r + 1)
-flattening-step {d} {rows} {r} a F l e = record {
+pub region-arcs-more : {d rows : List ℕ} {r : ℕ} (a : ℕ) → EnteringArcs d rows r → r < regionCount d → a ≡ arcInRow d r
+    → EnteringArcs d (set (set rows (2 * r) a) (2 * r + 1) 0) (r + 1)
+region-arcs-more {d} {rows} {r} a A l e = record {
   within = omega arith;
-  all = simp length-set (F .all);
-  arcs = entered-kept (2 * r + 1) 0 (λ j h. omega arith) (entered-more a (λ j h. omega arith) (omega (arith, F .all)) e (F .arcs));
-  flat =
-      entered-more 0 (λ j h. omega arith) (simp length-set (omega (arith, F .all))) refl (entered-kept (2 * r) a (λ j h. omega arith) (F .flat));
+  all = simp length-set (A .all);
+  arcs = entered-kept (2 * r + 1) 0 (λ j h. omega arith) (entered-more a (λ j h. omega arith) (omega (arith, A .all)) e (A .arcs));
+  zeros =
+      entered-more 0 (λ j h. omega arith) (simp length-set (omega (arith, A .all))) refl (entered-kept (2 * r) a (λ j h. omega arith) (A .zeros));
 }
 
-pub flattening-end : {d rows : List ℕ} {r : ℕ} → Flattening d rows r → regionCount d ≤ r → Flat d rows
-flattening-end F l = record { all = F .all; arcs = λ q h. F .arcs .entry q (omega arith); flat = λ q h. F .flat .entry q (omega arith) }
+pub region-arcs-all : {d rows : List ℕ} {r : ℕ} → EnteringArcs d rows r → regionCount d ≤ r → ArcsEntered d rows
+region-arcs-all A l = record { all = A .all; arcs = λ q h. A .arcs .entry q (omega arith); zeros = λ q h. A .zeros .entry q (omega arith) }

@@ -38,7 +38,7 @@ pub record Laid (b : List ℕ) (t : Tables) (winners : List ℕ) : Type 0 where
 -- THE ARCS
 
 -- each arc's row has its tail and head
-pub record EndsLaid (b arcRows : List ℕ) : Type 0 where
+pub record EndsEntered (b arcRows : List ℕ) : Type 0 where
   pub tails : (a : ℕ) → a < arcCount b → rowTail arcRows a ≡ tail b a
   pub heads : (a : ℕ) → a < arcCount b → rowHead arcRows a ≡ head b a
 
@@ -53,7 +53,7 @@ abbrev pub leafEntered : List ℕ → ℕ → List ℕ → List ℕ
 leafEntered d k arcRows = cond (leafWord d k) (set arcRows (4 * arcWord d k + 2) (k + 1)) arcRows
 
 -- each leaf's region is in the row of its arc; tails and heads are as they were
-pub record LeavesLaid (d arcRows arcRows′ : List ℕ) : Type 0 where
+pub record LeavesEntered (d arcRows arcRows′ : List ℕ) : Type 0 where
   pub leaves : (r : ℕ) → r < regionCount d → isLeaf d r ≡ true → rowLeaf arcRows′ (leafArc d r) ≡ r
   pub kept : (a k : ℕ) → k < 2 → field arcRows′ a k ≡ field arcRows a k
 
@@ -70,7 +70,7 @@ pub record Nested (d : List ℕ) : Type 0 where
   pub nesting : Nesting (isLeaf d) (parent d) (regionCount d)
 
 -- each region's parent, but for region 0, which has none
-pub record ParentsLaid (d parents : List ℕ) : Type 0 where
+pub record ParentsEntered (d parents : List ℕ) : Type 0 where
   pub all : length parents ≡ regionCount d
   pub same : (r : ℕ) → 0 < r → r < regionCount d → at parents r ≡ parent d r
 
@@ -80,13 +80,13 @@ arcInRow d zero = noArc
 arcInRow d (suc k) = cond (leafWord d k) (arcWord d k) noArc
 
 -- the regions' rows before any height is known
-pub record Flat (d regionRows : List ℕ) : Type 0 where
+pub record ArcsEntered (d regionRows : List ℕ) : Type 0 where
   pub all : length regionRows ≡ 2 * regionCount d
   pub arcs : (r : ℕ) → r < regionCount d → arcEntry regionRows r ≡ arcInRow d r
-  pub flat : (r : ℕ) → r < regionCount d → heightEntry regionRows r ≡ 0
+  pub zeros : (r : ℕ) → r < regionCount d → heightEntry regionRows r ≡ 0
 
 -- and with the heights
-pub record Raised (d regionRows : List ℕ) : Type 0 where
+pub record HeightsEntered (d regionRows : List ℕ) : Type 0 where
   pub all : length regionRows ≡ 2 * regionCount d
   pub arcs : (r : ℕ) → r < regionCount d → arcEntry regionRows r ≡ arcInRow d r
   pub heights : (r : ℕ) → r < regionCount d → heightEntry regionRows r ≡ height d r

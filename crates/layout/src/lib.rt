@@ -1,8 +1,7 @@
 // From an accepted sheet to the slices of a run: arcs, lengths, spans and regions, as the engine reads them. Every pass is linear in the sheet's words.
 ghost use mathlib.Core.Path.{_≡_};
-ghost use mathlib.Core.List.{List};
-ghost use Prim.Native.Nat.{ℕ, _+_, _*_, _≤_, _<_};
-ghost use lib.ListN.{length};
+ghost use Prim.Native.Nat.{_+_, _*_, _≤_, _<_};
+ghost use lib.ListN.{length, set};
 ghost use Rattle.sheet.specs.Limits.{mostArcs, mostRegionWords};
 ghost use Rattle.sheet.specs.Words.{words};
 ghost use Rattle.sheet.specs.Sections.{Located, nodeCount, spanCount, arcCount, regionWords};
@@ -10,18 +9,18 @@ ghost use Rattle.sheet.specs.Regions.{regionCount};
 ghost use Rattle.refusals.specs.Judgement.{Accepted};
 ghost use Rattle.procedure.specs.OfSheet.{graphOf, divisionOf, spansOf};
 ghost use Rattle.queue.specs.Rows.{rowCount};
-ghost use Rattle.engine.specs.Tables.{tablesOf};
-ghost use Rattle.layout.specs.Layout.{Sized, Laid, EndsLaid, LeavesApart, leafEntered, LeavesLaid, ArcsLaid};
-ghost use Rattle.layout.specs.Layout.{Nested, ParentsLaid, arcInRow, Flat, Raised, RegionsLaid};
+ghost use Rattle.engine.specs.Tables.{tablesOf, heightEntry};
+ghost use Rattle.layout.specs.Layout.{Sized, Laid, EndsEntered, LeavesApart, leafEntered, LeavesEntered, ArcsLaid};
+ghost use Rattle.layout.specs.Layout.{Nested, ParentsEntered, arcInRow, ArcsEntered, HeightsEntered, RegionsLaid};
 use sheet::Arc;
 use sheet::Node;
 use sheet::Region;
 use sheet::Sections;
 
 // Each arc's tail and head, into its row.
-fn lay_ends(s: &[u8], at: Sections, arcs: &mut [u16])
+fn enter_ends(s: &[u8], at: Sections, arcs: &mut [u16])
     requires { ⌜ Located (now s) at × (arcCount (now s) ≤ mostArcs) × (length (now arcs) ≡ 4 * arcCount (now s)) ⌝ }
-    ensures { λ _. ⌜ EndsLaid (now (s .entry)) (now (arcs .exit)) ⌝ }
+    ensures { λ _. ⌜ EndsEntered (now (s .entry)) (now (arcs .exit)) ⌝ }
 {
     let n = at.arcs as u16;
     let mut a: u16 = 0;
@@ -47,9 +46,9 @@ fn enter_leaf(d: &[u8], k: usize, arcs: &mut [u16])
 }
 
 // Each leaf, into the row of its arc.
-fn lay_leaves(d: &[u8], arcs: &mut [u16])
+fn enter_leaves(d: &[u8], arcs: &mut [u16])
     requires { ⌜ LeavesApart (now d) (rowCount (now arcs)) ⌝ }
-    ensures { λ _. ⌜ LeavesLaid (now (d .entry)) (now (arcs .entry)) (now (arcs .exit)) ⌝ }
+    ensures { λ _. ⌜ LeavesEntered (now (d .entry)) (now (arcs .entry)) (now (arcs .exit)) ⌝ }
 {
     let n = d.len() / 4;
     let mut k = 0;
@@ -64,13 +63,13 @@ fn lay_arcs(s: &[u8], at: Sections, arcs: &mut [u16], firsts: &mut [u16])
     requires { ⌜ Accepted (now s) × Located (now s) at × (length (now arcs) ≡ 4 * arcCount (now s)) × (length (now firsts) ≡ nodeCount (now s)) ⌝ }
     ensures { λ _. ⌜ ArcsLaid (graphOf (now (s .entry))) (divisionOf (now (s .entry))) (now (arcs .exit)) (now (firsts .exit)) ⌝ }
 {
-    lay_ends(s, at, arcs);
-    lay_leaves(sheet::region_words(s, at), arcs);
+    enter_ends(s, at, arcs);
+    enter_leaves(sheet::region_words(s, at), arcs);
     queue::link(arcs, firsts);
 }
 
 // Each arc's length.
-fn lay_lengths(s: &[u8], at: Sections, lengths: &mut [u32])
+fn enter_lengths(s: &[u8], at: Sections, lengths: &mut [u32])
     requires { ⌜ Located (now s) at × (arcCount (now s) ≤ mostArcs) × (length (now lengths) ≡ arcCount (now s)) ⌝ }
     ensures { λ _. ⌜ now (lengths .exit) ≡ graphOf (now (s .entry)) .lengths ⌝ }
 {
@@ -84,22 +83,22 @@ fn lay_lengths(s: &[u8], at: Sections, lengths: &mut [u32])
 }
 
 // The span of each height.
-fn lay_spans(s: &[u8], at: Sections, spans: &mut [u32])
+fn enter_spans(s: &[u8], at: Sections, spans: &mut [u32])
     requires { ⌜ Located (now s) at × (length (now spans) ≡ spanCount (now s)) ⌝ }
     ensures { λ _. ⌜ now (spans .exit) ≡ spansOf (now (s .entry)) ⌝ }
 {
     let n = at.spans;
-    let mut k = 0;
-    while k < n {
-        spans[k] = sheet::span_at(s, k);
-        k += 1;
+    let mut i = 0;
+    while i < n {
+        spans[i] = sheet::span_at(s, i);
+        i += 1;
     }
 }
 
 // Each region's parent; region 0 has none, and its entry stays.
-fn lay_parents(d: &[u8], parents: &mut [u16])
+fn enter_parents(d: &[u8], parents: &mut [u16])
     requires { ⌜ Nested (now d) × (length (now parents) ≡ regionCount (now d)) ⌝ }
-    ensures { λ _. ⌜ ParentsLaid (now (d .entry)) (now (parents .exit)) ⌝ }
+    ensures { λ _. ⌜ ParentsEntered (now (d .entry)) (now (parents .exit)) ⌝ }
 {
     let n = d.len() / 4;
     let mut k = 0;
@@ -121,37 +120,55 @@ fn arc_in_row(d: &[u8], r: Region) -> u16
     sheet::arc_word(d, i - 1).0
 }
 
-// Each region's arc, into its row, with no height yet.
-fn lay_region_arcs(d: &[u8], regions: &mut [u16])
+// The height in a region's row.
+fn height_in(regions: &[u16], r: Region) -> u16
+    requires { ⌜ 2 * r .0 + 1 < length (now regions) ⌝ }
+    ensures { λ h. ⌜ h ≡ heightEntry (now (regions .entry)) (r .0) ⌝ }
+{
+    let i = 2 * (r.0 as usize) + 1;
+    regions[i]
+}
+
+fn set_height(regions: &mut [u16], r: Region, h: u16)
+    requires { ⌜ 2 * r .0 + 1 < length (now regions) ⌝ }
+    ensures { λ _. ⌜ now (regions .exit) ≡ set (now (regions .entry)) (2 * r .0 + 1) h ⌝ }
+{
+    let i = 2 * (r.0 as usize) + 1;
+    regions[i] = h;
+}
+
+// Each region's arc, into its row, with height 0 for now.
+fn enter_region_arcs(d: &[u8], regions: &mut [u16])
     requires { ⌜ (words (now d) ≤ mostRegionWords) × (length (now regions) ≡ 2 * regionCount (now d)) ⌝ }
-    ensures { λ _. ⌜ Flat (now (d .entry)) (now (regions .exit)) ⌝ }
+    ensures { λ _. ⌜ ArcsEntered (now (d .entry)) (now (regions .exit)) ⌝ }
 {
     let n = (d.len() / 4 + 1) as u16;
     let mut r: u16 = 0;
     while r < n {
         let i = 2 * (r as usize);
         regions[i] = arc_in_row(d, Region(r));
-        regions[i + 1] = 0;
+        set_height(regions, Region(r), 0);
         r += 1;
     }
 }
 
-// Each region's height, from the last region back: each hands its own to its parent, which keeps the largest.
-fn lay_heights(d: &[u8], parents: &[u16], regions: &mut [u16])
-    requires { ⌜ Nested (now d) × ParentsLaid (now d) (now parents) × Flat (now d) (now regions) ⌝ }
-    ensures { λ _. ⌜ Raised (now (d .entry)) (now (regions .exit)) ⌝ }
+// Each region's height, into its row, from the last region back: a row holds the largest height that a child has handed up, until the region's turn comes.
+fn enter_heights(d: &[u8], parents: &[u16], regions: &mut [u16])
+    requires { ⌜ Nested (now d) × ParentsEntered (now d) (now parents) × ArcsEntered (now d) (now regions) ⌝ }
+    ensures { λ _. ⌜ HeightsEntered (now (d .entry)) (now (regions .exit)) ⌝ }
 {
     let mut r = (d.len() / 4) as u16;
     while 0 < r {
-        let i = 2 * (r as usize) + 1;
-        let height = division::above(sheet::is_leaf(d, Region(r)), regions[i]);
-        regions[i] = height;
-        let c = r as usize;
-        let p = 2 * (parents[c] as usize) + 1;
-        regions[p] = division::larger(regions[p], height);
+        let height = division::above(sheet::is_leaf(d, Region(r)), height_in(regions, Region(r)));
+        set_height(regions, Region(r), height);
+        let i = r as usize;
+        let parent = Region(parents[i]);
+        let highest = division::larger(height_in(regions, parent), height);
+        set_height(regions, parent, highest);
         r -= 1;
     }
-    regions[1] = division::above(false, regions[1]);
+    let height = division::above(false, height_in(regions, Region(0)));
+    set_height(regions, Region(0), height);
 }
 
 // The rows of the regions and the trees of their queues. Of `parents` nothing is promised.
@@ -169,9 +186,9 @@ fn lay_regions(
     ensures { λ _. ⌜ RegionsLaid (divisionOf (now (s .entry))) (now (rows .exit)) (now (regions .exit)) (now (winners .exit)) ⌝ }
 {
     let d = sheet::region_words(s, at);
-    lay_parents(d, parents);
-    lay_region_arcs(d, regions);
-    lay_heights(d, parents, regions);
+    enter_parents(d, parents);
+    enter_region_arcs(d, regions);
+    enter_heights(d, parents, regions);
     queue::plan(parents, rows, winners);
 }
 
@@ -202,7 +219,7 @@ pub fn lay_out(
         (now (regions .exit))) (now (winners .exit)) ⌝ }
 {
     lay_arcs(s, at, arcs, firsts);
-    lay_lengths(s, at, lengths);
-    lay_spans(s, at, spans);
+    enter_lengths(s, at, lengths);
+    enter_spans(s, at, spans);
     lay_regions(s, at, parents, rows, regions, winners);
 }

@@ -1,9 +1,9 @@
 -- `arc_in_row` meets its contract: region 0 and inner regions have no arc. Assumes nothing.
 use mathlib.Core.Path.{sym, _∙_}
 use borrow.Author.Tests.{not-true, not-false}
-use Rattle.layout.proofs.Rows.{leaf-positive, leaf-row, inner-row}
 use borrow.Author.Needs.{needs}
 use native.Mathlib.Omega.{arith}
+use Rattle.layout.proofs.Rows.{leaf-positive, leaf-row, inner-row}
 use Rattle.layout.proofs.arc_in_row.Statement.{statement}
 use Rattle.layout.proofs.arc_in_row.Tie as tie
 
@@ -22,20 +22,23 @@ sub-arc-word : tie.Need-sub-arc-word
 sub-arc-word c =
     let earlier = c .before .before .before .before in
     let args = earlier .args in
-    omega (arith, leaf-positive (args .d .now) (args .r .0) (sym (c .before .before .is-leaf .ensures) ∙ not-false (c .before .before .is-leaf .result) (c .before .if1 .left)))
+    let leaf = sym (c .before .before .is-leaf .ensures) ∙ not-false (c .before .before .is-leaf .result) (c .before .if1 .left) in
+    omega (arith, leaf-positive (args .d .now) (args .r .0) leaf)
 
 arc-word-requires : tie.Need-arc-word-requires
 arc-word-requires c κs =
     let earlier = c .before .before .before .before in
     let args = earlier .args in
-    omega (arith, leaf-positive (args .d .now) (args .r .0) (sym (c .before .before .is-leaf .ensures) ∙ not-false (c .before .before .is-leaf .result) (c .before .if1 .left)))
+    let leaf = sym (c .before .before .is-leaf .ensures) ∙ not-false (c .before .before .is-leaf .result) (c .before .if1 .left) in
+    omega (arith, leaf-positive (args .d .now) (args .r .0) leaf)
 
 returns-2 : tie.Need-returns-2
 returns-2 c =
     let earlier = c .before .before .before .before in
-    let args = earlier .before .args in
     let is-leaf = c .before .before .before .is-leaf in
-    c .arc-word .ensures .0 ∙ sym (leaf-row (args .d .now) (args .r .0) (sym (is-leaf .ensures) ∙ not-false (is-leaf .result) (c .before .before .if1 .left)) .0)
+    let args = earlier .before .args in
+    let leaf = sym (is-leaf .ensures) ∙ not-false (is-leaf .result) (c .before .before .if1 .left) in
+    c .arc-word .ensures .0 ∙ sym (leaf-row (args .d .now) (args .r .0) leaf .0)
 
 pub arc-in-row-spec : {M : Type 1} → statement M
 arc-in-row-spec =

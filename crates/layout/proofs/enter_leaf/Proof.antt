@@ -24,9 +24,10 @@ cast-set-field c = search needs
 set-field-requires : tie.Need-set-field-requires
 set-field-requires c κs =
     let earlier = c .before .before .before .before in
-    let pre = earlier .before .before .pre in
     let leaf-word = c .before .before .before .leaf-word in
-    (omega arith, rw (c .before .arc-word .ensures .0) (pre .1 .below _ (pre .0) (sym (leaf-word .ensures) ∙ not-false (leaf-word .result) (c .before .before .if1 .left))))
+    let pre = earlier .before .before .pre in
+    let leaf = sym (leaf-word .ensures) ∙ not-false (leaf-word .result) (c .before .before .if1 .left) in
+    (omega arith, rw (c .before .arc-word .ensures .0) (pre .1 .below _ (pre .0) leaf))
 
 same-length : tie.Need-same-length
 same-length c = search needs

@@ -1,22 +1,22 @@
 -- `lay_out` meets its contract: arcs, lengths, spans and regions, each laid out by its own function. Assumes nothing.
+use borrow.Author.Needs.{needs}
 use Rattle.refusals.proofs.Accepted.{few-arcs}
 use Rattle.layout.proofs.Represented.{whole}
-use borrow.Author.Needs.{needs}
 use Rattle.layout.proofs.lay_out.Statement.{statement}
 use Rattle.layout.proofs.lay_out.Tie as tie
 
 lay-arcs-requires : tie.Need-lay-arcs-requires
 lay-arcs-requires c κs = search needs
 
-lay-lengths-requires : tie.Need-lay-lengths-requires
-lay-lengths-requires c κs =
+enter-lengths-requires : tie.Need-enter-lengths-requires
+enter-lengths-requires c κs =
     let earlier = c .before .before .before .before .before .before .before .before in
     let early = earlier .before .before .before .before .before .before .before .before in
     let pre = early .before .pre in
     (pre .1, few-arcs _ (pre .0), pre .2 .lengths-all)
 
-lay-spans-requires : tie.Need-lay-spans-requires
-lay-spans-requires c κs = search needs
+enter-spans-requires : tie.Need-enter-spans-requires
+enter-spans-requires c κs = search needs
 
 lay-regions-requires : tie.Need-lay-regions-requires
 lay-regions-requires c κs = search needs
@@ -50,20 +50,21 @@ returns c =
     let earlier = c .before .before .before .before .before .before .before .before in
     let early = earlier .before .before .before .before .before .before .before .before in
     let prior = early .before .before .before .before .before .before .before .before in
-    let pre = prior .before .before .before .before .before .before .before .before .before .before .before .before .before .pre in
+    let first = prior .before .before .before .before .before .before .before .before in
+    let pre = first .before .before .before .before .before .pre in
     let lay-arcs = prior .before .lay-arcs in
-    let lay-lengths = early .before .before .before .lay-lengths in
-    let lay-spans = earlier .before .before .before .before .before .before .before .lay-spans in
+    let enter-lengths = early .before .before .before .enter-lengths in
+    let enter-spans = earlier .before .before .before .before .before .before .before .enter-spans in
     let lay-regions = earlier .lay-regions in
-    whole _ (pre .0) (lay-arcs .ensures) (lay-lengths .ensures) (lay-spans .ensures) (lay-regions .ensures)
+    whole _ (pre .0) (lay-arcs .ensures) (enter-lengths .ensures) (enter-spans .ensures) (lay-regions .ensures)
 
 pub lay-out-spec : {M : Type 1} → statement M
 lay-out-spec =
     tie.close
     (tie.spec
     lay-arcs-requires
-    lay-lengths-requires
-    lay-spans-requires
+    enter-lengths-requires
+    enter-spans-requires
     lay-regions-requires
     same-length
     same-length-2

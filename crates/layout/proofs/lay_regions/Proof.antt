@@ -1,38 +1,38 @@
 -- `lay_regions` meets its contract: parents, arcs, heights, and the trees from the parents. Assumes nothing.
+use borrow.Author.Needs.{needs}
+use native.Mathlib.Omega.{arith}
 use Rattle.procedure.specs.OfSheet.{divisionOf}
 use Rattle.procedure.proofs.OfSheet.{division-regions}
 use Rattle.layout.proofs.Represented.{nested, parents-of, region-rows}
-use borrow.Author.Needs.{needs}
-use native.Mathlib.Omega.{arith}
 use Rattle.layout.proofs.lay_regions.Statement.{statement}
 use Rattle.layout.proofs.lay_regions.Tie as tie
 
 region-words-requires : tie.Need-region-words-requires
 region-words-requires c κs = search needs
 
-lay-parents-requires : tie.Need-lay-parents-requires
-lay-parents-requires c κs =
+enter-parents-requires : tie.Need-enter-parents-requires
+enter-parents-requires c κs =
     let earlier = c .before .before .before .before in
     let pre = earlier .before .before .before .pre in
     rw (c .before .region-words .ensures) (nested _ (pre .0), pre .2)
 
-lay-region-arcs-requires : tie.Need-lay-region-arcs-requires
-lay-region-arcs-requires c κs =
+enter-region-arcs-requires : tie.Need-enter-region-arcs-requires
+enter-region-arcs-requires c κs =
     let earlier = c .before .before .before .before in
     let early = earlier .before .before .before .before in
     let region-words = earlier .before .region-words in
     let pre = early .before .before .before .pre in
     rw (region-words .ensures) (nested _ (pre .0) .few, pre .4)
 
-lay-heights-requires : tie.Need-lay-heights-requires
-lay-heights-requires c κs =
+enter-heights-requires : tie.Need-enter-heights-requires
+enter-heights-requires c κs =
     let earlier = c .before .before .before .before .before .before .before .before in
     let early = earlier .before .before .before .before .before .before .before .before in
     let region-words = earlier .before .before .region-words in
     let pre = early .pre in
-    let lay-parents = earlier .lay-parents in
-    let lay-region-arcs = c .before .before .before .before .lay-region-arcs in
-    (rw (region-words .ensures) (nested _ (pre .0)), lay-parents .ensures, lay-region-arcs .ensures)
+    let enter-parents = earlier .enter-parents in
+    let enter-region-arcs = c .before .before .before .before .enter-region-arcs in
+    (rw (region-words .ensures) (nested _ (pre .0)), enter-parents .ensures, enter-region-arcs .ensures)
 
 plan-requires : tie.Need-plan-requires
 plan-requires c κs =
@@ -41,10 +41,10 @@ plan-requires c κs =
     let args = early .before .before .before .before .before .before .args in
     let pre = early .before .before .before .before .before .before .pre in
     let region-words = early .region-words in
-    let lay-parents = earlier .before .before .before .before .before .before .lay-parents in
+    let enter-parents = earlier .before .before .before .before .before .before .enter-parents in
     let regions = division-regions (args .s .now) in (
       divisionOf (args .s .now),
-      parents-of _ (pre .0) (rw (region-words .ensures) at (lay-parents .ensures)),
+      parents-of _ (pre .0) (rw (region-words .ensures) at (enter-parents .ensures)),
       omega (arith, pre .3),
       omega (arith, pre .5),
     )
@@ -68,12 +68,12 @@ returns c =
     let prior = early .before .before .before .before .before .before .before .before in
     let pre = prior .before .before .before .pre in
     let region-words = early .before .before .before .before .before .region-words in
-    let lay-heights = earlier .before .before .lay-heights in
+    let enter-heights = earlier .before .before .enter-heights in
     let plan = c .before .before .before .before .plan in
-    let lay-parents = early .before .before .before .lay-parents in
+    let enter-parents = early .before .before .before .enter-parents in
     record {
-      region-rows = region-rows _ (pre .0) (rw (region-words .ensures) at (lay-heights .ensures));
-      trees = plan .ensures _ (parents-of _ (pre .0) (rw (region-words .ensures) at (lay-parents .ensures)));
+      region-rows = region-rows _ (pre .0) (rw (region-words .ensures) at (enter-heights .ensures));
+      trees = plan .ensures _ (parents-of _ (pre .0) (rw (region-words .ensures) at (enter-parents .ensures)));
     }
 
 pub lay-regions-spec : {M : Type 1} → statement M
@@ -81,9 +81,9 @@ lay-regions-spec =
     tie.close
     (tie.spec
     region-words-requires
-    lay-parents-requires
-    lay-region-arcs-requires
-    lay-heights-requires
+    enter-parents-requires
+    enter-region-arcs-requires
+    enter-heights-requires
     plan-requires
     same-length
     same-length-2

@@ -1,9 +1,9 @@
 -- `source_of` meets its contract: the source that the sheet names is a node, so that 16 bits hold it. Assumes nothing.
 use mathlib.Core.Path.{sym, _∙_}
+use native.Mathlib.Omega.{arith}
 use Rattle.refusals.proofs.Accepted.{front-there}
 use Rattle.procedure.proofs.OfSheet.{graph-source}
 use Rattle.layout.proofs.Represented.{source-fits}
-use native.Mathlib.Omega.{arith}
 use Rattle.layout.proofs.source_of.Statement.{statement}
 use Rattle.layout.proofs.source_of.Tie as tie
 

@@ -1,22 +1,22 @@
--- `lay_spans` meets its contract: the heights passed have their spans. Assumes nothing.
+-- `enter_spans` meets its contract: the heights passed have their spans. Assumes nothing.
 use Prim.Native.Nat.{_-_}
 use mathlib.Core.Path.{sym, _∙_}
+use native.Mathlib.Omega.{arith}
 use Rattle.sheet.specs.Sections.{spanCount, span}
 use Rattle.sheet.proofs.Bounds.{spans-le}
 use Rattle.procedure.specs.OfSheet.{spansOf}
-use Rattle.layout.proofs.Entries.{Prefix, prefix-start, prefix-step, prefix-end}
-use native.Mathlib.Omega.{arith}
-use Rattle.layout.proofs.lay_spans.Statement.{statement}
-use Rattle.layout.proofs.lay_spans.Tie as tie
+use Rattle.layout.proofs.Entries.{Prefix, prefix-none, prefix-more, prefix-all}
+use Rattle.layout.proofs.enter_spans.Statement.{statement}
+use Rattle.layout.proofs.enter_spans.Tie as tie
 
 abbrev Inv-loop : tie.InvT-loop
-Inv-loop s spans₀ n k₀ spans k = Prefix (spanCount s) (span s) spans k
+Inv-loop s spans₀ n i₀ spans i = Prefix (spanCount s) (span s) spans i
 
 abbrev μ-loop : tie.MeasureT-loop
-μ-loop s spans₀ n k₀ spans k = spanCount s - k
+μ-loop s spans₀ n i₀ spans i = spanCount s - i
 
 loop-holds : tie.Need-loop-holds Inv-loop μ-loop
-loop-holds c = prefix-start _ _ _ (c .before .before .pre .1)
+loop-holds c = prefix-none _ _ _ (c .before .before .pre .1)
 
 span-at-requires : tie.Need-span-at-requires Inv-loop μ-loop
 span-at-requires c κs =
@@ -30,8 +30,8 @@ mul-spans c = omega arith
 slice-write-spans : tie.Need-slice-write-spans Inv-loop μ-loop
 slice-write-spans c = omega arith
 
-add-k : tie.Need-add-k Inv-loop μ-loop
-add-k c = omega arith
+add-i : tie.Need-add-i Inv-loop μ-loop
+add-i c = omega arith
 
 loop-less : tie.Need-loop-less Inv-loop μ-loop
 loop-less c = omega arith
@@ -40,7 +40,7 @@ loop-again : tie.Need-loop-again Inv-loop μ-loop
 loop-again c =
     let earlier = c .before .before .before .before in
     let pre = earlier .before .pre in
-    prefix-step _ (c .before .before .loop .inv) (omega (arith, c .before .loop-test .taken, pre .0 .spans-all)) (c .span-at .ensures)
+    prefix-more _ (c .before .before .loop .inv) (omega (arith, c .before .loop-test .taken, pre .0 .spans-all)) (c .span-at .ensures)
 
 same-length : tie.Need-same-length Inv-loop μ-loop
 same-length c =
@@ -50,10 +50,10 @@ same-length c =
 
 returns : tie.Need-returns Inv-loop μ-loop
 unfolding spansOf
-returns c = prefix-end (c .before .loop .inv) (omega arith)
+returns c = prefix-all (c .before .loop .inv) (omega arith)
 
-pub lay-spans-spec : {M : Type 1} → statement M
-lay-spans-spec =
+pub enter-spans-spec : {M : Type 1} → statement M
+enter-spans-spec =
     tie.close
     (tie.spec
     Inv-loop
@@ -62,7 +62,7 @@ lay-spans-spec =
     span-at-requires
     mul-spans
     slice-write-spans
-    add-k
+    add-i
     loop-less
     loop-again
     same-length

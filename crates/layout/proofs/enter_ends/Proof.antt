@@ -1,14 +1,14 @@
--- `lay_ends` meets its contract: the arcs passed have their ends. Assumes nothing.
+-- `enter_ends` meets its contract: the arcs passed have their ends. Assumes nothing.
 use Prim.Native.Nat.{_-_}
 use mathlib.Core.Path.{sym, _∙_}
-use Rattle.sheet.specs.Sections.{arcCount}
-use Rattle.layout.proofs.Rows.{Ending, ending-start, ending-step, ending-end}
 use native.Mathlib.Omega.{arith}
-use Rattle.layout.proofs.lay_ends.Statement.{statement}
-use Rattle.layout.proofs.lay_ends.Tie as tie
+use Rattle.sheet.specs.Sections.{arcCount}
+use Rattle.layout.proofs.Rows.{EnteringEnds, ends-none, ends-more, ends-all}
+use Rattle.layout.proofs.enter_ends.Statement.{statement}
+use Rattle.layout.proofs.enter_ends.Tie as tie
 
 abbrev Inv-loop : tie.InvT-loop
-Inv-loop s at arcs₀ n a₀ arcs a = Ending s arcs a
+Inv-loop s at arcs₀ n a₀ arcs a = EnteringEnds s arcs a
 
 abbrev μ-loop : tie.MeasureT-loop
 μ-loop s at arcs₀ n a₀ arcs a = arcCount s - a
@@ -19,7 +19,7 @@ cast-n c = omega arith
 loop-holds : tie.Need-loop-holds Inv-loop μ-loop
 loop-holds c =
     let pre = c .before .before .before .pre in
-    ending-start _ _ (pre .2)
+    ends-none _ _ (pre .2)
 
 end-at-requires : tie.Need-end-at-requires Inv-loop μ-loop
 end-at-requires c κs =
@@ -65,7 +65,7 @@ loop-again c =
     let end-at = early .before .end-at in
     let end-at2 = early .end-at2 in
     rw (c .before .before .set-field2 .ensures, set-field .ensures)
-    (ending-step _ _ (loop .inv) (omega (arith, loop-test .taken, pre .0 .arcs-all)) (end-at .ensures .0) (end-at2 .ensures .0))
+    (ends-more _ _ (loop .inv) (omega (arith, loop-test .taken, pre .0 .arcs-all)) (end-at .ensures .0) (end-at2 .ensures .0))
 
 same-length : tie.Need-same-length Inv-loop μ-loop
 same-length c =
@@ -74,10 +74,10 @@ same-length c =
     c .before .loop .inv .all ∙ sym (pre .2)
 
 returns : tie.Need-returns Inv-loop μ-loop
-returns c = ending-end (c .before .loop .inv) (omega arith)
+returns c = ends-all (c .before .loop .inv) (omega arith)
 
-pub lay-ends-spec : {M : Type 1} → statement M
-lay-ends-spec =
+pub enter-ends-spec : {M : Type 1} → statement M
+enter-ends-spec =
     tie.close
     (tie.spec
     Inv-loop

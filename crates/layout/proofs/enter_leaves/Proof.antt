@@ -1,25 +1,25 @@
--- `lay_leaves` meets its contract: the words passed are entered. Assumes nothing.
+-- `enter_leaves` meets its contract: the words passed are entered. Assumes nothing.
 use Prim.Native.Nat.{_-_}
-use Rattle.sheet.specs.Words.{words}
-use Rattle.layout.proofs.Leaves.{Entering, entering-start, entering-asks, entering-step, entering-end}
 use native.Mathlib.Omega.{arith}
-use Rattle.layout.proofs.lay_leaves.Statement.{statement}
-use Rattle.layout.proofs.lay_leaves.Tie as tie
+use Rattle.sheet.specs.Words.{words}
+use Rattle.layout.proofs.Leaves.{EnteringLeaves, leaves-none, leaves-ask, leaves-more, leaves-all}
+use Rattle.layout.proofs.enter_leaves.Statement.{statement}
+use Rattle.layout.proofs.enter_leaves.Tie as tie
 
 abbrev Inv-loop : tie.InvT-loop
-Inv-loop d arcs₀ n k₀ arcs k = Entering d arcs₀ arcs k
+Inv-loop d arcs₀ n k₀ arcs k = EnteringLeaves d arcs₀ arcs k
 
 abbrev μ-loop : tie.MeasureT-loop
 μ-loop d arcs₀ n k₀ arcs k = words d - k
 
 loop-holds : tie.Need-loop-holds Inv-loop μ-loop
-loop-holds c = entering-start _ _
+loop-holds c = leaves-none _ _
 
 enter-leaf-requires : tie.Need-enter-leaf-requires Inv-loop μ-loop
 enter-leaf-requires c κs =
     let earlier = c .before .before .before .before in
     let pre = earlier .before .pre in
-    (omega arith, entering-asks pre (c .before .before .loop .inv))
+    (omega arith, leaves-ask pre (c .before .before .loop .inv))
 
 add-k : tie.Need-add-k Inv-loop μ-loop
 add-k c = omega arith
@@ -34,16 +34,16 @@ loop-again c =
     let pre = early .pre in
     let loop = earlier .before .loop in
     let loop-test = earlier .loop-test in
-    entering-step pre (loop .inv) (loop-test .taken) _ (c .before .before .enter-leaf .ensures)
+    leaves-more pre (loop .inv) (loop-test .taken) _ (c .before .before .enter-leaf .ensures)
 
 same-length : tie.Need-same-length Inv-loop μ-loop
 same-length c = c .before .loop .inv .long
 
 returns : tie.Need-returns Inv-loop μ-loop
-returns c = entering-end (c .before .loop .inv) (c .loop-test .left)
+returns c = leaves-all (c .before .loop .inv) (c .loop-test .left)
 
-pub lay-leaves-spec : {M : Type 1} → statement M
-lay-leaves-spec =
+pub enter-leaves-spec : {M : Type 1} → statement M
+enter-leaves-spec =
     tie.close
     (tie.spec
     Inv-loop

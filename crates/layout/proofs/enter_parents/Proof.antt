@@ -1,20 +1,20 @@
--- `lay_parents` meets its contract: the words passed have given their parents. Assumes nothing.
+-- `enter_parents` meets its contract: the words passed have given their parents. Assumes nothing.
 use Prim.Native.Nat.{_-_}
 use mathlib.Core.Path.{sym, _∙_}
-use Rattle.sheet.specs.Words.{words}
-use Rattle.layout.proofs.Rows.{Parenting, parenting-start, parenting-step, parenting-end, parent-fits}
 use native.Mathlib.Omega.{arith}
-use Rattle.layout.proofs.lay_parents.Statement.{statement}
-use Rattle.layout.proofs.lay_parents.Tie as tie
+use Rattle.sheet.specs.Words.{words}
+use Rattle.layout.proofs.Rows.{EnteringParents, parents-none, parents-more, parents-all, parent-fits}
+use Rattle.layout.proofs.enter_parents.Statement.{statement}
+use Rattle.layout.proofs.enter_parents.Tie as tie
 
 abbrev Inv-loop : tie.InvT-loop
-Inv-loop d parents₀ n k₀ parents k = Parenting d parents k
+Inv-loop d parents₀ n k₀ parents k = EnteringParents d parents k
 
 abbrev μ-loop : tie.MeasureT-loop
 μ-loop d parents₀ n k₀ parents k = words d - k
 
 loop-holds : tie.Need-loop-holds Inv-loop μ-loop
-loop-holds c = parenting-start _ _ (c .before .before .pre .1)
+loop-holds c = parents-none _ _ (c .before .before .pre .1)
 
 parent-word-requires : tie.Need-parent-word-requires Inv-loop μ-loop
 parent-word-requires c κs = omega arith
@@ -41,7 +41,7 @@ loop-less : tie.Need-loop-less Inv-loop μ-loop
 loop-less c = omega arith
 
 loop-again : tie.Need-loop-again Inv-loop μ-loop
-loop-again c = parenting-step _ (c .before .before .loop .inv) (c .before .loop-test .taken) (c .parent-word .ensures)
+loop-again c = parents-more _ (c .before .before .loop .inv) (c .before .loop-test .taken) (c .parent-word .ensures)
 
 same-length : tie.Need-same-length Inv-loop μ-loop
 same-length c =
@@ -50,10 +50,10 @@ same-length c =
     c .before .loop .inv .all ∙ sym (pre .1)
 
 returns : tie.Need-returns Inv-loop μ-loop
-returns c = parenting-end (c .before .loop .inv) (c .loop-test .left)
+returns c = parents-all (c .before .loop .inv) (c .loop-test .left)
 
-pub lay-parents-spec : {M : Type 1} → statement M
-lay-parents-spec =
+pub enter-parents-spec : {M : Type 1} → statement M
+enter-parents-spec =
     tie.close
     (tie.spec
     Inv-loop

@@ -1,13 +1,13 @@
--- `lay_lengths` meets its contract: the arcs passed have their lengths. Assumes nothing.
+-- `enter_lengths` meets its contract: the arcs passed have their lengths. Assumes nothing.
 use Prim.Native.Nat.{_-_}
 use mathlib.Core.Path.{sym, _∙_}
+use native.Mathlib.Omega.{arith}
 use Rattle.sheet.specs.Sections.{arcCount}
 use Rattle.sheet.specs.Arcs.{arcLength}
 use Rattle.procedure.specs.OfSheet.{graphOf}
-use Rattle.layout.proofs.Entries.{Prefix, prefix-start, prefix-step, prefix-end}
-use native.Mathlib.Omega.{arith}
-use Rattle.layout.proofs.lay_lengths.Statement.{statement}
-use Rattle.layout.proofs.lay_lengths.Tie as tie
+use Rattle.layout.proofs.Entries.{Prefix, prefix-none, prefix-more, prefix-all}
+use Rattle.layout.proofs.enter_lengths.Statement.{statement}
+use Rattle.layout.proofs.enter_lengths.Tie as tie
 
 abbrev Inv-loop : tie.InvT-loop
 Inv-loop s at lengths₀ n a₀ lengths a = Prefix (arcCount s) (arcLength s) lengths a
@@ -21,7 +21,7 @@ cast-n c = omega arith
 loop-holds : tie.Need-loop-holds Inv-loop μ-loop
 loop-holds c =
     let pre = c .before .before .before .pre in
-    prefix-start _ _ _ (pre .2)
+    prefix-none _ _ _ (pre .2)
 
 cast-i : tie.Need-cast-i Inv-loop μ-loop
 cast-i c = omega arith
@@ -48,7 +48,7 @@ loop-again : tie.Need-loop-again Inv-loop μ-loop
 loop-again c =
     let earlier = c .before .before .before .before in
     let pre = earlier .before .before .pre in
-    prefix-step _ (c .before .before .loop .inv) (omega (arith, c .before .loop-test .taken, pre .0 .arcs-all)) (c .length-at .ensures)
+    prefix-more _ (c .before .before .loop .inv) (omega (arith, c .before .loop-test .taken, pre .0 .arcs-all)) (c .length-at .ensures)
 
 same-length : tie.Need-same-length Inv-loop μ-loop
 same-length c =
@@ -58,10 +58,10 @@ same-length c =
 
 returns : tie.Need-returns Inv-loop μ-loop
 unfolding graphOf
-returns c = prefix-end (c .before .loop .inv) (omega arith)
+returns c = prefix-all (c .before .loop .inv) (omega arith)
 
-pub lay-lengths-spec : {M : Type 1} → statement M
-lay-lengths-spec =
+pub enter-lengths-spec : {M : Type 1} → statement M
+enter-lengths-spec =
     tie.close
     (tie.spec
     Inv-loop
