@@ -1,11 +1,10 @@
 -- What a run answers and leaves, case by case: a refused sheet, a table of the wrong length, a run that is made. Assumes nothing.
 use Prim.Native.Nat.{ℕ}
-use mathlib.Core.Bool.{Bool, true, false, not, cond}
+use mathlib.Core.Bool.{Bool, true, false, cond}
 use mathlib.Core.Path.{_≡_, refl, sym, _∙_}
 use mathlib.Core.List.{List, [], _∷_}
 use borrow.Author.Tests.{eq-eqb, ne-eqb}
 use lib.ListN.{length}
-use lib.Dec.{eqb}
 use Rattle.indices.specs.Steps.{if_then_else_}
 use Rattle.sheet.specs.Sections.{nodeCount}
 use Rattle.sheet.specs.Answer.{Refusal, state, Answer, ended, paused, refused, _when_, isRefused, lowest}

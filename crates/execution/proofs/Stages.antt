@@ -1,13 +1,12 @@
 -- From what is laid out to the table: the start and the rounds leave the state after so many rounds, whose counts, labels and predecessors fit the table.
 -- Assumes nothing.
-use Prim.Native.Nat.{ℕ, _+_}
+use Prim.Native.Nat.{ℕ}
 use mathlib.Core.Bool.{Bool, not}
-use mathlib.Core.Path.{_≡_, refl, sym, ap, _∙_}
+use mathlib.Core.Path.{_≡_, sym, ap, _∙_}
 use mathlib.Core.List.{List}
 use native.Mathlib.Nat.{zero-add}
 use native.Mathlib.Omega.{arith}
 use lib.ListN.{length}
-use Rattle.indices.specs.Columns.{at}
 use Rattle.indices.specs.Steps.{times}
 use Rattle.sheet.specs.Sections.{nodeCount}
 use Rattle.refusals.specs.Judgement.{Accepted}
@@ -16,7 +15,7 @@ use Rattle.procedure.specs.State.{State, counts}
 use Rattle.procedure.specs.Procedure.{ended, start, round, after}
 use Rattle.procedure.specs.Table.{tableOf}
 use Rattle.answers.specs.Tables.{tableLength}
-use Rattle.answers.specs.Runs.{stateAfter, endedAfter, runTable}
+use Rattle.answers.specs.Runs.{stateAfter, runTable}
 use Rattle.runs.proofs.Delivered.{labels-all, predecessors-all, label-small, predecessor-small, counts-small}
 use Rattle.slices.specs.declared.Counts.{Counts}
 use Rattle.slices.specs.Tables.{Tables}

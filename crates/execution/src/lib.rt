@@ -1,6 +1,6 @@
 // The run of an accepted sheet: laid out in arrays of its own, started, worked for at most so many rounds, and written into the table.
 ghost use mathlib.Core.Path.{_≡_};
-ghost use Prim.Native.Nat.{_+_, _*_, _≤_};
+ghost use Prim.Native.Nat.{_+_, _*_};
 ghost use lib.ListN.{length};
 ghost use Rattle.sheet.specs.Sections.{Located, nodeCount};
 ghost use Rattle.refusals.specs.Judgement.{Accepted};

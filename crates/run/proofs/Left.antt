@@ -1,8 +1,8 @@
 -- What a run of an accepted sheet with a table of the right length leaves: what every table of a run delivers, and of the whole run that it has ended.
 -- Assumes nothing.
 use Prim.Native.Nat.{ℕ}
-use mathlib.Core.Bool.{Bool, true}
-use mathlib.Core.Path.{_≡_, refl, sym, ap, subst, _∙_}
+use mathlib.Core.Bool.{Bool}
+use mathlib.Core.Path.{_≡_, sym, ap, subst, _∙_}
 use mathlib.Core.List.{List}
 use lib.ListN.{length}
 use Rattle.indices.specs.Steps.{if_then_else_}

@@ -1,7 +1,6 @@
 // The two run calls: a sheet run to its end, or for at most so many rounds.
 ghost use mathlib.Core.Path.{_≡_};
 ghost use lib.ListN.{length};
-ghost use Prim.Native.Nat.{ℕ, _<_};
 ghost use Rattle.indices.specs.Steps.{if_then_else_};
 ghost use Rattle.sheet.specs.Sections.{nodeCount};
 ghost use Rattle.sheet.specs.Answer.{ended, paused};

@@ -11,7 +11,6 @@ use Rattle.sheet.specs.Words.{top}
 use Rattle.sheet.specs.Sections.{nodeCount}
 use Rattle.refusals.specs.Judgement.{Accepted}
 use Rattle.procedure.specs.Graph.{Graph}
-use Rattle.procedure.specs.OfSheet.{graphOf}
 use Rattle.procedure.specs.Routes.{Shortest}
 use Rattle.procedure.proofs.OfSheet.{graph-nodes}
 use Rattle.shortest.proofs.Agree.{same-columns}

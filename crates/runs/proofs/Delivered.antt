@@ -14,15 +14,14 @@ use Rattle.refusals.specs.Judgement.{Accepted}
 use Rattle.procedure.specs.OfSheet.{graphOf, divisionOf, spansOf}
 use Rattle.procedure.specs.State.{counts}
 use Rattle.procedure.specs.Procedure.{enoughRounds, final}
-use Rattle.procedure.specs.Routes.{Shortest}
 use Rattle.procedure.specs.WellFormed.{WellFormed}
 use Rattle.procedure.proofs.OfSheet.{graph-nodes}
 use Rattle.procedure.proofs.WellFormed.{accepted-well-formed}
 use Rattle.theory.proofs.Final.{after-shape, label-word, predecessor-word, final-ended}
 use Rattle.theory.proofs.Distances.{ended-shortest, counts-fit}
-use Rattle.answers.specs.Tables.{tableLength, statusIn, countIn, labelsIn, predecessorsIn}
+use Rattle.answers.specs.Tables.{statusIn, countIn, labelsIn, predecessorsIn}
 use Rattle.answers.specs.Runs.{stateAfter, endedAfter, runTable, Delivered}
-use Rattle.answers.proofs.Reading.{table-long, status-in, count-in, labels-in, predecessors-in}
+use Rattle.answers.proofs.Reading.{status-in, count-in, labels-in, predecessors-in}
 
 -- a status of 1 is 'ended'
 status-ended : (b : Bool) → _≡_ {A = ℕ} (if b then 1 else 0) 1 → b ≡ true

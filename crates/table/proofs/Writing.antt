@@ -1,12 +1,12 @@
 -- Words written one after the other: the words of the nodes passed so far, and header and nodes together. Assumes nothing.
 use Prim.Native.Nat.{ℕ, suc, _+_, _*_, _<_, _≤_}
 use mathlib.Core.Bool.{Bool}
-use mathlib.Core.Path.{_≡_, refl, sym, ap, _∙_}
+use mathlib.Core.Path.{_≡_, sym, ap, _∙_}
 use mathlib.Core.List.{List, [], _∷_, _++_, append-nil}
 use native.Mathlib.Nat.{add-zero}
 use native.Mathlib.Numerals.{add-one}
 use native.Mathlib.Omega.{arith}
-use lib.ListN.{length, set, drop, drop-of-length-le, length-append}
+use lib.ListN.{length, set, drop-of-length-le, length-append}
 use lib.Seq.{sets, length-sets, sets-eq}
 use Rattle.procedure.specs.Table.{statusWord, countWords, nodeWords, tableOf}
 use Rattle.answers.proofs.Reading.{nodePair, no-node-words, next-node-words, node-words-length}

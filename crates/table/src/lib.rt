@@ -1,8 +1,7 @@
 // Writes the answer table of a state: its status, its counts, and each node's label and predecessor.
 ghost use mathlib.Core.Path.{_≡_};
-ghost use mathlib.Core.Bool.{Bool};
-ghost use mathlib.Core.List.{List, [], _∷_};
-ghost use Prim.Native.Nat.{ℕ, _+_, _*_, _^_, _<_, _≤_};
+ghost use mathlib.Core.List.{[], _∷_};
+ghost use Prim.Native.Nat.{_+_, _*_, _^_, _<_, _≤_};
 ghost use lib.ListN.{length};
 ghost use lib.Seq.{sets};
 ghost use Rattle.procedure.specs.Table.{tableWord, statusWord, countWords, nodeWords, tableOf};
@@ -36,6 +35,20 @@ fn status_word(ended: bool) -> u32
         return word(STATUS, 1);
     }
     word(STATUS, 0)
+}
+
+fn label_word(label: u32) -> u32
+    requires { ⌜ label < 268435456 ⌝ }
+    ensures { λ w. ⌜ w ≡ tableWord 9 label ⌝ }
+{
+    word(LABEL, label)
+}
+
+fn predecessor_word(predecessor: u32) -> u32
+    requires { ⌜ predecessor < 268435456 ⌝ }
+    ensures { λ w. ⌜ w ≡ tableWord 10 predecessor ⌝ }
+{
+    word(PREDECESSOR, predecessor)
 }
 
 // Writes two words from place i on.
@@ -77,8 +90,8 @@ fn write_nodes(table: &mut [u32], labels: &[u32], predecessors: &[u32])
 {
     let mut v = 0;
     while v < labels.len() {
-        let label = word(LABEL, labels[v]);
-        let predecessor = word(PREDECESSOR, predecessors[v]);
+        let label = label_word(labels[v]);
+        let predecessor = predecessor_word(predecessors[v]);
         write_pair(table, HEADER + 2 * v, label, predecessor);
         v += 1;
     }

@@ -1,8 +1,8 @@
 -- `run_accepted` meets its contract: 21 where the table has the wrong length, and otherwise the status of the run and its table. Assumes nothing.
 use borrow.Author.Needs.{needs}
-use Prim.Native.Nat.{ℕ, _+_, _*_}
+use native.Mathlib.Omega.{arith}
 use mathlib.Core.Bool.{Bool}
-use mathlib.Core.Path.{sym, ap, _∙_}
+use mathlib.Core.Path.{ap, _∙_}
 use Rattle.indices.specs.Steps.{if_then_else_}
 use Rattle.sheet.specs.Answer.{ended, paused}
 use Rattle.refusals.proofs.Accepted.{front-there}
@@ -31,14 +31,14 @@ returns c =
     let args = earlier .before .args in
     let pre = earlier .before .pre in
     refused-table (args .sheet .now) (args .limit) (args .table .now) pre
-    (λ e. c .if1 .taken (e ∙ ap (λ (n : ℕ). 9 + 2 * n) (sym (c .before .node-count .ensures))))
+    (λ e. omega (arith, c .if1 .taken, c .before .node-count .ensures))
 
 run-accepted-requires : tie.Need-run-accepted-requires
 run-accepted-requires c κs =
     let earlier = c .before .before .before .before in
     let pre = earlier .before .before .pre in
     let find-sections = c .before .before .before .find-sections in
-    record { good = pre; located = find-sections .ensures; room = c .before .if1 .left ∙ ap (λ (n : ℕ). 9 + 2 * n) (c .before .before .node-count .ensures) }
+    record { good = pre; located = find-sections .ensures; room = omega (arith, c .before .if1 .left, c .before .before .node-count .ensures) }
 
 status-requires : tie.Need-status-requires
 status-requires c κs = search needs
@@ -57,7 +57,7 @@ returns-2 c =
     let if1 = earlier .before .if1 in
     let node-count = earlier .before .before .node-count in
     let run-accepted = c .before .before .before .run-accepted in
-    let done = made (args .sheet .now) (args .limit) (args .table .now) pre (if1 .left ∙ ap (λ (n : ℕ). 9 + 2 * n) (node-count .ensures)) in
+    let done = made (args .sheet .now) (args .limit) (args .table .now) pre (omega (arith, if1 .left, node-count .ensures)) in
     (c .status .ensures ∙ ap (λ (x : Bool). if x then ended else paused) (run-accepted .ensures .status) ∙ done .0, run-accepted .ensures .words ∙ done .1)
 
 pub run-accepted-spec : {M : Type 1} → statement M

@@ -1,5 +1,4 @@
 -- `status_word` meets its contract. Assumes nothing.
-use mathlib.Core.Path.{_∙_}
 use borrow.Author.Needs.{needs}
 use Rattle.table.proofs.status_word.Statement.{statement}
 use Rattle.table.proofs.status_word.Tie as tie

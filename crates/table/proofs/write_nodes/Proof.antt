@@ -15,39 +15,39 @@ abbrev μ-loop : tie.MeasureT-loop
 loop-holds : tie.Need-loop-holds Inv-loop μ-loop
 loop-holds c = writing-start
 
-mul-word : tie.Need-mul-word Inv-loop μ-loop
-mul-word c = omega (arith, c .loop-test .taken)
+mul-label-word : tie.Need-mul-label-word Inv-loop μ-loop
+mul-label-word c = omega (arith, c .loop-test .taken)
 
-shared-slice-read-word : tie.Need-shared-slice-read-word Inv-loop μ-loop
-shared-slice-read-word c = omega (arith, c .before .loop-test .taken)
+shared-slice-read-label-word : tie.Need-shared-slice-read-label-word Inv-loop μ-loop
+shared-slice-read-label-word c = omega (arith, c .before .loop-test .taken)
 
-word-requires : tie.Need-word-requires Inv-loop μ-loop
-word-requires c κs =
+label-word-requires : tie.Need-label-word-requires Inv-loop μ-loop
+label-word-requires c κs =
     let earlier = c .before .before .before .before in
     let pre = earlier .before .before .pre in
-    (omega arith, pre .label _ (c .before .loop-test .taken))
+    pre .label _ (c .before .loop-test .taken)
 
-mul-word-2 : tie.Need-mul-word-2 Inv-loop μ-loop
-mul-word-2 c =
+mul-predecessor-word : tie.Need-mul-predecessor-word Inv-loop μ-loop
+mul-predecessor-word c =
     let earlier = c .before .before .before .before in
     let pre = earlier .before .before .before .pre in
     omega (arith, c .before .before .loop-test .taken, pre .fed)
 
-shared-slice-read-word-2 : tie.Need-shared-slice-read-word-2 Inv-loop μ-loop
-shared-slice-read-word-2 c =
+shared-slice-read-predecessor-word : tie.Need-shared-slice-read-predecessor-word Inv-loop μ-loop
+shared-slice-read-predecessor-word c =
     let earlier = c .before .before .before .before in
     let early = earlier .before .before .before .before in
     let loop-test = c .before .before .before .loop-test in
     let pre = early .pre in
     omega (arith, loop-test .taken, pre .fed)
 
-word-requires-2 : tie.Need-word-requires-2 Inv-loop μ-loop
-word-requires-2 c κs =
+predecessor-word-requires : tie.Need-predecessor-word-requires Inv-loop μ-loop
+predecessor-word-requires c κs =
     let earlier = c .before .before .before .before in
     let early = earlier .before .before .before .before in
     let pre = early .pre in
     let loop-test = c .before .before .before .loop-test in
-    (omega arith, pre .predecessor _ (loop-test .taken))
+    pre .predecessor _ (loop-test .taken)
 
 mul-write-pair : tie.Need-mul-write-pair Inv-loop μ-loop
 mul-write-pair c =
@@ -62,7 +62,7 @@ add-write-pair c =
     let pre = early .before .before .pre in
     let loop = earlier .before .before .loop in
     let loop-test = earlier .before .loop-test in
-    omega (arith, node-places pre (loop .inv) (loop-test .taken))
+    omega (arith, node-places (pre) (loop .inv) (loop-test .taken))
 
 write-pair-requires : tie.Need-write-pair-requires Inv-loop μ-loop
 write-pair-requires c κs =
@@ -71,7 +71,7 @@ write-pair-requires c κs =
     let pre = early .before .before .pre in
     let loop = earlier .before .before .loop in
     let loop-test = earlier .before .loop-test in
-    node-places pre (loop .inv) (loop-test .taken)
+    node-places (pre) (loop .inv) (loop-test .taken)
 
 add-v : tie.Need-add-v Inv-loop μ-loop
 add-v c =
@@ -93,9 +93,9 @@ loop-again c =
     let early = earlier .before .before .before .before in
     let loop = early .before .loop in
     let loop-test = early .loop-test in
-    let word = earlier .before .before .word in
-    let word2 = earlier .word2 in
-    writing-step (loop .inv) (loop-test .taken) (cc (c .before .before .write-pair .ensures, word .ensures, word2 .ensures))
+    let label-word = earlier .before .before .label-word in
+    let predecessor-word = earlier .predecessor-word in
+    writing-step (loop .inv) (loop-test .taken) (cc (c .before .before .write-pair .ensures, label-word .ensures, predecessor-word .ensures))
 
 same-length : tie.Need-same-length Inv-loop μ-loop
 same-length c = writing-length (c .before .loop .inv)
@@ -110,12 +110,12 @@ write-nodes-spec =
     Inv-loop
     μ-loop
     loop-holds
-    mul-word
-    shared-slice-read-word
-    word-requires
-    mul-word-2
-    shared-slice-read-word-2
-    word-requires-2
+    mul-label-word
+    shared-slice-read-label-word
+    label-word-requires
+    mul-predecessor-word
+    shared-slice-read-predecessor-word
+    predecessor-word-requires
     mul-write-pair
     add-write-pair
     write-pair-requires
