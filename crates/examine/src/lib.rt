@@ -1,8 +1,8 @@
 // The test of a lent table, 24, in time linear in sheet and table: labels that fit their predecessors, arcs that are relaxed, and predecessors that
 // lead back to the source.
 ghost use mathlib.Core.Path.{_≡_};
-ghost use mathlib.Core.Bool.{Bool, true, false};
-ghost use Prim.Native.Nat.{ℕ, _+_, _<_};
+ghost use mathlib.Core.Bool.{true};
+ghost use Prim.Native.Nat.{_+_, _<_};
 ghost use lib.ListN.{replicate};
 ghost use Rattle.indices.specs.Tests.{all};
 ghost use Rattle.sheet.specs.Sections.{nodeCount, arcCount};

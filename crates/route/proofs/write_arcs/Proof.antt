@@ -1,6 +1,5 @@
 -- `write_arcs` meets its contract: what is written and what is to come make the route. Assumes nothing.
-use mathlib.Core.Path.{refl, sym, ap, _∙_}
-use lib.ListN.{length-set}
+use mathlib.Core.Path.{refl}
 use Rattle.route.proofs.Following.{arc-there, Writing, write-away, write-on, write-end}
 use native.Mathlib.Omega.{arith}
 use Rattle.route.proofs.write_arcs.Statement.{statement}
@@ -36,8 +35,8 @@ previous-requires : tie.Need-previous-requires Inv-loop μ-loop
 previous-requires c κs =
     let earlier = c .before .before .before .before in
     let pre = earlier .before .before .pre in
-    let args = earlier .before .before .args in
-    (pre .0 .fitting, c .before .before .loop .inv .reached .inside, arc-there (args .s .now) (args .table .now) (args .at) (pre .0) _ (c .before .before .loop .inv .reached) (write-away (pre .0) (c .before .before .loop .inv) (c .before .loop-test .taken)))
+    let away = write-away (pre .0) (c .before .before .loop .inv) (c .before .loop-test .taken) in
+    (pre .0 .fitting, c .before .before .loop .inv .reached .inside, arc-there (pre .0) (c .before .before .loop .inv .reached) away)
 
 loop-less : tie.Need-loop-less Inv-loop μ-loop
 loop-less c = omega arith
