@@ -12,7 +12,7 @@ use Rattle.sheet.specs.declared.Sections.{Sections}
 use Rattle.sheet.specs.Words.{top}
 use Rattle.sheet.specs.Sections.{nodeCount, source, arcCount}
 use Rattle.sheet.specs.Arcs.{tail as tailField, head as headField, arcLength}
-use Rattle.procedure.specs.Graph.{arcs, tail, head}
+use Rattle.procedure.specs.Graph.{arcs, tail}
 use Rattle.procedure.specs.OfSheet.{graphOf}
 use Rattle.procedure.proofs.OfSheet.{graph-source, graph-arcs}
 use Rattle.shortest.specs.TableTest.{sourceTest, unfedTest, fedTest, relaxedTest}
@@ -51,7 +51,8 @@ module _ {b table : List ℕ} {at′ : Sections} (F : Fitting b at′ table) whe
           rw (← to-node F la ew, eq-eqb _ v e, ← from-label F la eu ex, ne-eqb x top reached, ← arc-length F la en, ← label-there b table v l, ← ey)
 
     pub feeds-unreached : {w v : ℕ} → w ≡ headField b a → w ≡ v → x ≡ top → false ≡ feeds b table a v
-    feeds-unreached {v = v} ew e t = rw (← to-node F la ew, eq-eqb _ v e, eq-eqb (at (labels b table) (tail (graphOf b) a)) top (sym (from-label F la eu ex) ∙ t))
+    feeds-unreached {v = v} ew e t =
+        rw (← to-node F la ew, eq-eqb _ v e, eq-eqb (at (labels b table) (tail (graphOf b) a)) top (sym (from-label F la eu ex) ∙ t))
 
   pub feeds-elsewhere : {a w v : ℕ} → a < arcCount b → w ≡ headField b a → w ≢ v → false ≡ feeds b table a v
   feeds-elsewhere {v = v} la ew n = rw (← to-node F la ew, ne-eqb _ v n)
@@ -68,17 +69,18 @@ module _ {b table : List ℕ} {at′ : Sections} (F : Fitting b at′ table) whe
     unfolding unfedTest fedTest
     fits-unreached e = rw (← predecessor, eq-eqb (at (labels b table) v) top (sym label ∙ e), and-true (eqb a top))
 
-    module _ (reached : x ≢ top) where
-      pub fits-source : v ≡ source b → true ≡ nodeFits b table v
+    -- h is the number read as the source's
+    module _ (reached : x ≢ top) {h : ℕ} (eh : h ≡ source b) where
+      pub fits-source : v ≡ h → true ≡ nodeFits b table v
       unfolding unfedTest fedTest
-      fits-source e = rw (ne-eqb (at (labels b table) v) top (λ h. reached (label ∙ h)), eq-eqb v (graphOf b .source) (e ∙ sym (graph-source b)))
+      fits-source e = rw (ne-eqb (at (labels b table) v) top (λ t. reached (label ∙ t)), eq-eqb v (graphOf b .source) (e ∙ eh ∙ sym (graph-source b)))
 
-      module _ (other : v ≢ source b) where
+      module _ (other : v ≢ h) where
         pub fits-no-arc : arcCount b ≤ a → false ≡ nodeFits b table v
         unfolding unfedTest fedTest
         fits-no-arc m = rw (
-          ne-eqb (at (labels b table) v) top (λ h. reached (label ∙ h)),
-          ne-eqb v (graphOf b .source) (λ h. other (h ∙ graph-source b)),
+          ne-eqb (at (labels b table) v) top (λ t. reached (label ∙ t)),
+          ne-eqb v (graphOf b .source) (λ q. other (q ∙ graph-source b ∙ sym eh)),
           ← predecessor,
           le-ltb a (arcs (graphOf b)) (omega (arith, graph-arcs b)),
         )
@@ -86,8 +88,8 @@ module _ {b table : List ℕ} {at′ : Sections} (F : Fitting b at′ table) whe
         pub fits-arc : a < arcCount b → feeds b table a v ≡ nodeFits b table v
         unfolding unfedTest fedTest
         fits-arc m = rw (
-          ne-eqb (at (labels b table) v) top (λ h. reached (label ∙ h)),
-          ne-eqb v (graphOf b .source) (λ h. other (h ∙ graph-source b)),
+          ne-eqb (at (labels b table) v) top (λ t. reached (label ∙ t)),
+          ne-eqb v (graphOf b .source) (λ q. other (q ∙ graph-source b ∙ sym eh)),
           ← predecessor,
           lt-ltb a (arcs (graphOf b)) (omega (arith, graph-arcs b)),
         )

@@ -12,7 +12,6 @@ use Rattle.sheet.specs.Limits.{mostArcsEachWay}
 use Rattle.sheet.specs.Words.{top}
 use Rattle.sheet.specs.Sections.{nodeCount, source, arcCount}
 use Rattle.refusals.proofs.Accepted.{few-nodes}
-use Rattle.procedure.specs.Graph.{arcs}
 use Rattle.procedure.specs.OfSheet.{graphOf}
 use Rattle.procedure.specs.WellFormed.{GraphOk}
 use Rattle.procedure.specs.Routes.{chainTo}
@@ -114,7 +113,8 @@ pub record Writing (b table buffer₀ : List ℕ) (v n : ℕ) (buffer : List ℕ
   pub reached : Reached b table u
   pub left : k ≡ length (routeTo b table u)
   pub long : length buffer ≡ length buffer₀
-  pub room : k ≤ length buffer
+  pub few : k ≤ n
+  pub room : n ≤ length buffer
   pub same : routeTo b table u ++ drop k buffer ≡ routeTo b table v ++ drop n buffer₀
 
 -- what stands from a place on, after a store there
@@ -138,9 +138,10 @@ module _ {b table buffer₀ buffer : List ℕ} {at′ : Sections} {v n u k : ℕ
           reached = before-reached R (W .reached) write-away;
           left = omega (arith, W .left, route-longer R (W .reached) write-away);
           long = simp length-set (W .long);
-          room = simp length-set (omega (arith, W .room));
+          few = omega (arith, W .few);
+          room = simp length-set (W .room);
           same =
-              ap (λ (rest : List ℕ). routeTo b table before ++ rest) (drop-set buffer (k - 1) a (omega (arith, W .room)))
+              ap (λ (rest : List ℕ). routeTo b table before ++ rest) (drop-set buffer (k - 1) a (omega (arith, W .few, W .room)))
               ∙ ap (λ (i : ℕ). routeTo b table before ++ (a ∷ drop i buffer)) next
               ∙ sym (append-assoc (routeTo b table before) (a ∷ []) (drop k buffer))
               ∙ ap (λ (way : List ℕ). way ++ drop k buffer) (sym (route-back R (W .reached) write-away)) ∙ W .same;

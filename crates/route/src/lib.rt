@@ -52,9 +52,10 @@ fn write_arcs(s: &[u8], at: Sections, table: &[u32], v: Node, arcs: usize, buffe
     let mut u = v;
     let mut left = arcs;
     while 0 < left {
-        left -= 1;
-        buffer[left] = tables::predecessor_of(table, u);
+        let place = left - 1;
+        buffer[place] = tables::predecessor_of(table, u);
         u = tables::previous(s, at, table, u);
+        left -= 1;
     }
 }
 
@@ -71,8 +72,9 @@ fn find_route(s: &[u8], at: Sections, table: &[u32], v: Node, buffer: &mut [u32]
     if buffer.len() < arcs {
         return Routed::Refused(Fault::State(25));
     }
+    let count = arcs as u32;
     write_arcs(s, at, table, v, arcs, buffer);
-    Routed::Route(arcs as u32)
+    Routed::Route(count)
 }
 
 // The answer for an accepted sheet.

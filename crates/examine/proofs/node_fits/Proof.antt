@@ -1,5 +1,5 @@
 -- `node_fits` meets its contract: unreached, the source, no arc, or an arc that is tried. Assumes nothing.
-use mathlib.Core.Path.{sym, _∙_}
+use mathlib.Core.Path.{_∙_}
 use Rattle.sheet.specs.Words.{top}
 use Rattle.refusals.proofs.Accepted.{few-arcs}
 use Rattle.examine.proofs.Fits.{fits-unreached, fits-source, fits-no-arc, fits-arc}
@@ -38,7 +38,7 @@ returns-2 c =
     let label-of = earlier .label-of in
     let predecessor-of = earlier .before .predecessor-of in
     let if1 = c .before .before .before .if1 in
-    fits-source (pre .0) (pre .1) (label-of .ensures) (predecessor-of .ensures) (if1 .left) (c .if2 .taken ∙ c .before .source-number .ensures)
+    fits-source (pre .0) (pre .1) (label-of .ensures) (predecessor-of .ensures) (if1 .left) (c .before .source-number .ensures) (c .if2 .taken)
 
 cast-if3 : tie.Need-cast-if3
 cast-if3 c = search needs
@@ -53,7 +53,7 @@ returns-3 c =
     let predecessor-of = earlier .before .before .before .predecessor-of in
     let if1 = earlier .before .if1 in
     let source-number = c .before .before .before .source-number in
-    fits-no-arc (pre .0) (pre .1) (label-of .ensures) (predecessor-of .ensures) (if1 .left) (λ e. c .before .before .if2 .left (e ∙ sym (source-number .ensures)))
+    fits-no-arc (pre .0) (pre .1) (label-of .ensures) (predecessor-of .ensures) (if1 .left) (source-number .ensures) (c .before .before .if2 .left)
     (omega (arith, c .if3 .taken, pre .0 .located .arcs-all))
 
 cast-t10 : tie.Need-cast-t10
@@ -79,9 +79,9 @@ returns-4 c =
     let label-of = earlier .before .before .before .label-of in
     let predecessor-of = early .predecessor-of in
     let if1 = earlier .before .before .if1 in
-    let if2 = c .before .before .before .if2 in
     let source-number = earlier .source-number in
-    c .feeds .ensures ∙ fits-arc (pre .0) (pre .1) (label-of .ensures) (predecessor-of .ensures) (if1 .left) (λ e. if2 .left (e ∙ sym (source-number .ensures)))
+    let if2 = c .before .before .before .if2 in
+    c .feeds .ensures ∙ fits-arc (pre .0) (pre .1) (label-of .ensures) (predecessor-of .ensures) (if1 .left) (source-number .ensures) (if2 .left)
     (omega (arith, c .before .if3 .left, pre .0 .located .arcs-all))
 
 pub node-fits-spec : {M : Type 1} → statement M
