@@ -61,6 +61,7 @@ fn node_fits(s: &[u8], at: Sections, table: &[u32], v: Node) -> bool
     feeds(s, at, table, Arc(a as u16), v)
 }
 
+// Whether every node fits.
 fn nodes_fit(s: &[u8], at: Sections, table: &[u32]) -> bool
     requires { ⌜ Fitting (now s) at (now table) ⌝ }
     ensures { λ r. ⌜ r ≡ all (nodeFits (now (s .entry)) (now (table .entry))) (nodeCount (now (s .entry))) ⌝ }
@@ -88,6 +89,7 @@ fn arc_relaxed(s: &[u8], at: Sections, table: &[u32], a: Arc) -> bool
     tables::label_of(table, sheet::end_at(s, at, a, true)) <= from + sheet::length_at(s, at, a)
 }
 
+// Whether every arc is relaxed.
 fn arcs_relaxed(s: &[u8], at: Sections, table: &[u32]) -> bool
     requires { ⌜ Fitting (now s) at (now table) ⌝ }
     ensures { λ r. ⌜ r ≡ all (arcRelaxed (now (s .entry)) (now (table .entry))) (arcCount (now (s .entry))) ⌝ }
@@ -144,6 +146,7 @@ fn all_led(s: &[u8], at: Sections, table: &[u32], stamps: &mut [u16; 1024]) -> b
     true
 }
 
+// The same, with no stamps at first.
 fn nodes_led(s: &[u8], at: Sections, table: &[u32]) -> bool
     requires { ⌜ Followable (now s) at (now table) ⌝ }
     ensures { λ r. ⌜ r ≡ all (nodeLed (now (s .entry)) (now (table .entry))) (nodeCount (now (s .entry))) ⌝ }
