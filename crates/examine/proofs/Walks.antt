@@ -2,7 +2,7 @@
 -- all of them lead back if it meets a node that does. Assumes nothing.
 use Prim.Native.Nat.{ℕ, suc, pred, _+_, _≤_, _<_}
 use native.Mathlib.Omega.{arith}
-use mathlib.Core.Bool.{Bool, true, false, not, true≢false, cond}
+use mathlib.Core.Bool.{true, false, not, true≢false}
 use mathlib.Core.Path.{_≡_, refl, sym, ap, _∙_}
 use mathlib.Core.Logic.{_≢_, ⊎-elim}
 use mathlib.Core.List.{List}
@@ -18,18 +18,19 @@ use Rattle.indices.proofs.Tally.{blank}
 use Rattle.indices.proofs.Totals.{count-one}
 use Rattle.sheet.specs.declared.Sections.{Sections}
 use Rattle.sheet.specs.Words.{top}
-use Rattle.sheet.specs.Sections.{nodeCount, source}
+use Rattle.sheet.specs.Sections.{nodeCount, source, arcCount}
 use Rattle.refusals.proofs.Accepted.{few-nodes, source-in}
-use Rattle.procedure.specs.Graph.{arcs, tail}
 use Rattle.procedure.specs.OfSheet.{graphOf}
-use Rattle.procedure.proofs.OfSheet.{graph-nodes, graph-source, graph-arcs, graph-tail}
+use Rattle.procedure.proofs.OfSheet.{graph-nodes, graph-source, graph-arcs}
 use Rattle.procedure.proofs.WellFormed.{accepted-well-formed}
 use Rattle.shortest.specs.TableTest.{unfedTest, leadsBack, ledTest}
 use Rattle.shortest.proofs.Depth.{Depth, home, back, depth-unique, depth-below}
 use Rattle.shortest.proofs.LeadsBack.{depth-leads, leads-depth}
 use Rattle.shortest.proofs.TightTree.{Fed}
 use Rattle.shortest.proofs.TableTest.{fed-passes}
+use Rattle.answers.specs.Tables.{labelIn, predecessorIn}
 use Rattle.tables.specs.Fitting.{labels, predecessors, nodeBefore}
+use Rattle.tables.proofs.Columns.{label-there, predecessor-there}
 use Rattle.examine.specs.Checks.{nodeFits, nodeLed}
 use Rattle.examine.specs.Stamps.{Followable, leads, Stamped}
 
@@ -57,48 +58,16 @@ pub record Walking (b table stamps : List ℕ) (v u : ℕ) : Type 0 where
 abbrev pub unstamped : List ℕ → List ℕ → ℕ
 unstamped b stamps = count (λ w. eqb (at stamps w) 0) (nodeCount b)
 
-module _ (b table : List ℕ) where
-  -- v has a depth: it leads back
-  depth-led : {v : ℕ} → Leads b table v → leads b table v ≡ true
-  depth-led p =
-      depth-leads (graphOf b) (predecessors b table) (pred (nodeCount b)) (p .1)
-      (omega (arith, depth-below (graphOf b) (predecessors b table) (p .1), graph-nodes b))
-
-  -- an unreached node need not lead back, a reached one must
-  pub led-unreached : (v : ℕ) → at (labels b table) v ≡ top → nodeLed b table v ≡ true
-  unfolding ledTest
-  led-unreached v e = rw (eq-eqb (at (labels b table) v) top e)
-
-  led-reached : (v : ℕ) → at (labels b table) v ≢ top → nodeLed b table v ≡ leads b table v
-  unfolding ledTest
-  led-reached v r =
-      rw (ne-eqb (at (labels b table) v) top r) (ap (λ (n : ℕ). leadsBack (graphOf b) (predecessors b table) (pred n) v) (graph-nodes b))
-
-  -- no stamp but the source's
-  pub stamps-start : source b < nodeCount b → nodeCount b ≤ 1024 → leads b table (source b) ≡ true → Stamped b table (set (blank 1024) (source b) 1) 0
-  stamps-start l n h = record {
-    long = simp (length-set, length-replicate);
-    home = getD-set-same (blank 1024) (source b) 1 0 there;
-    low = λ w lw. set-elim (λ (x : ℕ). x ≤ 1) (blank 1024) (source b) w 1 0 there (λ _. omega arith) (λ _. omega (arith, zero-at w lw));
-    led = λ w lw. set-elim (λ (x : ℕ). x ≢ 0 → leads b table w ≡ true) (blank 1024) (source b) w 1 0 there (λ e _. rw e h)
-        (λ _ s. absurd (s (zero-at w lw)));
-  }
-    where
-      there : source b < length (blank 1024)
-      there = simp length-replicate (omega arith)
-
-      zero-at : (w : ℕ) → w < nodeCount b → _≡_ {A = ℕ} (at (blank 1024) w) 0
-      zero-at w lw = getD-replicate 1024 w 0 0 (omega arith)
-
+module _ {b table : List ℕ} where
   -- v is unreached, and its walk is none
-  pub stamps-on : (stamps : List ℕ) (v : ℕ) → Stamped b table stamps v → Stamped b table stamps (v + 1)
-  stamps-on stamps v S = record { long = S .long; home = S .home; low = λ w l. omega (arith, S .low w l); led = S .led }
+  pub stamps-on : {stamps : List ℕ} {v : ℕ} → Stamped b table stamps v → Stamped b table stamps (v + 1)
+  stamps-on S = record { long = S .long; home = S .home; low = λ w l. omega (arith, S .low w l); led = S .led }
 
-  pub walk-start : (stamps : List ℕ) (v : ℕ) → Stamped b table stamps v → v < nodeCount b → at (labels b table) v ≢ top → Walking b table stamps v v
-  walk-start stamps v S l r = record {
+  pub walk-start : {stamps : List ℕ} {v x : ℕ} → Stamped b table stamps v → v < nodeCount b → x ≡ labelIn table v → x ≢ top → Walking b table stamps v v
+  walk-start {v = v} S l ex r = record {
     long = S .long;
     inside = l;
-    reached = r;
+    reached = λ e. r (ex ∙ label-there b table v l ∙ e);
     home = S .home;
     low = λ w lw. omega (arith, S .low w lw);
     led = λ w lw s _. S .led w lw s;
@@ -107,7 +76,23 @@ module _ (b table : List ℕ) where
     down = λ p. p;
   }
 
-  module _ (at′ : Sections) (F : Followable b at′ table) where
+  module _ {at′ : Sections} (F : Followable b at′ table) where
+    -- v has a depth: it leads back
+    depth-led : {v : ℕ} → Leads b table v → leads b table v ≡ true
+    depth-led p =
+        depth-leads (graphOf b) (predecessors b table) (pred (nodeCount b)) (p .1)
+        (omega (arith, depth-below (graphOf b) (predecessors b table) (p .1), graph-nodes b))
+
+    -- an unreached node need not lead back, a reached one must
+    pub led-unreached : {v x : ℕ} → v < nodeCount b → x ≡ labelIn table v → x ≡ top → true ≡ nodeLed b table v
+    unfolding ledTest
+    led-unreached {v} l ex e = rw (eq-eqb (at (labels b table) v) top (sym (ex ∙ label-there b table v l) ∙ e))
+
+    led-reached : (v : ℕ) → at (labels b table) v ≢ top → nodeLed b table v ≡ leads b table v
+    unfolding ledTest
+    led-reached v r =
+        rw (ne-eqb (at (labels b table) v) top r) (ap (λ (n : ℕ). leadsBack (graphOf b) (predecessors b table) (pred n) v) (graph-nodes b))
+
     -- a reached node other than the source is fed
     fed : (v : ℕ) → v < nodeCount b → at (labels b table) v ≢ top → v ≢ source b → Fed (graphOf b) (labels b table) (predecessors b table) v
     fed v l r n =
@@ -115,13 +100,10 @@ module _ (b table : List ℕ) where
         (and-right (unfedTest (graphOf b) (labels b table) (predecessors b table) v) _ (all-at (nodeFits b table) (nodeCount b) v (F .fit) l)) r
         (λ e. n (e ∙ graph-source b))
 
-    pub fed-arc : (v : ℕ) → v < nodeCount b → at (labels b table) v ≢ top → v ≢ source b → at (predecessors b table) v < arcs (graphOf b)
-    fed-arc v l r n = fed v l r n .is-arc
-
     before-in : (v : ℕ) → v < nodeCount b → at (labels b table) v ≢ top → v ≢ source b → nodeBefore b table v < nodeCount b
     before-in v l r n =
         let good = accepted-well-formed b (F .fitting .accepted) .graph in
-        omega (arith, graph-nodes b, good .tail-in (at (predecessors b table) v) (fed-arc v l r n))
+        omega (arith, graph-nodes b, good .tail-in (at (predecessors b table) v) (fed v l r n .is-arc))
 
     -- a reached node that leads back has a depth
     led-depth : (v : ℕ) → v < nodeCount b → at (labels b table) v ≢ top → leads b table v ≡ true → Leads b table v
@@ -132,9 +114,24 @@ module _ (b table : List ℕ) where
         (before-in u (q .0) (q .1) other, fed u (q .0) (q .1) other .from-reached))
         (pred (nodeCount b)) v (l, r)
 
-    -- the source leads back
-    pub source-led : leads b table (source b) ≡ true
-    source-led = depth-led (0, home (omega (arith, graph-nodes b, source-in b (F .fitting .accepted))) (sym (graph-source b)))
+    -- the source leads back, and has the first stamp
+    pub stamps-start : Stamped b table (set (blank 1024) (source b) 1) 0
+    stamps-start = record {
+      long = simp (length-set, length-replicate);
+      home = getD-set-same (blank 1024) (source b) 1 0 there;
+      low = λ w lw. set-elim (λ (x : ℕ). x ≤ 1) (blank 1024) (source b) w 1 0 there (λ _. omega arith) (λ _. omega (arith, zero-at w lw));
+      led = λ w lw. set-elim (λ (x : ℕ). x ≢ 0 → leads b table w ≡ true) (blank 1024) (source b) w 1 0 there (λ e _. rw e source-led)
+          (λ _ s. absurd (s (zero-at w lw)));
+    }
+      where
+        source-led : leads b table (source b) ≡ true
+        source-led = depth-led (0, home (omega (arith, graph-nodes b, source-in b (F .fitting .accepted))) (sym (graph-source b)))
+
+        there : source b < length (blank 1024)
+        there = simp length-replicate (omega (arith, source-in b (F .fitting .accepted), few-nodes b (F .fitting .accepted)))
+
+        zero-at : (w : ℕ) → w < nodeCount b → _≡_ {A = ℕ} (at (blank 1024) w) 0
+        zero-at w lw = getD-replicate 1024 w 0 0 (omega (arith, few-nodes b (F .fitting .accepted)))
 
     module _ {stamps : List ℕ} {v u : ℕ} (W : Walking b table stamps v u) where
       u-in : u < length stamps
@@ -142,7 +139,7 @@ module _ (b table : List ℕ) where
 
       -- a node without a stamp is not the source
       module _ (blank : at stamps u ≡ 0) where
-        pub walk-away : u ≢ source b
+        walk-away : u ≢ source b
         walk-away e = omega (arith, ap (at stamps) e, W .home)
 
         step-deeper : {d : ℕ} → Depth (graphOf b) (predecessors b table) (nodeBefore b table u) d → Depth (graphOf b) (predecessors b table) u (suc d)
@@ -151,6 +148,10 @@ module _ (b table : List ℕ) where
         step-back : {w : ℕ} → w ≡ u → Leads b table w → Leads b table (nodeBefore b table u)
         step-back e (_, home l h) = absurd (walk-away (sym e ∙ h ∙ graph-source b))
         step-back e (_, back {d = d} l n p) = (d, rw (ap (nodeBefore b table) e) at p)
+
+        -- its predecessor is an arc
+        pub walk-arc : predecessorIn table u < arcCount b
+        walk-arc = let f = fed u (W .inside) (W .reached) walk-away in omega (arith, f .is-arc, graph-arcs b, predecessor-there b table u (W .inside))
 
         -- u gets the stamp, and the walk goes on
         pub walk-on : Walking b table (set stamps u (v + 2)) v (nodeBefore b table u)
@@ -203,9 +204,10 @@ module _ (b table : List ℕ) where
         }
 
       -- where the walk ends, the stamp that is met decides
-      pub walk-end : v < nodeCount b → at (labels b table) v ≢ top → at stamps u ≢ 0
+      pub walk-end : {x : ℕ} → v < nodeCount b → x ≡ labelIn table v → x ≢ top → at stamps u ≢ 0
           → (not (eqb (at stamps u) (v + 2)) ≡ nodeLed b table v) × (not (eqb (at stamps u) (v + 2)) ≡ true → Stamped b table stamps (v + 1))
-      walk-end l r met =
+      walk-end l ex rx met =
+          let r : at (labels b table) v ≢ top = λ e. rx (ex ∙ label-there b table v l ∙ e) in
           ⊎-elim (λ (e : at stamps u ≡ v + 2).
           rw (eq-eqb (at stamps u) (v + 2) e) (
             sym (led-reached v r ∙ ⊎-elim (λ (t : leads b table v ≡ true). absurd (walk-ring e t l r)) (λ (f : leads b table v ≡ false). f)

@@ -1,8 +1,8 @@
 // The test of a lent table, 24, in time linear in sheet and table: labels that fit their predecessors, arcs that are relaxed, and predecessors that
 // lead back to the source.
 ghost use mathlib.Core.Path.{_≡_};
-ghost use mathlib.Core.Bool.{Bool, true, false};
-ghost use Prim.Native.Nat.{ℕ, _+_, _<_};
+ghost use mathlib.Core.Bool.{true};
+ghost use Prim.Native.Nat.{_+_, _<_};
 ghost use lib.ListN.{replicate};
 ghost use Rattle.indices.specs.Tests.{all};
 ghost use Rattle.sheet.specs.Sections.{nodeCount, arcCount};
@@ -61,6 +61,7 @@ fn node_fits(s: &[u8], at: Sections, table: &[u32], v: Node) -> bool
     feeds(s, at, table, Arc(a as u16), v)
 }
 
+// Whether every node fits.
 fn nodes_fit(s: &[u8], at: Sections, table: &[u32]) -> bool
     requires { ⌜ Fitting (now s) at (now table) ⌝ }
     ensures { λ r. ⌜ r ≡ all (nodeFits (now (s .entry)) (now (table .entry))) (nodeCount (now (s .entry))) ⌝ }
@@ -88,6 +89,7 @@ fn arc_relaxed(s: &[u8], at: Sections, table: &[u32], a: Arc) -> bool
     tables::label_of(table, sheet::end_at(s, at, a, true)) <= from + sheet::length_at(s, at, a)
 }
 
+// Whether every arc is relaxed.
 fn arcs_relaxed(s: &[u8], at: Sections, table: &[u32]) -> bool
     requires { ⌜ Fitting (now s) at (now table) ⌝ }
     ensures { λ r. ⌜ r ≡ all (arcRelaxed (now (s .entry)) (now (table .entry))) (arcCount (now (s .entry))) ⌝ }
@@ -144,6 +146,7 @@ fn all_led(s: &[u8], at: Sections, table: &[u32], stamps: &mut [u16; 1024]) -> b
     true
 }
 
+// The same, with no stamps at first.
 fn nodes_led(s: &[u8], at: Sections, table: &[u32]) -> bool
     requires { ⌜ Followable (now s) at (now table) ⌝ }
     ensures { λ r. ⌜ r ≡ all (nodeLed (now (s .entry)) (now (table .entry))) (nodeCount (now (s .entry))) ⌝ }

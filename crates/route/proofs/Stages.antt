@@ -1,66 +1,79 @@
 -- The stages of the answer for an accepted sheet: a refusal that applies stops it, and where none does the search for the route decides. Assumes nothing.
 use Prim.Native.Nat.{ℕ, zero, suc, _≤_, _<_}
-use mathlib.Core.Bool.{true, false, not}
+use mathlib.Core.Bool.{true, false}
 use mathlib.Core.Path.{_≡_, refl, sym, ap, _∙_}
 use mathlib.Core.Logic.{_≢_}
 use mathlib.Core.List.{List, _++_}
-use borrow.Author.Tests.{eq-eqb, ne-eqb, lt-ltb, le-ltb, le-leb, lt-leb}
+use borrow.Author.Tests.{eq-eqb, ne-eqb, lt-ltb, le-ltb, leb-false, eqb-true, not-false}
 use lib.ListN.{length, drop}
+use Rattle.sheet.specs.declared.Sections.{Sections}
 use Rattle.sheet.specs.Words.{top}
-use Rattle.sheet.specs.Sections.{nodeCount}
+use Rattle.sheet.specs.Sections.{Located, nodeCount}
 use Rattle.sheet.specs.Answer.{Refusal, input, state, Answer, accepted, route, noRoute, refused, lowest}
 use Rattle.sheet.proofs.Lowest.{lowest-clear, lowest-stop, clear-at}
 use Rattle.refusals.specs.Judgement.{Accepted}
 use Rattle.answers.specs.Tables.{tableLength, wrongLength, labelIn}
-use Rattle.answers.specs.Routes.{nodeOutside, notShortest, tableRefusals, routeTo, foundRoute, routeAnswer, leftBy, bufferAfter, TableKnown}
+use Rattle.answers.specs.Routes.{nodeOutside, tableRefusals, routeTo, foundRoute, routeAnswer, leftBy, bufferAfter, TableKnown}
 use Rattle.answers.proofs.Routes.{after-sheet, table-known}
+use Rattle.tables.specs.Fitting.{Fitting}
 use Rattle.examine.specs.Checks.{stateNumbered}
+use Rattle.route.specs.Ready.{Ready}
+
+-- what a stage may take from those before it: the node is one, and the table has its length and passed the last test
+pub node-below : (b : List ℕ) (node : ℕ) → nodeOutside b node ≡ false → node < nodeCount b
+unfolding nodeOutside
+node-below b node e = leb-false (nodeCount b) node e
+
+pub table-fits : {b table : List ℕ} {at : Sections} → Located b at → Accepted b → wrongLength b table ≡ false → Fitting b at table
+unfolding wrongLength
+table-fits {b} {table} found ok e = record {
+  located = found;
+  accepted = ok;
+  sized = eqb-true (length table) (tableLength (nodeCount b)) (not-false _ e);
+}
+
+pub table-ready : {b table : List ℕ} {at : Sections} → Fitting b at table → lowest (tableRefusals b table) accepted ≡ accepted → Ready b at table
+unfolding tableRefusals
+table-ready {b} {table} fitting e = record { fitting = fitting; passed = clear-at (tableRefusals b table) e 2 }
 
 -- a number other than 0 is a refusal
 a-refusal : (n : ℕ) → n ≢ 0 → stateNumbered n ≡ refused (state n)
 a-refusal zero ne = absurd (ne refl)
 a-refusal (suc n) ne = refl
 
-module _ (b table : List ℕ) (node : ℕ) (buffer : List ℕ) (ok : Accepted b) where
-  pub node-stops : nodeCount b ≤ node → routeAnswer b table node buffer ≡ refused (input 15)
-  unfolding nodeOutside
-  node-stops l = after-sheet b table node buffer ok ∙ rw (le-leb (nodeCount b) node l)
-
-  module _ (below : node < nodeCount b) where
-    pub length-stops : length table ≢ tableLength (nodeCount b) → routeAnswer b table node buffer ≡ refused (state 21)
-    unfolding nodeOutside wrongLength
-    length-stops n = after-sheet b table node buffer ok ∙ rw (lt-leb (nodeCount b) node below, ne-eqb (length table) (tableLength (nodeCount b)) n)
-
-    module _ (sized : length table ≡ tableLength (nodeCount b)) where
-      then-table : routeAnswer b table node buffer ≡ lowest (tableRefusals b table) (foundRoute b table node buffer)
-      unfolding nodeOutside wrongLength
-      then-table = after-sheet b table node buffer ok ∙ rw (lt-leb (nodeCount b) node below, eq-eqb (length table) (tableLength (nodeCount b)) sized)
-
-      pub table-stops : (n : ℕ) → n ≢ 0 → stateNumbered n ≡ lowest (tableRefusals b table) accepted → routeAnswer b table node buffer ≡ refused (state n)
-      table-stops n ne e = then-table ∙ lowest-stop (tableRefusals b table) _ (state n) (sym e ∙ a-refusal n ne)
-
-      pub route-decides : lowest (tableRefusals b table) accepted ≡ accepted → routeAnswer b table node buffer ≡ foundRoute b table node buffer
-      route-decides e = then-table ∙ lowest-clear (tableRefusals b table) _ e
-
--- a table that none of 22 to 24 applies to passed the last of them
-pub table-passed : (b table : List ℕ) → lowest (tableRefusals b table) accepted ≡ accepted → notShortest b table ≡ false
-unfolding tableRefusals
-table-passed b table e = clear-at (tableRefusals b table) e 2
-
--- THE SEARCH FOR THE ROUTE: no route, a buffer that is too short, a route
 module _ (b table : List ℕ) (node : ℕ) (buffer : List ℕ) where
-  pub found-none : labelIn table node ≡ top → noRoute ≡ foundRoute b table node buffer
-  unfolding foundRoute
-  found-none e = rw (eq-eqb (labelIn table node) top e)
+  module _ (ok : Accepted b) where
+    pub node-stops : nodeOutside b node ≡ true → refused (input 15) ≡ routeAnswer b table node buffer
+    node-stops e = sym (after-sheet b table node buffer ok ∙ rw e)
 
-  module _ (reached : labelIn table node ≢ top) where
-    pub found-short : length buffer < length (routeTo b table node) → refused (state 25) ≡ foundRoute b table node buffer
-    unfolding foundRoute
-    found-short l = rw (ne-eqb (labelIn table node) top reached, lt-ltb (length buffer) (length (routeTo b table node)) l)
+    module _ (below : nodeOutside b node ≡ false) where
+      pub length-stops : wrongLength b table ≡ true → refused (state 21) ≡ routeAnswer b table node buffer
+      length-stops e = sym (after-sheet b table node buffer ok ∙ rw (below, e))
 
-    pub found-route : length (routeTo b table node) ≤ length buffer → route (length (routeTo b table node)) ≡ foundRoute b table node buffer
+      module _ (sized : wrongLength b table ≡ false) where
+        then-table : routeAnswer b table node buffer ≡ lowest (tableRefusals b table) (foundRoute b table node buffer)
+        then-table = after-sheet b table node buffer ok ∙ rw (below, sized)
+
+        pub table-stops : (n : ℕ) → n ≢ 0 → stateNumbered n ≡ lowest (tableRefusals b table) accepted → refused (state n) ≡ routeAnswer b table node buffer
+        table-stops n ne e = sym (then-table ∙ lowest-stop (tableRefusals b table) _ (state n) (sym e ∙ a-refusal n ne))
+
+        pub route-decides : lowest (tableRefusals b table) accepted ≡ accepted → foundRoute b table node buffer ≡ routeAnswer b table node buffer
+        route-decides e = sym (then-table ∙ lowest-clear (tableRefusals b table) _ e)
+
+  -- THE SEARCH FOR THE ROUTE, by the node's label x: no route, a buffer that is too short for n arcs, a route of n arcs
+  module _ {x : ℕ} (ex : x ≡ labelIn table node) where
+    pub found-none : x ≡ top → noRoute ≡ foundRoute b table node buffer
     unfolding foundRoute
-    found-route l = rw (ne-eqb (labelIn table node) top reached, le-ltb (length buffer) (length (routeTo b table node)) l)
+    found-none e = rw (eq-eqb (labelIn table node) top (sym ex ∙ e))
+
+    module _ (reached : x ≢ top) {n : ℕ} (all : n ≡ length (routeTo b table node)) where
+      pub found-short : length buffer < n → refused (state 25) ≡ foundRoute b table node buffer
+      unfolding foundRoute
+      found-short l = rw (← ex, ne-eqb x top reached, ← all, lt-ltb (length buffer) n l)
+
+      pub found-route : n ≤ length buffer → route n ≡ foundRoute b table node buffer
+      unfolding foundRoute
+      found-route l = rw (← ex, ne-eqb x top reached, ← all, le-ltb (length buffer) n l)
 
   -- what is left in the buffer
   pub left-none : buffer ≡ leftBy b table noRoute node buffer
@@ -71,9 +84,9 @@ module _ (b table : List ℕ) (node : ℕ) (buffer : List ℕ) where
   unfolding leftBy
   left-refused r = refl
 
-  pub left-route : (n : ℕ) → routeTo b table node ++ drop (length (routeTo b table node)) buffer ≡ leftBy b table (route n) node buffer
+  pub left-route : (n : ℕ) → n ≡ length (routeTo b table node) → routeTo b table node ++ drop n buffer ≡ leftBy b table (route n) node buffer
   unfolding leftBy
-  left-route n = refl
+  left-route n e = ap (λ (k : ℕ). routeTo b table node ++ drop k buffer) e
 
   -- the right answer leaves the right buffer, and tells of the table
   module _ (a : Answer) (same : a ≡ routeAnswer b table node buffer) where

@@ -1,11 +1,12 @@
 // Reads the route to a node out of a finished table.
 ghost use mathlib.Core.Path.{_≡_};
-ghost use mathlib.Core.List.{List, _++_};
-ghost use Prim.Native.Nat.{ℕ, _≤_, _<_};
+ghost use mathlib.Core.List.{_++_};
+ghost use Prim.Native.Nat.{_≤_, _<_};
 ghost use lib.ListN.{length, drop};
+ghost use Rattle.sheet.specs.Words.{words};
 ghost use Rattle.sheet.specs.Sections.{nodeCount};
 ghost use Rattle.refusals.specs.Judgement.{Accepted};
-ghost use Rattle.answers.specs.Routes.{routeTo, foundRoute, routeAnswer, leftBy, bufferAfter, TableKnown};
+ghost use Rattle.answers.specs.Routes.{nodeOutside, routeTo, foundRoute, routeAnswer, leftBy, bufferAfter, TableKnown};
 ghost use Rattle.route.specs.Said.{said};
 ghost use Rattle.route.specs.Ready.{Ready, Reached};
 use judge::Judged;
@@ -17,6 +18,14 @@ pub enum Routed {
     Route(u32),
     NoRoute,
     Refused(Fault),
+}
+
+// Refusal 15: the node whose route is wanted is none.
+fn node_outside(s: &[u8], node: u32) -> bool
+    requires { ⌜ 2 ≤ words (now s) ⌝ }
+    ensures { λ r. ⌜ r ≡ nodeOutside (now (s .entry)) node ⌝ }
+{
+    sheet::node_count(s) <= node
 }
 
 // How many arcs the route to a reached node has.
@@ -43,9 +52,10 @@ fn write_arcs(s: &[u8], at: Sections, table: &[u32], v: Node, arcs: usize, buffe
     let mut u = v;
     let mut left = arcs;
     while 0 < left {
-        left -= 1;
-        buffer[left] = tables::predecessor_of(table, u);
+        let place = left - 1;
+        buffer[place] = tables::predecessor_of(table, u);
         u = tables::previous(s, at, table, u);
+        left -= 1;
     }
 }
 
@@ -62,8 +72,9 @@ fn find_route(s: &[u8], at: Sections, table: &[u32], v: Node, buffer: &mut [u32]
     if buffer.len() < arcs {
         return Routed::Refused(Fault::State(25));
     }
+    let count = arcs as u32;
     write_arcs(s, at, table, v, arcs, buffer);
-    Routed::Route(arcs as u32)
+    Routed::Route(count)
 }
 
 // The answer for an accepted sheet.
@@ -72,11 +83,10 @@ fn answer(s: &[u8], table: &[u32], node: u32, buffer: &mut [u32]) -> Routed
     ensures { λ r. ⌜ (said r ≡ routeAnswer (now (s .entry)) (now (table .entry)) node (now (buffer .entry)))
         × (now (buffer .exit) ≡ leftBy (now (s .entry)) (now (table .entry)) (said r) node (now (buffer .entry))) ⌝ }
 {
-    let nodes = sheet::node_count(s);
-    if nodes <= node {
+    if node_outside(s, node) {
         return Routed::Refused(Fault::Input(15));
     }
-    if table.len() != tables::HEADER + 2 * (nodes as usize) {
+    if tables::wrong_length(s, table) {
         return Routed::Refused(Fault::State(21));
     }
     let at = sheet::find_sections(s);

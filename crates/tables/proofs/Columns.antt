@@ -1,6 +1,5 @@
 -- What the code reads at a node or an arc is what the columns of the sheet's graph and of the table have there. Assumes nothing.
 use Prim.Native.Nat.{ℕ, _<_}
-use mathlib.Core.Bool.{Bool, true, false}
 use mathlib.Core.Path.{_≡_, sym, ap, _∙_}
 use mathlib.Core.List.{List}
 use Rattle.indices.specs.Columns.{at}

@@ -1,11 +1,11 @@
-// A lent table: the label and the predecessor of a node, and refusals 22 and 23. The counts' payloads are not looked at.
+// A lent table: the label and the predecessor of a node, and refusals 21 to 23. The counts' payloads are not looked at.
 ghost use mathlib.Core.Path.{_≡_};
-ghost use mathlib.Core.Bool.{Bool, true, false};
-ghost use Prim.Native.Nat.{ℕ, _+_, _≤_, _<_};
+ghost use Prim.Native.Nat.{_+_, _≤_, _<_};
 ghost use lib.ListN.{length};
 ghost use Rattle.indices.specs.Tests.{any};
+ghost use Rattle.sheet.specs.Words.{words};
 ghost use Rattle.sheet.specs.Sections.{nodeCount, arcCount};
-ghost use Rattle.answers.specs.Tables.{tableLength, statusIn, labelIn, predecessorIn};
+ghost use Rattle.answers.specs.Tables.{tableLength, wrongLength, statusIn, labelIn, predecessorIn};
 ghost use Rattle.answers.specs.Routes.{wrongKind, wrongCount, wrongNode, malformed, isPaused};
 ghost use Rattle.tables.specs.Fitting.{Fitting, nodeBefore};
 use sheet::Arc;
@@ -34,6 +34,14 @@ pub fn predecessor_of(table: &[u32], v: Node) -> u32
 {
     let i = HEADER + 2 * (v.0 as usize) + 1;
     sheet::payload_of(table[i])
+}
+
+// Refusal 21: the table has not its length.
+pub fn wrong_length(s: &[u8], table: &[u32]) -> bool
+    requires { ⌜ 2 ≤ words (now s) ⌝ }
+    ensures { λ r. ⌜ r ≡ wrongLength (now (s .entry)) (now (table .entry)) ⌝ }
+{
+    table.len() != HEADER + 2 * (sheet::node_count(s) as usize)
 }
 
 // Whether the word at i is not of the kind.

@@ -9,7 +9,7 @@ use Rattle.sheet.specs.Sections.{nodeCount}
 use Rattle.refusals.proofs.Accepted.{few-nodes, source-in}
 use Rattle.examine.specs.Checks.{nodeLed}
 use Rattle.examine.specs.Stamps.{Stamped}
-use Rattle.examine.proofs.Walks.{source-led, stamps-start}
+use Rattle.examine.proofs.Walks.{stamps-start}
 use native.Mathlib.Omega.{arith}
 use Rattle.examine.proofs.all_led.Statement.{statement}
 use Rattle.examine.proofs.all_led.Tie as tie
@@ -51,8 +51,7 @@ loop-holds : tie.Need-loop-holds Inv-loop μ-loop
 loop-holds c =
     let earlier = c .before .before .before .before in
     let pre = earlier .pre in
-    let args = earlier .args in
-    (omega arith, all-none _, rw (pre .1, c .before .source-number .ensures) (stamps-start (args .s .now) (args .table .now) (source-in _ (pre .0 .fitting .accepted)) (few-nodes _ (pre .0 .fitting .accepted)) (source-led (args .s .now) (args .table .now) (args .at) (pre .0))))
+    (omega arith, all-none _, rw (pre .1, c .before .source-number .ensures) (stamps-start (pre .0)))
 
 node-led-requires : tie.Need-node-led-requires Inv-loop μ-loop
 node-led-requires c κs =
@@ -77,7 +76,8 @@ loop-again : tie.Need-loop-again Inv-loop μ-loop
 loop-again c =
     let earlier = c .before .before .before .before in
     let loop = earlier .loop in
-    (omega arith, all-more _ _ (loop .inv .1) (sym (c .before .node-led .ensures .0) ∙ not-false _ (c .if1 .left)), c .before .node-led .ensures .1 (not-false _ (c .if1 .left)))
+    let led = not-false _ (c .if1 .left) in
+    (omega arith, all-more _ _ (loop .inv .1) (sym (c .before .node-led .ensures .0) ∙ led), c .before .node-led .ensures .1 led)
 
 returns-2 : tie.Need-returns-2 Inv-loop μ-loop
 returns-2 c = sym (all-end _ _ _ (omega arith) (c .before .loop .inv .1))

@@ -1,11 +1,7 @@
 -- `feeds` meets its contract: the head, the tail's label, and then the sum. Assumes nothing.
-use mathlib.Core.Path.{sym, _∙_}
-use borrow.Author.Tests.{eq-eqb, ne-eqb}
 use Rattle.sheet.specs.Words.{top}
 use Rattle.refusals.proofs.Accepted.{tail-in, length-short}
-use Rattle.procedure.proofs.OfSheet.{graph-head}
-use Rattle.tables.proofs.Columns.{label-there}
-use Rattle.examine.proofs.AtArcs.{from-label, arc-length}
+use Rattle.examine.proofs.Fits.{feeds-elsewhere, feeds-unreached, feeds-compared}
 use borrow.Author.Needs.{needs}
 use native.Mathlib.Omega.{arith}
 use Rattle.examine.proofs.feeds.Statement.{statement}
@@ -17,10 +13,9 @@ end-at-requires c κs = search needs
 returns : tie.Need-returns
 returns c =
     let earlier = c .before .before .before .before in
-    let args = earlier .before .before .args in
-    let end-at = c .before .before .before .end-at in
     let pre = earlier .before .before .pre in
-    rw (ne-eqb _ (args .v .0) (λ e. c .if1 .taken (end-at .ensures .0 ∙ sym (graph-head (args .s .now) (args .a .0) (pre .1)) ∙ e)))
+    let end-at = c .before .before .before .end-at in
+    feeds-elsewhere (pre .0) (pre .1) (end-at .ensures .0) (c .if1 .taken)
 
 end-at-requires-2 : tie.Need-end-at-requires-2
 end-at-requires-2 c κs = search needs
@@ -36,11 +31,10 @@ unfolding top
 returns-2 c =
     let earlier = c .before .before .before .before in
     let early = earlier .before .before .before .before in
-    let args = early .before .args in
-    let end-at = earlier .before .before .end-at in
     let pre = early .before .pre in
+    let end-at = earlier .before .before .end-at in
     let if1 = c .before .before .before .if1 in
-    rw (eq-eqb _ (args .v .0) (sym (end-at .ensures .0 ∙ sym (graph-head (args .s .now) (args .a .0) (pre .1))) ∙ if1 .left), eq-eqb _ top (sym (from-label (args .s .now) (args .table .now) (pre .0 .accepted) (args .a .0) (pre .1) _ _ (c .before .before .end-at2 .ensures .0) (c .before .label-of .ensures)) ∙ c .if2 .taken))
+    feeds-unreached (pre .0) (pre .1) (c .before .before .end-at2 .ensures .0) (c .before .label-of .ensures) (end-at .ensures .0) (if1 .left) (c .if2 .taken)
 
 length-at-requires : tie.Need-length-at-requires
 length-at-requires c κs = search needs
@@ -60,14 +54,13 @@ unfolding top
 returns-3 c =
     let earlier = c .before .before .before .before in
     let early = earlier .before .before .before .before in
-    let args = early .before .before .before .args in
     let pre = early .before .before .before .pre in
     let end-at2 = earlier .end-at2 in
     let label-of = c .before .before .before .label-of in
     let end-at = early .end-at in
     let if1 = earlier .before .if1 in
-    let from = from-label (args .s .now) (args .table .now) (pre .0 .accepted) (args .a .0) (pre .1) _ _ (end-at2 .ensures .0) (label-of .ensures) in
-    rw (eq-eqb _ (args .v .0) (sym (end-at .ensures .0 ∙ sym (graph-head (args .s .now) (args .a .0) (pre .1))) ∙ if1 .left), ← from, ne-eqb _ top (c .before .before .if2 .left), ← arc-length (args .s .now) (args .table .now) (pre .0 .accepted) (args .a .0) (pre .1) _ (c .before .length-at .ensures), ← label-there (args .s .now) (args .table .now) (args .v .0) (pre .2), ← c .label-of2 .ensures)
+    feeds-compared (pre .0) (pre .1) (end-at2 .ensures .0) (label-of .ensures) (c .before .before .if2 .left) (c .before .length-at .ensures)
+    (pre .2) (end-at .ensures .0) (if1 .left) (c .label-of2 .ensures)
 
 pub feeds-spec : {M : Type 1} → statement M
 feeds-spec =

@@ -1,5 +1,5 @@
 -- `node_fits` meets its contract: unreached, the source, no arc, or an arc that is tried. Assumes nothing.
-use mathlib.Core.Path.{sym, _∙_}
+use mathlib.Core.Path.{_∙_}
 use Rattle.sheet.specs.Words.{top}
 use Rattle.refusals.proofs.Accepted.{few-arcs}
 use Rattle.examine.proofs.Fits.{fits-unreached, fits-source, fits-no-arc, fits-arc}
@@ -20,9 +20,8 @@ returns : tie.Need-returns
 unfolding top
 returns c =
     let earlier = c .before .before .before .before in
-    let args = earlier .before .args in
     let pre = earlier .before .pre in
-    fits-unreached (args .s .now) (args .table .now) (args .v .0) _ _ (pre .1) (c .before .label-of .ensures) (c .before .before .predecessor-of .ensures) (c .if1 .taken)
+    fits-unreached (pre .0) (pre .1) (c .before .label-of .ensures) (c .before .before .predecessor-of .ensures) (c .if1 .taken)
 
 cast-if2 : tie.Need-cast-if2
 cast-if2 c = search needs
@@ -35,12 +34,11 @@ unfolding top
 returns-2 c =
     let earlier = c .before .before .before .before in
     let early = earlier .before .before .before .before in
-    let args = early .args in
     let pre = early .pre in
     let label-of = earlier .label-of in
     let predecessor-of = earlier .before .predecessor-of in
     let if1 = c .before .before .before .if1 in
-    fits-source (args .s .now) (args .table .now) (args .v .0) _ _ (pre .1) (label-of .ensures) (predecessor-of .ensures) (if1 .left) (c .if2 .taken ∙ c .before .source-number .ensures)
+    fits-source (pre .0) (pre .1) (label-of .ensures) (predecessor-of .ensures) (if1 .left) (c .before .source-number .ensures) (c .if2 .taken)
 
 cast-if3 : tie.Need-cast-if3
 cast-if3 c = search needs
@@ -50,13 +48,13 @@ unfolding top
 returns-3 c =
     let earlier = c .before .before .before .before in
     let early = earlier .before .before .before .before in
-    let args = early .before .before .args in
     let pre = early .before .before .pre in
     let label-of = earlier .before .before .label-of in
     let predecessor-of = earlier .before .before .before .predecessor-of in
     let if1 = earlier .before .if1 in
     let source-number = c .before .before .before .source-number in
-    fits-no-arc (args .s .now) (args .table .now) (args .v .0) _ _ (pre .1) (label-of .ensures) (predecessor-of .ensures) (if1 .left) (λ e. c .before .before .if2 .left (e ∙ sym (source-number .ensures))) (omega (arith, c .if3 .taken, pre .0 .located .arcs-all))
+    fits-no-arc (pre .0) (pre .1) (label-of .ensures) (predecessor-of .ensures) (if1 .left) (source-number .ensures) (c .before .before .if2 .left)
+    (omega (arith, c .if3 .taken, pre .0 .located .arcs-all))
 
 cast-t10 : tie.Need-cast-t10
 cast-t10 c =
@@ -77,14 +75,14 @@ unfolding top
 returns-4 c =
     let earlier = c .before .before .before .before in
     let early = earlier .before .before .before .before in
-    let args = early .before .before .before .args in
     let pre = early .before .before .before .pre in
     let label-of = earlier .before .before .before .label-of in
     let predecessor-of = early .predecessor-of in
     let if1 = earlier .before .before .if1 in
-    let if2 = c .before .before .before .if2 in
     let source-number = earlier .source-number in
-    c .feeds .ensures ∙ fits-arc (args .s .now) (args .table .now) (args .v .0) _ _ (pre .1) (label-of .ensures) (predecessor-of .ensures) (if1 .left) (λ e. if2 .left (e ∙ sym (source-number .ensures))) (omega (arith, c .before .if3 .left, pre .0 .located .arcs-all))
+    let if2 = c .before .before .before .if2 in
+    c .feeds .ensures ∙ fits-arc (pre .0) (pre .1) (label-of .ensures) (predecessor-of .ensures) (if1 .left) (source-number .ensures) (if2 .left)
+    (omega (arith, c .before .if3 .left, pre .0 .located .arcs-all))
 
 pub node-fits-spec : {M : Type 1} → statement M
 node-fits-spec =

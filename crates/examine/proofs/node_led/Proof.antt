@@ -1,11 +1,7 @@
 -- `node_led` meets its contract: a walk that is on its way, until it meets a stamp. Assumes nothing.
-use Prim.Native.Nat.{_+_}
-use mathlib.Core.Path.{_≡_, refl, sym, ap, _∙_}
-use Rattle.refusals.proofs.Accepted.{few-nodes}
 use Rattle.sheet.specs.Words.{top}
-use Rattle.procedure.proofs.OfSheet.{graph-arcs}
-use Rattle.tables.proofs.Columns.{label-there, predecessor-there}
-use Rattle.examine.proofs.Walks.{Walking, unstamped, led-unreached, stamps-on, walk-start, fed-arc, walk-away, walk-on, walk-less, walk-end}
+use Rattle.refusals.proofs.Accepted.{few-nodes}
+use Rattle.examine.proofs.Walks.{Walking, unstamped, led-unreached, stamps-on, walk-start, walk-arc, walk-on, walk-less, walk-end}
 use borrow.Author.Needs.{needs}
 use native.Mathlib.Omega.{arith}
 use Rattle.examine.proofs.node_led.Statement.{statement}
@@ -24,9 +20,8 @@ returns : tie.Need-returns Inv-loop μ-loop
 unfolding top
 returns c =
     let earlier = c .before .before .before .before in
-    let args = earlier .args in
     let pre = earlier .pre in
-    (sym (led-unreached (args .s .now) (args .table .now) _ (sym (c .before .label-of .ensures ∙ label-there (args .s .now) (args .table .now) (args .v .0) (pre .1)) ∙ c .if1 .taken)), λ _. stamps-on (args .s .now) (args .table .now) _ _ (pre .2))
+    (led-unreached (pre .0) (pre .1) (c .before .label-of .ensures) (c .if1 .taken), λ _. stamps-on (pre .2))
 
 add-stamp : tie.Need-add-stamp Inv-loop μ-loop
 add-stamp c =
@@ -38,9 +33,8 @@ loop-holds : tie.Need-loop-holds Inv-loop μ-loop
 unfolding top
 loop-holds c =
     let earlier = c .before .before .before .before in
-    let args = earlier .before .args in
     let pre = earlier .before .pre in
-    walk-start (args .s .now) (args .table .now) _ _ (pre .2) (pre .1) (λ e. c .before .if1 .left (c .before .before .label-of .ensures ∙ label-there (args .s .now) (args .table .now) (args .v .0) (pre .1) ∙ e))
+    walk-start (pre .2) (pre .1) (c .before .before .label-of .ensures) (c .before .if1 .left)
 
 cast-i : tie.Need-cast-i Inv-loop μ-loop
 cast-i c = search needs
@@ -62,12 +56,11 @@ unfolding top
 returns-2 c =
     let earlier = c .before .before .before .before in
     let early = earlier .before .before .before .before in
-    let args = early .before .args in
     let pre = early .before .pre in
     let loop = c .before .before .before .loop in
-    let if1 = earlier .before .if1 in
     let label-of = earlier .before .before .label-of in
-    walk-end (args .s .now) (args .table .now) (args .at) (pre .0) (loop .inv) (pre .1) (λ e. if1 .left (label-of .ensures ∙ label-there (args .s .now) (args .table .now) (args .v .0) (pre .1) ∙ e)) (c .if2 .taken)
+    let if1 = earlier .before .if1 in
+    walk-end (pre .0) (loop .inv) (pre .1) (label-of .ensures) (if1 .left) (c .if2 .taken)
 
 mul-stamps : tie.Need-mul-stamps Inv-loop μ-loop
 mul-stamps c =
@@ -91,26 +84,23 @@ previous-requires c κs =
     let early = earlier .before .before .before .before in
     let pre = early .before .pre in
     let loop = c .before .before .before .loop in
-    let args = early .before .args in
-    (pre .0 .fitting, loop .inv .inside, omega (arith, graph-arcs (args .s .now), predecessor-there (args .s .now) (args .table .now) _ (loop .inv .inside), fed-arc (args .s .now) (args .table .now) (args .at) (pre .0) _ (loop .inv .inside) (loop .inv .reached) (walk-away (args .s .now) (args .table .now) (args .at) (pre .0) (loop .inv) (c .if2 .left))))
+    (pre .0 .fitting, loop .inv .inside, walk-arc (pre .0) (loop .inv) (c .if2 .left))
 
 loop-less : tie.Need-loop-less Inv-loop μ-loop
 loop-less c =
     let earlier = c .before .before .before .before in
     let early = earlier .before .before .before .before in
-    let args = early .before .before .args in
     let pre = early .before .before .pre in
     let loop = earlier .loop in
-    walk-less (args .s .now) (args .table .now) (args .at) (pre .0) (loop .inv) (c .before .if2 .left)
+    walk-less (pre .0) (loop .inv) (c .before .if2 .left)
 
 loop-again : tie.Need-loop-again Inv-loop μ-loop
 loop-again c =
     let earlier = c .before .before .before .before in
     let early = earlier .before .before .before .before in
-    let args = early .before .before .args in
     let pre = early .before .before .pre in
     let loop = earlier .loop in
-    rw (c .previous .ensures .0) (walk-on (args .s .now) (args .table .now) (args .at) (pre .0) (loop .inv) (c .before .if2 .left))
+    rw (c .previous .ensures .0) (walk-on (pre .0) (loop .inv) (c .before .if2 .left))
 
 pub node-led-spec : {M : Type 1} → statement M
 node-led-spec =

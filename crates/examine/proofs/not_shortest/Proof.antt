@@ -22,9 +22,10 @@ nodes-fit-requires c κs = search needs
 returns-2 : tie.Need-returns-2
 returns-2 c =
     let earlier = c .before .before .before .before in
-    let args = earlier .before .before .args in
     let source-fits = c .before .before .before .source-fits in
-    rw (shortest-parts (args .s .now) (args .table .now), sym (source-fits .ensures) ∙ not-false _ (c .before .before .if1 .left), sym (c .before .nodes-fit .ensures) ∙ not-true _ (c .if2 .taken))
+    let args = earlier .before .before .args in
+    let source = sym (source-fits .ensures) ∙ not-false _ (c .before .before .if1 .left) in
+    rw (shortest-parts (args .s .now) (args .table .now), source, sym (c .before .nodes-fit .ensures) ∙ not-true _ (c .if2 .taken))
 
 arcs-relaxed-requires : tie.Need-arcs-relaxed-requires
 arcs-relaxed-requires c κs = search needs
@@ -33,11 +34,13 @@ returns-3 : tie.Need-returns-3
 returns-3 c =
     let earlier = c .before .before .before .before in
     let early = earlier .before .before .before .before in
-    let args = early .args in
     let source-fits = earlier .before .source-fits in
     let if1 = earlier .if1 in
     let nodes-fit = c .before .before .before .nodes-fit in
-    rw (shortest-parts (args .s .now) (args .table .now), sym (source-fits .ensures) ∙ not-false _ (if1 .left), sym (nodes-fit .ensures) ∙ not-false _ (c .before .before .if2 .left), sym (c .before .arcs-relaxed .ensures) ∙ not-true _ (c .if3 .taken))
+    let args = early .args in
+    let source = sym (source-fits .ensures) ∙ not-false _ (if1 .left) in
+    let nodes = sym (nodes-fit .ensures) ∙ not-false _ (c .before .before .if2 .left) in
+    rw (shortest-parts (args .s .now) (args .table .now), source, nodes, sym (c .before .arcs-relaxed .ensures) ∙ not-true _ (c .if3 .taken))
 
 nodes-led-requires : tie.Need-nodes-led-requires
 nodes-led-requires c κs =
@@ -51,12 +54,15 @@ returns-4 : tie.Need-returns-4
 returns-4 c =
     let earlier = c .before .before .before .before in
     let early = earlier .before .before .before .before in
-    let args = early .before .args in
     let source-fits = earlier .before .before .source-fits in
     let if1 = earlier .before .if1 in
     let nodes-fit = earlier .nodes-fit in
     let if2 = c .before .before .before .if2 in
-    rw (shortest-parts (args .s .now) (args .table .now), sym (source-fits .ensures) ∙ not-false _ (if1 .left), sym (nodes-fit .ensures) ∙ not-false _ (if2 .left), sym (c .before .before .arcs-relaxed .ensures) ∙ not-false _ (c .before .if3 .left)) (ap not (c .nodes-led .ensures))
+    let args = early .before .args in
+    let source = sym (source-fits .ensures) ∙ not-false _ (if1 .left) in
+    let nodes = sym (nodes-fit .ensures) ∙ not-false _ (if2 .left) in
+    let relaxed = sym (c .before .before .arcs-relaxed .ensures) ∙ not-false _ (c .before .if3 .left) in
+    rw (shortest-parts (args .s .now) (args .table .now), source, nodes, relaxed) (ap not (c .nodes-led .ensures))
 
 pub not-shortest-spec : {M : Type 1} → statement M
 not-shortest-spec =

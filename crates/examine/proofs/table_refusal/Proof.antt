@@ -19,7 +19,8 @@ returns-2 : tie.Need-returns-2
 unfolding tableRefusals
 returns-2 c =
     let malformed = c .before .before .before .malformed in
-    rw (sym (malformed .ensures) ∙ c .before .before .if1 .left, sym (c .before .is-paused .ensures) ∙ c .if2 .taken)
+    let well = sym (malformed .ensures) ∙ c .before .before .if1 .left in
+    rw (well, sym (c .before .is-paused .ensures) ∙ c .if2 .taken)
 
 not-shortest-requires : tie.Need-not-shortest-requires
 not-shortest-requires c κs = search needs
@@ -31,7 +32,9 @@ returns-3 c =
     let malformed = earlier .before .malformed in
     let if1 = earlier .if1 in
     let is-paused = c .before .before .before .is-paused in
-    rw (sym (malformed .ensures) ∙ if1 .left, sym (is-paused .ensures) ∙ c .before .before .if2 .left, sym (c .before .not-shortest .ensures) ∙ c .if3 .taken)
+    let well = sym (malformed .ensures) ∙ if1 .left in
+    let ended = sym (is-paused .ensures) ∙ c .before .before .if2 .left in
+    rw (well, ended, sym (c .before .not-shortest .ensures) ∙ c .if3 .taken)
 
 returns-4 : tie.Need-returns-4
 unfolding tableRefusals
@@ -40,7 +43,9 @@ returns-4 c =
     let malformed = earlier .before .malformed in
     let if1 = earlier .if1 in
     let is-paused = c .before .before .before .is-paused in
-    rw (sym (malformed .ensures) ∙ if1 .left, sym (is-paused .ensures) ∙ c .before .before .if2 .left, sym (c .before .not-shortest .ensures) ∙ c .if3 .left)
+    let well = sym (malformed .ensures) ∙ if1 .left in
+    let ended = sym (is-paused .ensures) ∙ c .before .before .if2 .left in
+    rw (well, ended, sym (c .before .not-shortest .ensures) ∙ c .if3 .left)
 
 pub table-refusal-spec : {M : Type 1} → statement M
 table-refusal-spec =

@@ -1,9 +1,9 @@
 -- `count_arcs` meets its contract: the arcs passed and those still to pass are the route's. Assumes nothing.
-use mathlib.Core.Path.{refl, sym, _∙_}
+use mathlib.Core.Path.{_∙_}
 use lib.ListN.{length}
 use native.Mathlib.Nat.{zero-add}
 use Rattle.answers.specs.Routes.{routeTo}
-use Rattle.route.proofs.Following.{arc-there, route-few, Counting, count-on, count-less, count-end}
+use Rattle.route.proofs.Following.{not-home, arc-there, route-few, Counting, count-on, count-less, count-end}
 use borrow.Author.Needs.{needs}
 use native.Mathlib.Omega.{arith}
 use Rattle.route.proofs.count_arcs.Statement.{statement}
@@ -29,18 +29,17 @@ cast-if1 c = search needs
 previous-requires : tie.Need-previous-requires Inv-loop μ-loop
 previous-requires c κs =
     let earlier = c .before .before .before .before in
-    let pre = earlier .before .before .pre in
-    let args = earlier .before .before .args in
     let source-number = c .before .before .before .source-number in
-    (pre .0 .fitting, c .before .before .loop .inv .reached .inside, arc-there (args .s .now) (args .table .now) (args .at) (pre .0) _ (c .before .before .loop .inv .reached) (λ e. c .if1 .taken (e ∙ sym (source-number .ensures))))
+    let pre = earlier .before .before .pre in
+    let away = not-home (source-number .ensures) (c .if1 .taken) in
+    (pre .0 .fitting, c .before .before .loop .inv .reached .inside, arc-there (pre .0) (c .before .before .loop .inv .reached) away)
 
 add-arcs : tie.Need-add-arcs Inv-loop μ-loop
 add-arcs c =
     let earlier = c .before .before .before .before in
     let loop = c .before .before .before .loop in
-    let args = earlier .before .before .before .args in
     let pre = earlier .before .before .before .pre in
-    omega (arith, loop .inv .total, route-few (args .s .now) (args .table .now) (args .at) (pre .0) (args .v .0) (pre .1))
+    omega (arith, loop .inv .total, route-few (pre .0) (pre .1))
 
 loop-less : tie.Need-loop-less Inv-loop μ-loop
 loop-less c =
@@ -48,7 +47,7 @@ loop-less c =
     let pre = earlier .before .before .before .pre in
     let loop = c .before .before .before .loop in
     let source-number = earlier .source-number in
-    rw (c .previous .ensures .0) (count-less (pre .0) (loop .inv) (λ e. c .before .if1 .taken (e ∙ sym (source-number .ensures))))
+    rw (c .previous .ensures .0) (count-less (pre .0) (loop .inv) (not-home (source-number .ensures) (c .before .if1 .taken)))
 
 loop-again : tie.Need-loop-again Inv-loop μ-loop
 loop-again c =
@@ -56,16 +55,15 @@ loop-again c =
     let pre = earlier .before .before .before .pre in
     let loop = c .before .before .before .loop in
     let source-number = earlier .source-number in
-    rw (c .previous .ensures .0) (count-on (pre .0) (loop .inv) (λ e. c .before .if1 .taken (e ∙ sym (source-number .ensures))))
+    rw (c .previous .ensures .0) (count-on (pre .0) (loop .inv) (not-home (source-number .ensures) (c .before .if1 .taken)))
 
 returns : tie.Need-returns Inv-loop μ-loop
 returns c =
     let earlier = c .before .before .before .before in
     let pre = earlier .before .before .pre in
     let source-number = c .before .before .before .source-number in
-    let args = earlier .before .before .args in
     let all = count-end (pre .0) (c .before .before .loop .inv) (c .if1 .left ∙ source-number .ensures) in
-    (all, omega (arith, route-few (args .s .now) (args .table .now) (args .at) (pre .0) (args .v .0) (pre .1)))
+    (all, omega (arith, route-few (pre .0) (pre .1)))
 
 pub count-arcs-spec : {M : Type 1} → statement M
 count-arcs-spec =

@@ -1,5 +1,5 @@
 -- `route` meets its contract: the sheet's refusal, or the answer for an accepted sheet. Assumes nothing.
-use mathlib.Core.Path.{_≡_, sym, ap, _∙_}
+use mathlib.Core.Path.{sym, ap, _∙_}
 use Rattle.judge.specs.Said.{said as saidByJudge}
 use Rattle.answers.proofs.Routes.{sheet-stops}
 use Rattle.route.proofs.Stages.{left-refused, left-after, answer-known}
@@ -26,19 +26,14 @@ same-length c = search needs
 
 returns : tie.Need-returns
 returns c =
-    let earlier = c .before .before .before .before in
-    let early = earlier .before .before .before .before in
-    let args = early .before .before .args in
     let same = c .before .before .answer .ensures .0 in
-    (same, c .before .before .answer .ensures .1 ∙ left-after (args .sheet .now) (args .table .now) (args .node) (args .buffer .now) _ same, answer-known (args .sheet .now) (args .table .now) (args .node) (args .buffer .now) _ same)
+    (same, c .before .before .answer .ensures .1 ∙ left-after _ _ _ _ _ same, answer-known _ _ _ _ _ same)
 
 returns-2 : tie.Need-returns-2
 returns-2 c =
-    let earlier = c .before .before .before .before in
-    let args = earlier .before .before .before .args in
     let judge = c .before .before .before .judge in
-    let same = sym (sheet-stops (args .sheet .now) (args .table .now) (args .node) (args .buffer .now) _ (sym (judge .ensures) ∙ ap saidByJudge (c .before .judged .given .1))) in
-    (same, left-refused (args .sheet .now) (args .table .now) (args .node) (args .buffer .now) _ ∙ left-after (args .sheet .now) (args .table .now) (args .node) (args .buffer .now) _ same, answer-known (args .sheet .now) (args .table .now) (args .node) (args .buffer .now) _ same)
+    let same = sym (sheet-stops _ _ _ _ _ (sym (judge .ensures) ∙ ap saidByJudge (c .before .judged .given .1))) in
+    (same, left-refused _ _ _ _ _ ∙ left-after _ _ _ _ _ same, answer-known _ _ _ _ _ same)
 
 pub route-spec : {M : Type 1} → statement M
 route-spec =

@@ -1,6 +1,6 @@
 -- `write_arcs` meets its contract: what is written and what is to come make the route. Assumes nothing.
-use mathlib.Core.Path.{refl, sym, ap, _∙_}
-use lib.ListN.{length-set}
+use mathlib.Core.Path.{refl}
+use native.Mathlib.Nat.{le-refl}
 use Rattle.route.proofs.Following.{arc-there, Writing, write-away, write-on, write-end}
 use native.Mathlib.Omega.{arith}
 use Rattle.route.proofs.write_arcs.Statement.{statement}
@@ -15,10 +15,10 @@ abbrev μ-loop : tie.MeasureT-loop
 loop-holds : tie.Need-loop-holds Inv-loop μ-loop
 loop-holds c =
     let pre = c .before .before .before .pre in
-    record { reached = pre .1; left = pre .2; long = refl; room = pre .3; same = refl }
+    record { reached = pre .1; left = pre .2; long = refl; few = le-refl _; room = pre .3; same = refl }
 
-sub-left : tie.Need-sub-left Inv-loop μ-loop
-sub-left c = omega arith
+sub-place : tie.Need-sub-place Inv-loop μ-loop
+sub-place c = omega (arith, c .before .loop .inv .few)
 
 predecessor-of-requires : tie.Need-predecessor-of-requires Inv-loop μ-loop
 predecessor-of-requires c κs =
@@ -27,17 +27,20 @@ predecessor-of-requires c κs =
     omega (arith, pre .0 .fitting .sized, c .before .loop .inv .reached .inside)
 
 mul-buffer : tie.Need-mul-buffer Inv-loop μ-loop
-mul-buffer c = omega (arith, c .before .before .loop .inv .room)
+mul-buffer c = omega (arith, c .before .before .loop .inv .few, c .before .before .loop .inv .room)
 
 slice-write-buffer : tie.Need-slice-write-buffer Inv-loop μ-loop
-slice-write-buffer c = omega (arith, c .before .before .loop .inv .room)
+slice-write-buffer c = omega (arith, c .before .before .loop .inv .few, c .before .before .loop .inv .room)
 
 previous-requires : tie.Need-previous-requires Inv-loop μ-loop
 previous-requires c κs =
     let earlier = c .before .before .before .before in
     let pre = earlier .before .before .pre in
-    let args = earlier .before .before .args in
-    (pre .0 .fitting, c .before .before .loop .inv .reached .inside, arc-there (args .s .now) (args .table .now) (args .at) (pre .0) _ (c .before .before .loop .inv .reached) (write-away (pre .0) (c .before .before .loop .inv) (c .before .loop-test .taken)))
+    let away = write-away (pre .0) (c .before .before .loop .inv) (c .before .loop-test .taken) in
+    (pre .0 .fitting, c .before .before .loop .inv .reached .inside, arc-there (pre .0) (c .before .before .loop .inv .reached) away)
+
+sub-left : tie.Need-sub-left Inv-loop μ-loop
+sub-left c = omega arith
 
 loop-less : tie.Need-loop-less Inv-loop μ-loop
 loop-less c = omega arith
@@ -65,11 +68,12 @@ write-arcs-spec =
     Inv-loop
     μ-loop
     loop-holds
-    sub-left
+    sub-place
     predecessor-of-requires
     mul-buffer
     slice-write-buffer
     previous-requires
+    sub-left
     loop-less
     loop-again
     same-length

@@ -22,7 +22,8 @@ returns-2 : tie.Need-returns-2
 unfolding malformed
 returns-2 c =
     let wrong-kind = c .before .before .before .wrong-kind in
-    rw (sym (wrong-kind .ensures) ∙ c .before .before .if1 .left, sym (c .before .wrong-counts .ensures) ∙ c .if2 .taken)
+    let status-kind = sym (wrong-kind .ensures) ∙ c .before .before .if1 .left in
+    rw (status-kind, sym (c .before .wrong-counts .ensures) ∙ c .if2 .taken)
 
 status-requires : tie.Need-status-requires
 status-requires c κs = search needs
@@ -34,7 +35,9 @@ returns-3 c =
     let wrong-kind = earlier .before .wrong-kind in
     let if1 = earlier .if1 in
     let wrong-counts = c .before .before .before .wrong-counts in
-    rw (sym (wrong-kind .ensures) ∙ if1 .left, sym (wrong-counts .ensures) ∙ c .before .before .if2 .left, ← c .before .status .ensures, lt-ltb _ _ (c .if3 .taken))
+    let status-kind = sym (wrong-kind .ensures) ∙ if1 .left in
+    let count-kinds = sym (wrong-counts .ensures) ∙ c .before .before .if2 .left in
+    rw (status-kind, count-kinds, ← c .before .status .ensures, lt-ltb _ _ (c .if3 .taken))
 
 node-count-requires : tie.Need-node-count-requires
 node-count-requires c κs = search needs
@@ -68,7 +71,10 @@ returns-4 c =
     let status = earlier .status in
     let if3 = c .before .before .before .if3 in
     let pre = early .before .before .before .pre in
-    rw (sym (wrong-kind .ensures) ∙ if1 .left, sym (wrong-counts .ensures) ∙ if2 .left, ← status .ensures, le-ltb _ _ (if3 .left), ← c .before .before .node-count .ensures, ← pre .located .arcs-all) (c .wrong-nodes .ensures)
+    let status-kind = sym (wrong-kind .ensures) ∙ if1 .left in
+    let count-kinds = sym (wrong-counts .ensures) ∙ if2 .left in
+    rw (status-kind, count-kinds, ← status .ensures, le-ltb _ _ (if3 .left), ← c .before .before .node-count .ensures, ← pre .located .arcs-all)
+    (c .wrong-nodes .ensures)
 
 pub malformed-spec : {M : Type 1} → statement M
 malformed-spec =

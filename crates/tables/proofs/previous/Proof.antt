@@ -1,7 +1,5 @@
 -- `previous` meets its contract: the tail of the predecessor, an arc of the sheet. Assumes nothing.
-use mathlib.Core.Path.{sym, ap, _∙_}
-use Rattle.procedure.specs.Graph.{tail}
-use Rattle.procedure.specs.OfSheet.{graphOf}
+use mathlib.Core.Path.{_∙_}
 use Rattle.refusals.proofs.Accepted.{few-arcs}
 use Rattle.tables.proofs.Columns.{before-tail}
 use native.Mathlib.Omega.{arith}
@@ -26,7 +24,7 @@ returns c =
     let earlier = c .before .before .before .before in
     let args = earlier .args in
     let pre = earlier .pre in
-    (c .end-at .ensures .0 ∙ rw (c .before .predecessor-of .ensures) (before-tail (args .s .now) (args .table .now) (args .v .0) (pre .1) (pre .2)), c .end-at .ensures .1)
+    (c .end-at .ensures .0 ∙ rw (c .before .predecessor-of .ensures) (before-tail (args .s .now) _ _ (pre .1) (pre .2)), c .end-at .ensures .1)
 
 pub previous-spec : {M : Type 1} → statement M
 previous-spec = tie.close (tie.spec predecessor-of-requires cast-t6 end-at-requires returns)

@@ -33,7 +33,8 @@ returns-2 : tie.Need-returns-2
 unfolding wrongNode
 returns-2 c =
     let wrong-kind = c .before .before .before .wrong-kind in
-    rw (sym (wrong-kind .ensures) ∙ c .before .before .if1 .left, sym (c .before .wrong-kind2 .ensures) ∙ c .if2 .taken)
+    let label = sym (wrong-kind .ensures) ∙ c .before .before .if1 .left in
+    rw (label, sym (c .before .wrong-kind2 .ensures) ∙ c .if2 .taken)
 
 predecessor-of-requires : tie.Need-predecessor-of-requires
 predecessor-of-requires c κs = search needs
@@ -45,7 +46,9 @@ returns-3 c =
     let wrong-kind = earlier .before .wrong-kind in
     let if1 = earlier .if1 in
     let wrong-kind2 = c .before .before .before .wrong-kind2 in
-    rw (sym (wrong-kind .ensures) ∙ if1 .left, sym (wrong-kind2 .ensures) ∙ c .before .before .if2 .left, ← c .before .predecessor-of .ensures, lt-ltb _ _ (c .if3 .taken))
+    let label = sym (wrong-kind .ensures) ∙ if1 .left in
+    let arc = sym (wrong-kind2 .ensures) ∙ c .before .before .if2 .left in
+    rw (label, arc, ← c .before .predecessor-of .ensures, lt-ltb _ _ (c .if3 .taken))
 
 returns-4 : tie.Need-returns-4
 unfolding wrongNode top
@@ -54,7 +57,9 @@ returns-4 c =
     let wrong-kind = earlier .before .wrong-kind in
     let if1 = earlier .if1 in
     let wrong-kind2 = c .before .before .before .wrong-kind2 in
-    rw (sym (wrong-kind .ensures) ∙ if1 .left, sym (wrong-kind2 .ensures) ∙ c .before .before .if2 .left, ← c .before .predecessor-of .ensures, le-ltb _ _ (c .if3 .left))
+    let label = sym (wrong-kind .ensures) ∙ if1 .left in
+    let arc = sym (wrong-kind2 .ensures) ∙ c .before .before .if2 .left in
+    rw (label, arc, ← c .before .predecessor-of .ensures, le-ltb _ _ (c .if3 .left))
 
 pub wrong-node-spec : {M : Type 1} → statement M
 wrong-node-spec =
