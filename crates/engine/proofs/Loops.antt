@@ -23,9 +23,10 @@ use Rattle.theory.proofs.Process.{key-alive, none-alive, inner-high, chosen-low
 use Rattle.theory.proofs.Grows.{grows-trans, grows-small, rewriteKey-grows, process-grows, children-grow, rounds-grow}
 use Rattle.theory.proofs.Final.{rounds-in-parts, after-small}
 use Rattle.queue.specs.Trees.{Written}
-use Rattle.slices.specs.declared.Counts.{Counts}
+use Rattle.counts.specs.Counted.{roundCounted, innerCounted}
+use Rattle.counts.specs.declared.Counts.{Counts}
 use Rattle.slices.specs.Tables.{Tables, noArc, arcEntry, heightEntry}
-use Rattle.slices.specs.States.{roundCounted, innerCounted, queuesOf, stateOf, Keyed, Represents, Processing, Computed}
+use Rattle.slices.specs.States.{queuesOf, stateOf, Keyed, Represents, Processing, Computed}
 use Rattle.engine.proofs.Regions.{entry-inner, entry-leaf, before-height}
 use Rattle.engine.proofs.Beginning.{few-out}
 

@@ -13,10 +13,10 @@ ghost use Rattle.queue.specs.Trees.{QueuesOk};
 ghost use Rattle.slices.specs.Tables.{tablesOf};
 ghost use Rattle.slices.specs.States.{queuesOf, stateOf};
 ghost use Rattle.slices.specs.States.{Keyed, Represents, Processing, Computed, Blank};
+use counts::Counts;
 use queue::NONE;
 use sheet::Node;
 use sheet::Region;
-use slices::Counts;
 use slices::INNER;
 
 // The smallest key of any region.
@@ -128,7 +128,7 @@ fn process_inner(
         → Computed g d t (process g d (t .spans) (r .0) s) s′ (now (winners .exit))) ⌝ }
 {
     let mut left = slices::span_of(spans, regions, r);
-    let mut n = slices::count_inner(c);
+    let mut n = counts::count_inner(c);
     while 0 < left {
         let least = queue::min_key(rows, keys, winners, r);
         if NONE <= least {
@@ -243,7 +243,7 @@ fn round(
         keys,
         winners,
         Region(0),
-        slices::count_round(c),
+        counts::count_round(c),
     )
 }
 

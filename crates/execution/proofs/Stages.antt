@@ -17,7 +17,7 @@ use Rattle.procedure.specs.Table.{tableOf}
 use Rattle.answers.specs.Tables.{tableLength}
 use Rattle.answers.specs.Runs.{stateAfter, runTable}
 use Rattle.runs.proofs.Delivered.{labels-all, predecessors-all, label-small, predecessor-small, counts-small}
-use Rattle.slices.specs.declared.Counts.{Counts}
+use Rattle.counts.specs.declared.Counts.{Counts}
 use Rattle.slices.specs.Tables.{Tables}
 use Rattle.slices.specs.States.{stateOf, Computed, Blank}
 use Rattle.engine.proofs.Runs.{started-after, rounds-after}

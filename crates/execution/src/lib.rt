@@ -135,7 +135,7 @@ fn sizes_of(s: &[u8], at: Sections) -> Sizes
         nodes: sheet::node_count(s) as usize,
         arcs: at.arcs,
         spans: at.spans,
-        regions: sheet::region_words(s, at).len() / 4 + 1,
+        regions: reader::region_words(s, at).len() / 4 + 1,
     }
 }
 

@@ -124,7 +124,7 @@ fn too_many(s: &[u8], at: Sections) -> bool
     if at.arcs > sheet::MOST_ARCS {
         return true;
     }
-    sheet::region_words(s, at).len() / 4 > sheet::MOST_REGION_WORDS
+    reader::region_words(s, at).len() / 4 > sheet::MOST_REGION_WORDS
 }
 
 // Refusal 10, one way: some node is the head of more arcs than it may be, or else the tail.

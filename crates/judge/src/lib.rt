@@ -35,7 +35,7 @@ fn bit_set(s: &[u8]) -> bool
     if fields::some_arc_fails(s, at, ArcTest::Bits) {
         return true;
     }
-    division::some_word_fails(sheet::region_words(s, at), WordTest::Bits)
+    division::some_word_fails(reader::region_words(s, at), WordTest::Bits)
 }
 
 // Refusals 1 to 3: the number, or 0.
@@ -68,7 +68,7 @@ fn later_refusal(s: &[u8]) -> u8
     if arc != 0 {
         return arc;
     }
-    division::division_refusal(sheet::region_words(s, at), at.arcs as u16, at.spans)
+    division::division_refusal(reader::region_words(s, at), at.arcs as u16, at.spans)
 }
 
 // The lowest number of a refusal that applies to the sheet, or 0.

@@ -64,7 +64,7 @@ fn lay_arcs(s: &[u8], at: Sections, arcs: &mut [u16], firsts: &mut [u16])
     ensures { λ _. ⌜ ArcsLaid (graphOf (now (s .entry))) (divisionOf (now (s .entry))) (now (arcs .exit)) (now (firsts .exit)) ⌝ }
 {
     enter_ends(s, at, arcs);
-    enter_leaves(sheet::region_words(s, at), arcs);
+    enter_leaves(reader::region_words(s, at), arcs);
     rows::link(arcs, firsts);
 }
 
@@ -185,7 +185,7 @@ fn lay_regions(
         × (length (now winners) ≡ 2 * regionCount (regionWords (now s))) ⌝ }
     ensures { λ _. ⌜ RegionsLaid (divisionOf (now (s .entry))) (now (rows .exit)) (now (regions .exit)) (now (winners .exit)) ⌝ }
 {
-    let d = sheet::region_words(s, at);
+    let d = reader::region_words(s, at);
     enter_parents(d, parents);
     enter_region_arcs(d, regions);
     enter_heights(d, parents, regions);

@@ -60,7 +60,7 @@ pub fn out_of_order(s: &[u8]) -> bool
     let mut at = Cursor { at: 0 };
     let mut before: u32 = 0;
     loop {
-        let Step::Word(word, next) = sheet::next_word(s, at) else {
+        let Step::Word(word, next) = reader::word_after(s, at) else {
             return !may_end(before);
         };
         let kind = sheet::kind_of(word);

@@ -16,6 +16,10 @@ use Rattle.sheet.specs.Words.{words, word, kind, payload}
 abbrev pub stepAt : List ℕ → Cursor → Step
 stepAt b c = cond (ltb (c .at) (words b)) (Word (word b (c .at)) (record { at = c .at + 1 })) End
 
+-- the part of a sheet after a place
+abbrev pub partAfter : List ℕ → Cursor → List ℕ
+partAfter b c = drop (4 * c .at) b
+
 -- "kind 1, once: the node count n"
 abbrev pub nodeCount : List ℕ → ℕ
 nodeCount b = payload b 0
@@ -57,7 +61,7 @@ abbrev pub regionsAt : List ℕ → ℕ
 regionsAt b = arcsAt b + 2 * arcCount b
 
 unfoldable pub regionWords : List ℕ → List ℕ
-regionWords b = drop (4 * regionsAt b) b
+regionWords b = partAfter b (record { at = regionsAt b })
 
 -- the sizes of the sections of a sheet that has its first two words
 pub record Located (b : List ℕ) (at : Sections) : Type 0 where

@@ -5,7 +5,7 @@ ghost use Prim.Native.Nat.{ℕ, _+_, _-_, _*_, _≤_, _<_};
 ghost use lib.ListN.{length};
 ghost use lib.Dec.{eqb};
 ghost use Rattle.sheet.specs.Words.{words, word, kindOf, payloadOf, kind, payload};
-ghost use Rattle.sheet.specs.Sections.{Located, stepAt, nodeCount, source, spansFrom, arcsFrom, span, arcCount, regionWords};
+ghost use Rattle.sheet.specs.Sections.{Located, stepAt, partAfter, nodeCount, source, spansFrom, arcsFrom, span, arcCount};
 ghost use Rattle.sheet.specs.Arcs.{endsWord, arcLength, endOf};
 ghost use Rattle.sheet.specs.Regions.{leafWord, parentWord, arcWord, isLeaf};
 
@@ -108,6 +108,15 @@ pub fn next_word(s: &[u8], c: Cursor) -> Step
         return Step::Word(word_at(s, at), Cursor { at: at + 1 });
     }
     Step::End
+}
+
+// The part of the sheet after a place.
+pub fn part_after(s: &[u8], c: Cursor) -> &[u8]
+    requires { ⌜ c .at ≤ words (now s) ⌝ }
+    ensures { λ r. ⌜ now r ≡ partAfter (now (s .entry)) c ⌝ }
+{
+    let from = 4 * c.at;
+    &s[from..]
 }
 
 // The place after the spans that stand from c on.
@@ -220,15 +229,6 @@ pub fn length_at(s: &[u8], at: Sections, a: Arc) -> u32
 {
     let i = a.0 as usize;
     payload_at(s, 2 + at.spans + 2 * i + 1)
-}
-
-// The region words: the part of the sheet after the last arc.
-pub fn region_words(s: &[u8], at: Sections) -> &[u8]
-    requires { ⌜ Located (now s) at ⌝ }
-    ensures { λ r. ⌜ now r ≡ regionWords (now (s .entry)) ⌝ }
-{
-    let from = 4 * (2 + at.spans + 2 * at.arcs);
-    &s[from..]
 }
 
 // Whether word k of the region words is a leaf.

@@ -10,19 +10,9 @@ use Rattle.procedure.specs.State.{Queues, State}
 use Rattle.procedure.specs.Queues.{update, updateArc, updateOutgoing}
 use Rattle.procedure.specs.WellFormed.{GraphOk, DivisionOk}
 use Rattle.theory.specs.Counts.{Small}
+use Rattle.counts.specs.declared.Counts.{Counts}
 use Rattle.queue.specs.Trees.{LaidOut, QueuesOk}
-use Rattle.slices.specs.declared.Counts.{Counts}
 use Rattle.slices.specs.Tables.{Tables, ArcRows, ArcLinks, RegionRows, Tabled}
-
--- a round, a leaf and an inner region counted
-abbrev pub roundCounted : Counts → Counts
-roundCounted c = record { rounds = c .rounds + 1; leaves = c .leaves; inner = c .inner; updates = c .updates }
-
-abbrev pub leafCounted : Counts → ℕ → Counts
-leafCounted c updates = record { rounds = c .rounds; leaves = c .leaves + 1; inner = c .inner; updates = updates }
-
-abbrev pub innerCounted : Counts → Counts
-innerCounted c = record { rounds = c .rounds; leaves = c .leaves; inner = c .inner + 1; updates = c .updates }
 
 -- the queues and the state that the slices and the counts are
 abbrev pub queuesOf : List ℕ → List ℕ → ℕ → Queues

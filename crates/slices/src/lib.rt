@@ -1,61 +1,15 @@
-// The slices that a run reads and changes: what they represent, in specs/, and how their entries are read, written and counted.
+// The slices that a run reads and changes: what they represent, in specs/, and how their entries are read and written.
 ghost use mathlib.Core.Path.{_≡_};
 ghost use Prim.Native.Nat.{_+_, _-_, _*_, _≤_, _<_};
 ghost use lib.ListN.{length, set};
 ghost use Rattle.indices.specs.Columns.{at};
 ghost use Rattle.slices.specs.Tables.{arcEntry, heightEntry};
-ghost use Rattle.slices.specs.States.{roundCounted, leafCounted, innerCounted};
 use sheet::Arc;
 use sheet::Node;
 use sheet::Region;
 
-// How much a run has done so far.
-pub struct Counts {
-    pub rounds: u64,
-    pub leaves: u64,
-    pub inner: u64,
-    pub updates: u64,
-}
-
 // In place of an inner region's arc.
 pub const INNER: u16 = 65535;
-
-pub fn count_round(c: Counts) -> Counts
-    requires { ⌜ c .rounds + 1 < 18446744073709551616 ⌝ }
-    ensures { λ n. ⌜ n ≡ roundCounted c ⌝ }
-{
-    Counts {
-        rounds: c.rounds + 1,
-        leaves: c.leaves,
-        inner: c.inner,
-        updates: c.updates,
-    }
-}
-
-// A leaf, with the updates after its working.
-pub fn count_leaf(c: Counts, updates: u64) -> Counts
-    requires { ⌜ c .leaves + 1 < 18446744073709551616 ⌝ }
-    ensures { λ n. ⌜ n ≡ leafCounted c updates ⌝ }
-{
-    Counts {
-        rounds: c.rounds,
-        leaves: c.leaves + 1,
-        inner: c.inner,
-        updates: updates,
-    }
-}
-
-pub fn count_inner(c: Counts) -> Counts
-    requires { ⌜ c .inner + 1 < 18446744073709551616 ⌝ }
-    ensures { λ n. ⌜ n ≡ innerCounted c ⌝ }
-{
-    Counts {
-        rounds: c.rounds,
-        leaves: c.leaves,
-        inner: c.inner + 1,
-        updates: c.updates,
-    }
-}
 
 // The arc of region r, INNER where it is inner.
 pub fn arc_of(regions: &[u16], r: Region) -> Arc

@@ -5,7 +5,7 @@ use mathlib.Core.Path.{_≡_}
 use mathlib.Core.List.{List, [], _∷_}
 use lib.ListN.{length}
 use Rattle.indices.specs.Columns.{at}
-use Rattle.slices.specs.declared.Counts.{Counts}
+use Rattle.counts.specs.declared.Counts.{Counts}
 use Rattle.answers.specs.Tables.{tableLength}
 
 -- the four counts, in the order of the table

@@ -6,7 +6,7 @@ ghost use lib.ListN.{length};
 ghost use lib.Seq.{sets};
 ghost use Rattle.procedure.specs.Table.{tableWord, statusWord, countWords, nodeWords, tableOf};
 ghost use Rattle.table.specs.Writable.{countsOf, Countable, Listed, Writable};
-use slices::Counts;
+use counts::Counts;
 
 // The kinds of table words.
 const STATUS: u32 = 8;

@@ -17,9 +17,10 @@ use Rattle.procedure.specs.Procedure.{relax, clearKey, processLeaf}
 use Rattle.theory.proofs.Process.{sumBy, lowered, relax-falls, relax-stays}
 use Rattle.theory.proofs.Grows.{relax-grows}
 use Rattle.rows.specs.Rows.{rowCount, rowTail, rowHead}
-use Rattle.slices.specs.declared.Counts.{Counts}
+use Rattle.counts.specs.Counted.{leafCounted}
+use Rattle.counts.specs.declared.Counts.{Counts}
 use Rattle.slices.specs.Tables.{Tables, arcEntry}
-use Rattle.slices.specs.States.{leafCounted, queuesOf, stateOf, Updatable, UpdatingOutgoing, Queued, Represents, Processing, Computed}
+use Rattle.slices.specs.States.{queuesOf, stateOf, Updatable, UpdatingOutgoing, Queued, Represents, Processing, Computed}
 
 -- what the updates of arcs need of a represented state
 pub updatable : {g : Graph} {d : Division} {t : Tables} {s : State} {winners : List ℕ} → Represents g d t s winners

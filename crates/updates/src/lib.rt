@@ -10,11 +10,11 @@ ghost use Rattle.procedure.specs.Procedure.{processLeaf};
 ghost use Rattle.slices.specs.Tables.{tablesOf};
 ghost use Rattle.slices.specs.States.{queuesOf, stateOf};
 ghost use Rattle.slices.specs.States.{Updating, UpdatingArc, UpdatingOutgoing, Queued, Processing, Computed};
+use counts::Counts;
 use queue::NONE;
 use sheet::Arc;
 use sheet::Node;
 use sheet::Region;
-use slices::Counts;
 
 fn wide(x: u32) -> u64
     ensures { λ r. ⌜ (r ≡ x) × (r < 4294967296) ⌝ }
@@ -154,11 +154,11 @@ pub fn process_leaf(
     let sum = wide(labels[tail]) + wide(lengths[i]);
     if wide(labels[head]) <= sum {
         own[i] = NONE;
-        return slices::count_leaf(c, c.updates);
+        return counts::count_leaf(c, c.updates);
     }
     let key = sum as u32;
     slices::lower_label(labels, predecessors, v, key, a);
     let n = update_outgoing(rows, arcs, firsts, own, keys, winners, v, key, c.updates);
     own[i] = NONE;
-    slices::count_leaf(c, n)
+    counts::count_leaf(c, n)
 }

@@ -40,7 +40,7 @@ use Rattle.engine.proofs.process_region.Reads as process-region
 use Rattle.engine.proofs.process_region.Kinds as process-region-kinds
 use Rattle.engine.proofs.+process_inner+process_region.Lts-process_region as process-region-lts
 use Rattle.slices.proofs.arc_of.Reads as arc-of-reads
-use Rattle.slices.proofs.count_inner.Reads as count-inner-reads
+use Rattle.counts.proofs.count_inner.Reads as count-inner-reads
 use Rattle.engine.proofs.key_of.Reads as key-of-reads
 use Rattle.updates.proofs.process_leaf.Reads as process-leaf-reads
 use Rattle.slices.proofs.span_of.Reads as span-of-reads

@@ -19,8 +19,8 @@ abbrev μ-loop : tie.MeasureT-loop
 loop-holds : tie.Need-loop-holds Inv-loop μ-loop
 loop-holds c = pass-start _
 
-next-word-requires : tie.Need-next-word-requires Inv-loop μ-loop
-next-word-requires c κs = search needs
+word-after-requires : tie.Need-word-after-requires Inv-loop μ-loop
+word-after-requires c κs = search needs
 
 enum-known-word : tie.Need-enum-known-word Inv-loop μ-loop
 enum-known-word c = search needs
@@ -36,9 +36,9 @@ returns c =
     let earlier = c .before .before .before .before in
     let args = earlier .before .before .args in
     let loop = earlier .loop in
-    let next-word = c .before .before .before .next-word in
+    let word-after = c .before .before .before .word-after in
     rw (c .may-end .ensures) (pass-end (args .s .now) (loop .before) (loop .at .at)
-    (step-end (args .s .now) (loop .at) (sym (next-word .ensures) ∙ c .before .enum-told .given .1)) (loop .inv))
+    (step-end (args .s .now) (loop .at) (sym (word-after .ensures) ∙ c .before .enum-told .given .1)) (loop .inv))
 
 kind-of-requires : tie.Need-kind-of-requires Inv-loop μ-loop
 kind-of-requires c κs = search needs
@@ -53,8 +53,8 @@ returns-2 c =
     let args = early .before .args in
     let loop = earlier .before .before .before .loop in
     let word = earlier .word in
-    let next-word = earlier .before .before .next-word in
-    let st = step-word (args .s .now) (loop .at) (word .given .0 .0) (word .given .0 .1 .0) (sym (next-word .ensures) ∙ word .given .1) in
+    let word-after = earlier .before .before .word-after in
+    let st = step-word (args .s .now) (loop .at) (word .given .0 .0) (word .given .0 .1 .0) (sym (word-after .ensures) ∙ word .given .1) in
     let read = step-kind (args .s .now) (loop .at) (word .given .0 .0) _ (word .given .0 .1 .0) st (c .before .before .kind-of .ensures) in
     sym (pass-stop (args .s .now) (loop .before) (loop .at .at) (st .inside)
     (ap (mayFollow (loop .before)) (sym read) ∙ sym (c .before .may-follow .ensures) ∙ not-true (c .before .may-follow .result) (c .if1 .taken)) (loop .inv))
@@ -66,8 +66,8 @@ loop-less c =
     let args = early .before .args in
     let loop = earlier .before .before .before .loop in
     let word = earlier .word in
-    let next-word = earlier .before .before .next-word in
-    let st = step-word (args .s .now) (loop .at) (word .given .0 .0) (word .given .0 .1 .0) (sym (next-word .ensures) ∙ word .given .1) in
+    let word-after = earlier .before .before .word-after in
+    let st = step-word (args .s .now) (loop .at) (word .given .0 .0) (word .given .0 .1 .0) (sym (word-after .ensures) ∙ word .given .1) in
     omega (arith, st .inside, st .moved)
 
 loop-again : tie.Need-loop-again Inv-loop μ-loop
@@ -77,8 +77,8 @@ loop-again c =
     let args = early .before .args in
     let loop = earlier .before .before .before .loop in
     let word = earlier .word in
-    let next-word = earlier .before .before .next-word in
-    let st = step-word (args .s .now) (loop .at) (word .given .0 .0) (word .given .0 .1 .0) (sym (next-word .ensures) ∙ word .given .1) in
+    let word-after = earlier .before .before .word-after in
+    let st = step-word (args .s .now) (loop .at) (word .given .0 .0) (word .given .0 .1 .0) (sym (word-after .ensures) ∙ word .given .1) in
     let read = step-kind (args .s .now) (loop .at) (word .given .0 .0) _ (word .given .0 .1 .0) st (c .before .before .kind-of .ensures) in
     rw (read, st .moved) (pass-on (args .s .now) (loop .before) (loop .at .at) (st .inside)
     (ap (mayFollow (loop .before)) (sym read) ∙ sym (c .before .may-follow .ensures) ∙ not-false (c .before .may-follow .result) (c .if1 .left)) (loop .inv))
@@ -90,7 +90,7 @@ out-of-order-spec =
     Inv-loop
     μ-loop
     loop-holds
-    next-word-requires
+    word-after-requires
     enum-known-word
     enum-told
     may-end-requires
