@@ -65,8 +65,7 @@ module _ (table : List ℕ) where
   unfolding nodeLine
   node-line-within v small =
       simp length-append
-      (omega
-      (
+      (omega (
         arith,
         decimal-within 3 v (omega arith),
         field-within (labelIn table v) (omega arith),

@@ -11,7 +11,7 @@ use lib.ListN.{length, length-append}
 use Rattle.indices.proofs.Steps.{lt-or-le}
 use Rattle.listing.specs.Text.{digit, lastDigits, decimal}
 use Rattle.listing.specs.Written.{Room, Wrote}
-use Rattle.listing.proofs.Writing.{wrote-then, room-before, room-after}
+use Rattle.listing.proofs.Writing.{wrote-then, room-before, room-after, byte-room}
 
 one-digit : (most n : ℕ) → n < 10 → lastDigits (suc most) n ≡ digit n ∷ []
 unfolding lastDigits
@@ -55,21 +55,20 @@ decimal-within (suc k) n below =
 
 -- writing a number of one digit
 module _ (n : ℕ) (small : n < 10) where
-  pub digit-room : {buffer : List ℕ} {at : ℕ} → Room buffer at (decimal n) → Room buffer at (digit n ∷ [])
-  digit-room room = rw (decimal-one n small) at room
+  pub digit-room : {buffer : List ℕ} {at : ℕ} → Room buffer at (decimal n) → at < length buffer
+  digit-room room = byte-room (rw (decimal-one n small) at room)
 
   pub wrote-digit : {before after : List ℕ} {at next : ℕ} → Wrote before at (digit n ∷ []) after next → Wrote before at (decimal n) after next
   wrote-digit w = rw (decimal-one n small) w
 
 -- writing one of more digits
-module _ (n : ℕ) (large : 10 ≤ n) where
-  pub tenth-room : {buffer : List ℕ} {at : ℕ} → Room buffer at (decimal n) → Room buffer at (decimal (n / 10))
+module _ (n : ℕ) (large : 10 ≤ n) {before : List ℕ} {at : ℕ} where
+  pub tenth-room : Room before at (decimal n) → Room before at (decimal (n / 10))
   tenth-room room = room-before _ (rw (decimal-more n large) at room)
 
-  pub last-room : {before after : List ℕ} {at next : ℕ} → Room before at (decimal n) → Wrote before at (decimal (n / 10)) after next
-      → Room after next (digit (n % 10) ∷ [])
-  last-room room w = room-after w (rw (decimal-more n large) at room)
+  pub last-room : {between : List ℕ} {next : ℕ} → Room before at (decimal n) → Wrote before at (decimal (n / 10)) between next → next < length between
+  last-room room w = byte-room (room-after w (rw (decimal-more n large) at room))
 
-  pub wrote-last : {before between after : List ℕ} {at next end : ℕ} → Wrote before at (decimal (n / 10)) between next
+  pub wrote-last : {between after : List ℕ} {next end : ℕ} → Wrote before at (decimal (n / 10)) between next
       → Wrote between next (digit (n % 10) ∷ []) after end → Wrote before at (decimal n) after end
   wrote-last w v = rw (decimal-more n large) (wrote-then w v)

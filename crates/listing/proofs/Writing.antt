@@ -48,18 +48,24 @@ module _ {before : List ℕ} {at : ℕ} {text after : List ℕ} {next : ℕ} (w 
 pub room-before : {buffer : List ℕ} {at : ℕ} {text : List ℕ} (more : List ℕ) → Room buffer at (text ++ more) → Room buffer at text
 room-before {text = text} more room = record { fits = omega (arith, length-append text more) }
 
+-- room for a byte
+pub byte-room : {buffer : List ℕ} {at byte : ℕ} → Room buffer at (byte ∷ []) → at < length buffer
+byte-room room = omega arith
+
 -- the empty text
 pub wrote-none : {buffer : List ℕ} {at next : ℕ} → next ≡ at → Wrote buffer at [] buffer next
 wrote-none e = record { bytes = refl; place = omega arith }
+
+one-more : (text : List ℕ) (i : ℕ) → i < length text → take i text ++ (getD text i 0 ∷ []) ≡ take (i + 1) text
+one-more text i inside = sym (take-suc text i 0 inside) ∙ ap (λ (k : ℕ). take k text) (sym (add-one i))
 
 module _ {before after : List ℕ} {at i : ℕ} (text : List ℕ) (w : Wrote before at (take i text) after (at + i)) where
   -- one byte more of a text
   pub byte-more : i < length text → Wrote before at (take (i + 1) text) (set after (at + i) (getD text i 0)) (at + (i + 1))
   byte-more inside =
       let byte : Wrote after (at + i) (getD text i 0 ∷ []) (set after (at + i) (getD text i 0)) (at + i + 1) = record { bytes = refl; place = refl } in
-      let more : take i text ++ (getD text i 0 ∷ []) ≡ take (i + 1) text = sym (take-suc text i 0 inside) ∙ ap (λ (k : ℕ). take k text) (sym (add-one i)) in
       record {
-        bytes = wrote-then w byte .bytes ∙ ap (sets before at) more;
+        bytes = wrote-then w byte .bytes ∙ ap (sets before at) (one-more text i inside);
         place = omega (arith, length-take-le (i + 1) text (omega arith));
       }
 

@@ -15,7 +15,7 @@ const NONE: u32 = 268435455;
 pub const MOST_LISTING: usize = 25707;
 
 fn put_byte(byte: u8, out: &mut [u8], at: usize) -> usize
-    requires { ⌜ Room (now out) at (byte ∷ []) ⌝ }
+    requires { ⌜ at < length (now out) ⌝ }
     ensures { λ r. ⌜ Wrote (now (out .entry)) at (byte ∷ []) (now (out .exit)) r ⌝ }
 {
     out[at] = byte;
@@ -36,7 +36,7 @@ fn put_text(text: &[u8], out: &mut [u8], at: usize) -> usize
 }
 
 fn put_digit(d: u64, out: &mut [u8], at: usize) -> usize
-    requires { ⌜ (d < 10) × Room (now out) at (digit d ∷ []) ⌝ }
+    requires { ⌜ (d < 10) × (at < length (now out)) ⌝ }
     ensures { λ r. ⌜ Wrote (now (out .entry)) at (digit d ∷ []) (now (out .exit)) r ⌝ }
 {
     put_byte(b'0' + d as u8, out, at)
@@ -122,8 +122,8 @@ fn put_node_line(table: &[u32], v: usize, out: &mut [u8], at: usize) -> usize
     let distance = put_byte(b' ', out, named);
     let placed = put_field(payload_at(table, word), out, distance);
     let arc = put_byte(b' ', out, placed);
-    let end = put_field(payload_at(table, word + 1), out, arc);
-    put_byte(b'\n', out, end)
+    let line_end = put_field(payload_at(table, word + 1), out, arc);
+    put_byte(b'\n', out, line_end)
 }
 
 // The lines of the first nodes.
@@ -155,6 +155,6 @@ pub fn write_refused(n: u8, out: &mut [u8]) -> usize
     ensures { λ r. ⌜ Filled (now (out .entry)) (refusedLine n) (now (out .exit)) r ⌝ }
 {
     let number = put_text(b"refused ", out, 0);
-    let end = put_number(n as u64, out, number);
-    put_byte(b'\n', out, end)
+    let last = put_number(n as u64, out, number);
+    put_byte(b'\n', out, last)
 }

@@ -39,7 +39,7 @@ put-number-put-number-requires : (t : ℕ) → put-number-lts.Need-put-number-re
 put-number-put-number-requires t c κs = (omega arith, tenth-room _ (c .before .if1 .left) (c .before .before .before .pre .1))
 
 put-number-put-digit-requires-2 : (t : ℕ) → put-number-lts.Need-put-digit-requires-2 (put-number-heard t) (put-number-at t) put-number.Post
-put-number-put-digit-requires-2 t c κs = 
+put-number-put-digit-requires-2 t c κs =
     let earlier = c .before .before .before in
     (omega arith, last-room _ (earlier .before .before .if1 .left) (earlier .before .before .before .before .pre .1) (earlier .put-number .ensures))
 
@@ -47,7 +47,7 @@ put-number-same-length-2 : (t : ℕ) → put-number-lts.Need-same-length-2 (put-
 put-number-same-length-2 t c = c .before .before .put-digit2 .kept .1 .0 ∙ c .before .before .before .before .before .before .put-number .kept .1 .0
 
 put-number-returns-2 : (t : ℕ) → put-number-lts.Need-returns-2 (put-number-heard t) (put-number-at t) put-number.Post
-put-number-returns-2 t c = 
+put-number-returns-2 t c =
     let earlier = c .before .before .before .before .before .before in
     wrote-last _ (earlier .before .before .if1 .left) (earlier .put-number .ensures) (c .before .before .put-digit2 .ensures)
 

@@ -1,4 +1,5 @@
 -- `put_field` meets its contract: the form of a field that the test chose. Assumes nothing.
+use Rattle.listing.proofs.Writing.{byte-room}
 use Rattle.listing.proofs.Lines.{field-none, field-number}
 use borrow.Author.Needs.{needs}
 use Rattle.listing.proofs.put_field.Statement.{statement}
@@ -7,7 +8,7 @@ use Rattle.listing.proofs.put_field.Tie as tie
 put-byte-requires : tie.Need-put-byte-requires
 put-byte-requires c κs =
     let pre = c .before .before .before .pre in
-    rw (field-none _ (c .before .if1 .taken)) at (pre)
+    byte-room (rw (field-none _ (c .before .if1 .taken)) at (pre))
 
 same-length : tie.Need-same-length
 same-length c = search needs

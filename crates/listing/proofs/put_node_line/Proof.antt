@@ -1,6 +1,6 @@
 -- `put_node_line` meets its contract: each part is written after the parts before it. Assumes nothing.
 use Rattle.listing.specs.Listing.{nodeLine}
-use Rattle.listing.proofs.Writing.{wrote-then, room-before, room-after}
+use Rattle.listing.proofs.Writing.{wrote-then, room-before, room-after, byte-room}
 use borrow.Author.Needs.{needs}
 use Rattle.listing.proofs.put_node_line.Statement.{statement}
 use Rattle.listing.proofs.put_node_line.Tie as tie
@@ -22,7 +22,7 @@ unfolding nodeLine
 put-byte-requires c κs =
     let put-number = c .before .before .before .put-number in
     let pre = c .before .before .before .before .before .before .before .pre in
-    room-after (put-number .ensures) (room-before _ (room-before _ (room-before _ (room-before _ (pre .1)))))
+    byte-room (room-after (put-number .ensures) (room-before _ (room-before _ (room-before _ (room-before _ (pre .1))))))
 
 payload-at-requires : tie.Need-payload-at-requires
 payload-at-requires c κs = search needs
@@ -49,7 +49,7 @@ put-byte-requires-2 c κs =
     let pre = early .pre in
     let named = wrote-then (put-number .ensures) (put-byte .ensures) in
     let distance = wrote-then named (rw (payload-at .ensures) at (put-field .ensures)) in
-    room-after distance (room-before _ (room-before _ (pre .1)))
+    byte-room (room-after distance (room-before _ (room-before _ (pre .1))))
 
 add-payload-at : tie.Need-add-payload-at
 add-payload-at c = search needs
@@ -91,7 +91,7 @@ put-byte-requires-3 c κs =
     let distance = wrote-then named (rw (payload-at .ensures) at (put-field .ensures)) in
     let placed = wrote-then distance (put-byte2 .ensures) in
     let arc = wrote-then placed (rw (payload-at2 .ensures) at (put-field2 .ensures)) in
-    room-after arc (pre .1)
+    byte-room (room-after arc (pre .1))
 
 same-length : tie.Need-same-length
 same-length c = search needs

@@ -1,6 +1,6 @@
 -- `put_status_line` meets its contract: each part is written after the parts before it. Assumes nothing.
 use Rattle.listing.specs.Listing.{counted, statusLine}
-use Rattle.listing.proofs.Writing.{wrote-then, room-before, room-after}
+use Rattle.listing.proofs.Writing.{wrote-then, room-before, room-after, byte-room}
 use native.Mathlib.Omega.{arith}
 use borrow.Author.Needs.{needs}
 use Rattle.listing.proofs.put_status_line.Statement.{statement}
@@ -86,7 +86,7 @@ put-byte-requires c κs =
     let leaves = wrote-then rounds (put-count2 .ensures) in
     let inner = wrote-then leaves (put-count3 .ensures) in
     let updates = wrote-then inner (put-count4 .ensures) in
-    room-after updates (pre .1)
+    byte-room (room-after updates (pre .1))
 
 same-length : tie.Need-same-length
 same-length c = search needs

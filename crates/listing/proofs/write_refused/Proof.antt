@@ -2,7 +2,7 @@
 use mathlib.Core.Path.{refl}
 use native.Mathlib.Omega.{arith}
 use Rattle.listing.specs.Listing.{refusedLine}
-use Rattle.listing.proofs.Writing.{wrote-then, room-before, room-after, filled}
+use Rattle.listing.proofs.Writing.{wrote-then, room-before, room-after, byte-room, filled}
 use Rattle.listing.proofs.Lines.{refused-room}
 use borrow.Author.Needs.{needs}
 use Rattle.listing.proofs.write_refused.Statement.{statement}
@@ -30,7 +30,7 @@ put-byte-requires c κs =
     let put-text = c .before .before .before .before .before .before .before .put-text in
     let fits = earlier .before .before .before .fits in
     let pre = earlier .before .before .before .pre in
-    room-after (wrote-then (put-text .ensures) (put-number .ensures)) (refused-room (fits .n .fits) (pre))
+    byte-room (room-after (wrote-then (put-text .ensures) (put-number .ensures)) (refused-room (fits .n .fits) (pre)))
 
 same-length : tie.Need-same-length
 same-length c = search needs
