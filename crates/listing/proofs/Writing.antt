@@ -72,3 +72,7 @@ module _ {before after : List ℕ} {at i : ℕ} (text : List ℕ) (w : Wrote bef
   -- all its bytes
   pub all-bytes : length text ≤ i → Wrote before at text after (at + i)
   all-bytes high = rw take-all at w
+
+-- the text is within the buffer
+pub filled-within : {before text after : List ℕ} {n : ℕ} → Filled before text after n → n ≤ length after
+filled-within {before} {text} f = omega (arith, ap length (f .bytes), length-append text (drop (length text) before))
