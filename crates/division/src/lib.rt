@@ -180,7 +180,8 @@ pub fn parent_of(d: &[u8], r: Region) -> Region
     Region(sheet::parent_word(d, i - 1) as u16)
 }
 
-fn larger(a: u16, b: u16) -> u16
+// The larger of two numbers.
+pub fn larger(a: u16, b: u16) -> u16
     ensures { λ r. ⌜ r ≡ max a b ⌝ }
 {
     if a < b {
@@ -190,7 +191,7 @@ fn larger(a: u16, b: u16) -> u16
 }
 
 // The height of a leaf, or of a region whose highest child has the given height.
-fn above(leaf: bool, highest: u16) -> u16
+pub fn above(leaf: bool, highest: u16) -> u16
     requires { ⌜ highest < 65535 ⌝ }
     ensures { λ r. ⌜ r ≡ cond leaf 0 (suc highest) ⌝ }
 {

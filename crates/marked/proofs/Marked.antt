@@ -1,7 +1,10 @@
--- The marked cases of the paper as a table, computed from the definitions: a sheet's words, and what the judge answers. Assumes nothing.
+-- The marked cases of the paper as a table, computed from the definitions: a call, what it answers, and what is then in what was lent. Assumes nothing.
 use Prim.Native.Nat.{ℕ}
 use mathlib.Core.List.{List, [], _∷_, _++_, map}
 use mathlib.Core.Path.{_≡_, refl}
+use lib.ListN.{replicate}
+use Rattle.indices.specs.Columns.{column}
+use Rattle.indices.specs.Steps.{upTo, times}
 use Rattle.indices.specs.Tests.{any, count, lead, most}
 use Rattle.sheet.specs.Words.{word, kind, payload, top}
 use Rattle.sheet.specs.Sections.{spansFrom, arcsFrom, regionWords}
@@ -9,20 +12,44 @@ use Rattle.sheet.specs.Arcs.{tail, head, arcLength}
 use Rattle.sheet.specs.Heights.{heightIn, heightOf}
 use Rattle.sheet.specs.Regions.{leafWord, parentWord, arcWord}
 use Rattle.sheet.specs.Samples.{bytesOf, mostOfHallA, hallA, oneNode}
-use Rattle.sheet.specs.Answer.{input, Answer, accepted, refused}
+use Rattle.sheet.specs.Answer.{input, Answer, accepted, ended, paused, refused}
 use Rattle.refusals.specs.Form.{wrongSize, outOfOrder, bitSet, nodesOutside, sourceOutside, spansOutside, tooMany}
 use Rattle.refusals.specs.Fields.{endsOutside, lengthsOutside, crowdedNodes, tooManyAtNode}
 use Rattle.refusals.specs.Nesting.{wrongParents, wrongLeaves, childlessRegions, spansDiffer}
 use Rattle.refusals.specs.Judgement.{formRefusals, countRefusals, arcRefusals, divisionRefusals, refusals, judgement}
+use Rattle.procedure.specs.Division.{leafOf}
+use Rattle.procedure.specs.OfSheet.{graphOf, divisionOf, spansOf}
+use Rattle.procedure.specs.Queues.{before, choose, minItemBelow, minItem, minKey, write, updateFor, update, updateArc, updateOutgoing}
+use Rattle.procedure.specs.Procedure.{relax, clearKey, processLeaf, rewriteKey, countInner, countRound, processChild, alive, ended as hasEnded}
+use Rattle.procedure.specs.Procedure.{enoughRounds, processFor, process, start, round, after}
+use Rattle.procedure.specs.Table.{nodeWords, tableOf}
+use Rattle.answers.specs.Tables.{tableLength, wrongLength}
+use Rattle.answers.specs.Runs.{runRefusals, runAnswer, runTable, tableAfter}
 
--- a sheet and what the judge is to answer
-record Row : Type 0 where
-  sheet : List ℕ
+-- a call: to judge a sheet, given by its words; to run it for at most so many rounds, with a table lent
+pub data Call : Type 0 where
+  judge : List ℕ → Call
+  run : List ℕ → ℕ → List ℕ → Call
+
+-- what comes of it: the answer, and the words of what was lent
+record Outcome : Type 0 where
   answer : Answer
+  words : List ℕ
 
-infix 70 _is_
-abbrev _is_ : List ℕ → Answer → Row
-ws is a = record { sheet = ws; answer = a }
+abbrev outcome : Call → Outcome
+outcome (judge ws) = record { answer = judgement (bytesOf ws); words = [] }
+outcome (run ws k table) = record { answer = runAnswer (bytesOf ws) k table; words = tableAfter (bytesOf ws) k table }
+
+record Row : Type 0 where
+  call : Call
+  expected : Outcome
+
+infix 70 _is_ _is_leaving_
+abbrev _is_ : Call → Answer → Row
+c is a = record { call = c; expected = record { answer = a; words = [] } }
+
+abbrev _is_leaving_ : Call → Answer → List ℕ → Row
+c is a leaving ws = record { call = c; expected = record { answer = a; words = ws } }
 
 -- one node, so many nodes written; and one node with an arc to itself of the given length
 abbrev nodes : ℕ → List ℕ
@@ -31,29 +58,56 @@ nodes n = n ∷ 0x20000000 ∷ 0x30000001 ∷ []
 abbrev loop : ℕ → List ℕ
 loop length = 0x10000001 ∷ 0x20000000 ∷ 0x30000001 ∷ 0x40000000 ∷ length ∷ 0x70000000 ∷ []
 
+-- a table for n nodes, not yet written
+abbrev blank : ℕ → List ℕ
+blank n = replicate (tableLength n) 0
+
 abbrev rows : List Row
 rows =
     -- hall A, and the one-node hall
-    hallA is accepted
-    ∷ oneNode is accepted
+    judge hallA is accepted
+    ∷ judge oneNode is accepted
+    -- "A to its end, as printed."
+    ∷ run hallA enoughRounds (blank 4) is ended leaving (
+    0x80000001 ∷ 0xb0000000 ∷ 0xb0000003 ∷ 0xb0000000 ∷ 0xb0000005 ∷ 0xb0000000 ∷ 0xb0000006 ∷ 0xb0000000 ∷ 0xb000000d
+    ∷ 0x90000000 ∷ 0xafffffff ∷ 0x90000003 ∷ 0xa0000002 ∷ 0x90000001 ∷ 0xa0000001 ∷ 0x90000008 ∷ 0xa0000003 ∷ []
+    )
+    -- "A, k = 1: paused; counts 1, 2, 2, 8; labels 0, 4, unreached, 9."
+    ∷ run hallA 1 (blank 4) is paused leaving (
+    0x80000000 ∷ 0xb0000000 ∷ 0xb0000001 ∷ 0xb0000000 ∷ 0xb0000002 ∷ 0xb0000000 ∷ 0xb0000002 ∷ 0xb0000000 ∷ 0xb0000008
+    ∷ 0x90000000 ∷ 0xafffffff ∷ 0x90000004 ∷ 0xa0000000 ∷ 0x9fffffff ∷ 0xafffffff ∷ 0x90000009 ∷ 0xa0000003 ∷ []
+    )
+    -- "A, k = 0: paused; counts 0, 0, 0, 6; only node 0 labelled."
+    ∷ run hallA 0 (blank 4) is paused leaving (
+    0x80000000 ∷ 0xb0000000 ∷ 0xb0000000 ∷ 0xb0000000 ∷ 0xb0000000 ∷ 0xb0000000 ∷ 0xb0000000 ∷ 0xb0000000 ∷ 0xb0000006
+    ∷ 0x90000000 ∷ 0xafffffff ∷ 0x9fffffff ∷ 0xafffffff ∷ 0x9fffffff ∷ 0xafffffff ∷ 0x9fffffff ∷ 0xafffffff ∷ []
+    )
+    -- "`10000001 20000000 30000001`: ended, all counts 0."
+    ∷ run oneNode enoughRounds (blank 1) is ended leaving (
+    0x80000001 ∷ 0xb0000000 ∷ 0xb0000000 ∷ 0xb0000000 ∷ 0xb0000000 ∷ 0xb0000000 ∷ 0xb0000000 ∷ 0xb0000000 ∷ 0xb0000000
+    ∷ 0x90000000 ∷ 0xafffffff ∷ []
+    )
     -- "Without its third word: 14."
-    ∷ (0x10000001 ∷ 0x20000000 ∷ []) is refused (input 14)
+    ∷ judge (0x10000001 ∷ 0x20000000 ∷ []) is refused (input 14)
     -- "Node count 0: 4. 1,024 keeps the limit, 1,025: 4."
-    ∷ nodes 0x10000000 is refused (input 4)
-    ∷ nodes 0x10000400 is accepted
-    ∷ nodes 0x10000401 is refused (input 4)
+    ∷ judge (nodes 0x10000000) is refused (input 4)
+    ∷ judge (nodes 0x10000400) is accepted
+    ∷ judge (nodes 0x10000401) is refused (input 4)
     -- "Length 262,144: 9. 262,143 keeps the limit."
-    ∷ loop 0x50040000 is refused (input 9)
-    ∷ loop 0x5003ffff is accepted
+    ∷ judge (loop 0x50040000) is refused (input 9)
+    ∷ judge (loop 0x5003ffff) is accepted
     -- "A with last word `70001001`: 12." "A with `60000000` added: 13."
-    ∷ (mostOfHallA ++ (0x70001001 ∷ [])) is refused (input 12)
-    ∷ (hallA ++ (0x60000000 ∷ [])) is refused (input 13)
+    ∷ judge (mostOfHallA ++ (0x70001001 ∷ [])) is refused (input 12)
+    ∷ judge (hallA ++ (0x60000000 ∷ [])) is refused (input 13)
     -- "Span 0: 6."
-    ∷ (0x10000001 ∷ 0x20000000 ∷ 0x30000000 ∷ []) is refused (input 6)
+    ∷ judge (0x10000001 ∷ 0x20000000 ∷ 0x30000000 ∷ []) is refused (input 6)
     ∷ []
 
-pub marked : map (λ row. judgement (bytesOf (row .sheet))) rows ≡ map (λ row. row .answer) rows
-unfolding any count lead most word kind payload top spansFrom arcsFrom regionWords tail head arcLength heightIn heightOf leafWord parentWord arcWord
-    judgement refusals formRefusals countRefusals arcRefusals divisionRefusals wrongSize outOfOrder bitSet nodesOutside sourceOutside spansOutside
-    tooMany endsOutside lengthsOutside crowdedNodes tooManyAtNode wrongParents wrongLeaves childlessRegions spansDiffer
+pub marked : map (λ row. outcome (row .call)) rows ≡ map (λ row. row .expected) rows
+unfolding any count lead most upTo times column word kind payload top spansFrom arcsFrom regionWords tail head arcLength heightIn heightOf leafWord
+    parentWord arcWord judgement refusals formRefusals countRefusals arcRefusals divisionRefusals wrongSize outOfOrder bitSet nodesOutside sourceOutside
+    spansOutside tooMany endsOutside lengthsOutside crowdedNodes tooManyAtNode wrongParents wrongLeaves childlessRegions spansDiffer leafOf graphOf
+    divisionOf spansOf before choose minItemBelow minItem minKey write updateFor update updateArc updateOutgoing relax clearKey processLeaf rewriteKey
+    countInner countRound processChild alive hasEnded processFor process start round after nodeWords tableOf wrongLength runRefusals runAnswer runTable
+    tableAfter
 marked = refl

@@ -11,11 +11,11 @@ use sheet::Node;
 use sheet::Region;
 
 // The entries of an arc's row.
-const TAIL: usize = 0;
+pub const TAIL: usize = 0;
 
-const HEAD: usize = 1;
+pub const HEAD: usize = 1;
 
-const LEAF: usize = 2;
+pub const LEAF: usize = 2;
 
 const NEXT: usize = 3;
 

@@ -1,0 +1,6 @@
+mod Entries
+mod Rows
+mod Leaves
+mod Heights
+mod Represented
+pub mod Ready

@@ -1,0 +1,135 @@
+-- The slices that are laid out represent the graph and the division of an accepted sheet. Assumes nothing.
+use Prim.Native.Nat.{ℕ, _*_, _<_}
+use mathlib.Core.Path.{_≡_, refl, sym, ap, _∙_}
+use mathlib.Core.List.{List}
+use native.Mathlib.Omega.{arith}
+use borrow.Author.Tests.{eq-eqb, lt-ltb}
+use lib.Dec.{eqb}
+use lib.ListN.{length}
+use Rattle.indices.specs.Columns.{at}
+use Rattle.indices.proofs.Tests.{and-both, count-once}
+use Rattle.sheet.specs.Words.{words, top}
+use Rattle.sheet.specs.Sections.{nodeCount, source, arcCount, regionWords}
+use Rattle.sheet.specs.Regions.{regionCount, leafWord, arcWord}
+use Rattle.refusals.specs.Judgement.{Accepted}
+use Rattle.refusals.specs.Nesting.{leafOfArc}
+use Rattle.refusals.proofs.Accepted.{few-arcs, few-nodes, source-in, tail-in, few-region-words, nesting, leaf-arc, one-leaf}
+use Rattle.procedure.specs.Graph.{arcs}
+use Rattle.procedure.specs.Division.{regions, arcOf, leafOf}
+use Rattle.procedure.specs.OfSheet.{graphOf, divisionOf, spansOf}
+use Rattle.procedure.proofs.OfSheet.{graph-nodes, graph-arcs, graph-tail, graph-head}
+use Rattle.procedure.proofs.OfSheet.{division-regions, division-parent, division-arc, division-leaf, division-height}
+use Rattle.procedure.proofs.WellFormed.{accepted-well-formed}
+use Rattle.rows.specs.Rows.{rowCount, rowTail, rowLeaf}
+use Rattle.queue.specs.Trees.{ParentsOf}
+use Rattle.rows.specs.Links.{Linkable, Linked}
+use Rattle.planning.proofs.Planning.{division-parents}
+use Rattle.rows.proofs.Links.{links-same}
+use Rattle.slices.specs.Tables.{ArcRows, RegionRows, tablesOf}
+use Rattle.layout.specs.Layout.{Laid, EndsEntered, LeavesApart, LeavesEntered, ArcsLaid, Nested, ParentsEntered, HeightsEntered, RegionsLaid}
+use Rattle.layout.proofs.Rows.{leaf-row, inner-row}
+
+module _ (b : List ℕ) (ok : Accepted b) where
+  -- THE ARCS
+
+  pub leaves-apart : (m : ℕ) → m ≡ arcCount b → LeavesApart (regionWords b) m
+  leaves-apart m all = record {
+    few = few-region-words b ok;
+    below = λ k l leaf. omega (arith, leaf-arc b ok k l leaf);
+    apart =
+        λ j k lj lk leaf-j leaf-k e.
+        let d = regionWords b in
+        let a = arcWord d k in
+        count-once (leafOfArc d a) (words d) (one-leaf b ok a (leaf-arc b ok k lk leaf-k)) j k lj lk
+        (and-both (leafWord d j) (eqb (arcWord d j) a) leaf-j (eq-eqb (arcWord d j) a e)) (and-both (leafWord d k) (eqb a a) leaf-k (eq-eqb a a refl));
+  }
+
+  -- ends, then leaves, then links
+  module _ {ended entered : List ℕ} (E : EndsEntered b ended) (L : LeavesEntered (regionWords b) ended entered) (long : length entered ≡ 4 * arcCount b) where
+    pub linkable : (firsts : List ℕ) → length firsts ≡ nodeCount b → Linkable entered firsts
+    linkable firsts e = record {
+      short = omega (arith, long, few-arcs b ok);
+      below =
+          λ a l.
+          let inside : a < arcCount b = omega (arith, long) in
+          omega (arith, L .kept a 0 (omega arith), E .tails a inside, tail-in b ok a inside, e);
+    }
+
+    -- the leaf of an arc is in its row
+    leaf-entered : (a : ℕ) → a < arcs (graphOf b) → rowLeaf entered a ≡ leafOf (divisionOf b) a
+    unfolding top
+    leaf-entered a l =
+        let r = leafOf (divisionOf b) a in
+        let there = accepted-well-formed b ok .division .arc-leaf a l in
+        let inside : r < regionCount (regionWords b) = omega (arith, there .0, division-regions b) in
+        let below : arcOf (divisionOf b) r < top = omega (arith, there .1, graph-arcs b, few-arcs b ok) in
+        let leaf = sym (division-leaf b r inside) ∙ lt-ltb (arcOf (divisionOf b) r) top below in
+        ap (rowLeaf entered) (sym (sym (division-arc b r inside) ∙ there .1)) ∙ L .leaves r inside leaf
+
+    module _ {linked firsts : List ℕ} (K : Linked entered linked firsts) (all : length linked ≡ 4 * arcCount b) (wide : length firsts ≡ nodeCount b) where
+      is-arc : (a : ℕ) → a < arcs (graphOf b) → a < arcCount b
+      is-arc a l = omega (arith, graph-arcs b)
+
+      arc-rows : ArcRows (graphOf b) (divisionOf b) linked
+      arc-rows = record {
+        all = omega (arith, all, graph-arcs b);
+        tails = λ a l. K .tails a ∙ L .kept a 0 (omega arith) ∙ E .tails a (is-arc a l) ∙ sym (graph-tail b a (is-arc a l));
+        heads = λ a l. K .heads a ∙ L .kept a 1 (omega arith) ∙ E .heads a (is-arc a l) ∙ sym (graph-head b a (is-arc a l));
+        leaves = λ a l. K .leaves a ∙ leaf-entered a l;
+      }
+
+      pub arcs-laid : ArcsLaid (graphOf b) (divisionOf b) linked firsts
+      arcs-laid =
+          let count : rowCount entered ≡ arcs (graphOf b) = omega (arith, long, graph-arcs b) in
+          let nodes : length firsts ≡ graphOf b .nodes = wide ∙ sym (graph-nodes b) in
+          let links = links-same (rowTail entered) (rowTail linked) (λ a l. K .tails a) (K .links) in
+          record { arc-rows = arc-rows; links = record { all = nodes; linked = rw (count, nodes) at links } }
+
+  -- THE REGIONS
+
+  pub nested : Nested (regionWords b)
+  nested = record { few = few-region-words b ok; nesting = nesting b ok }
+
+  pub parents-of : {parents : List ℕ} → ParentsEntered (regionWords b) parents → ParentsOf (divisionOf b) parents
+  parents-of {parents} P =
+      division-parents parents (accepted-well-formed b ok .division) (P .all ∙ sym (division-regions b))
+      (λ c pos l.
+      let inside : c < regionCount (regionWords b) = omega (arith, division-regions b) in
+      P .same c pos inside ∙ sym (division-parent b c inside))
+
+  pub region-rows : {rows : List ℕ} → HeightsEntered (regionWords b) rows → RegionRows (divisionOf b) rows
+  region-rows {rows} H = record {
+    all = omega (arith, H .all, division-regions b);
+    leaf =
+        λ r l leaf.
+        let inside = is-region r l in
+        H .arcs r inside ∙ leaf-row (regionWords b) r (sym (division-leaf b r inside) ∙ leaf) .1 ∙ sym (division-arc b r inside);
+    inner =
+        λ r l inner. let inside = is-region r l in H .arcs r inside ∙ inner-row (regionWords b) r (sym (division-leaf b r inside) ∙ inner);
+    heights = λ r l. let inside = is-region r l in H .heights r inside ∙ sym (division-height b r inside);
+  }
+    where
+      is-region : (r : ℕ) → r < regions (divisionOf b) → r < regionCount (regionWords b)
+      is-region r l = omega (arith, division-regions b)
+
+  -- THE WHOLE
+
+  pub whole : {rows arcRows firsts lengths spans regionRows winners : List ℕ} → ArcsLaid (graphOf b) (divisionOf b) arcRows firsts
+      → lengths ≡ graphOf b .lengths → spans ≡ spansOf b → RegionsLaid (divisionOf b) rows regionRows winners
+      → Laid b (tablesOf rows arcRows firsts lengths spans regionRows) winners
+  whole A el es R = record {
+    tabled =
+        record {
+          ok = rw es (accepted-well-formed b ok);
+          arc-rows = A .arc-rows;
+          links = A .links;
+          lengths = el;
+          region-rows = R .region-rows;
+        };
+    trees = R .trees;
+    spans = es;
+  }
+
+  -- 16 bits hold the source
+  pub source-fits : source b < 65536
+  source-fits = omega (arith, source-in b ok, few-nodes b ok)

@@ -1,0 +1,57 @@
+-- `enter_leaves` meets its contract: the words passed are entered. Assumes nothing.
+use Prim.Native.Nat.{_-_}
+use native.Mathlib.Omega.{arith}
+use Rattle.sheet.specs.Words.{words}
+use Rattle.layout.proofs.Leaves.{EnteringLeaves, leaves-none, leaves-ask, leaves-more, leaves-all}
+use Rattle.layout.proofs.enter_leaves.Statement.{statement}
+use Rattle.layout.proofs.enter_leaves.Tie as tie
+
+abbrev Inv-loop : tie.InvT-loop
+Inv-loop d arcs₀ n k₀ arcs k = EnteringLeaves d arcs₀ arcs k
+
+abbrev μ-loop : tie.MeasureT-loop
+μ-loop d arcs₀ n k₀ arcs k = words d - k
+
+loop-holds : tie.Need-loop-holds Inv-loop μ-loop
+loop-holds c = leaves-none _ _
+
+enter-leaf-requires : tie.Need-enter-leaf-requires Inv-loop μ-loop
+enter-leaf-requires c κs =
+    let earlier = c .before .before .before .before in
+    let pre = earlier .before .pre in
+    (omega arith, leaves-ask pre (c .before .before .loop .inv))
+
+add-k : tie.Need-add-k Inv-loop μ-loop
+add-k c = omega arith
+
+loop-less : tie.Need-loop-less Inv-loop μ-loop
+loop-less c = omega arith
+
+loop-again : tie.Need-loop-again Inv-loop μ-loop
+loop-again c =
+    let earlier = c .before .before .before .before in
+    let early = earlier .before .before .before .before in
+    let pre = early .pre in
+    let loop = earlier .before .loop in
+    let loop-test = earlier .loop-test in
+    leaves-more pre (loop .inv) (loop-test .taken) _ (c .before .before .enter-leaf .ensures)
+
+same-length : tie.Need-same-length Inv-loop μ-loop
+same-length c = c .before .loop .inv .long
+
+returns : tie.Need-returns Inv-loop μ-loop
+returns c = leaves-all (c .before .loop .inv) (c .loop-test .left)
+
+pub enter-leaves-spec : {M : Type 1} → statement M
+enter-leaves-spec =
+    tie.close
+    (tie.spec
+    Inv-loop
+    μ-loop
+    loop-holds
+    enter-leaf-requires
+    add-k
+    loop-less
+    loop-again
+    same-length
+    returns)

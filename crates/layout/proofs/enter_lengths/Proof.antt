@@ -1,0 +1,79 @@
+-- `enter_lengths` meets its contract: the arcs passed have their lengths. Assumes nothing.
+use Prim.Native.Nat.{_-_}
+use mathlib.Core.Path.{sym, _∙_}
+use native.Mathlib.Omega.{arith}
+use Rattle.sheet.specs.Sections.{arcCount}
+use Rattle.sheet.specs.Arcs.{arcLength}
+use Rattle.procedure.specs.OfSheet.{graphOf}
+use Rattle.layout.proofs.Entries.{Prefix, prefix-none, prefix-more, prefix-all}
+use Rattle.layout.proofs.enter_lengths.Statement.{statement}
+use Rattle.layout.proofs.enter_lengths.Tie as tie
+
+abbrev Inv-loop : tie.InvT-loop
+Inv-loop s at lengths₀ n a₀ lengths a = Prefix (arcCount s) (arcLength s) lengths a
+
+abbrev μ-loop : tie.MeasureT-loop
+μ-loop s at lengths₀ n a₀ lengths a = arcCount s - a
+
+cast-n : tie.Need-cast-n Inv-loop μ-loop
+cast-n c = omega arith
+
+loop-holds : tie.Need-loop-holds Inv-loop μ-loop
+loop-holds c =
+    let pre = c .before .before .before .pre in
+    prefix-none _ _ _ (pre .2)
+
+cast-i : tie.Need-cast-i Inv-loop μ-loop
+cast-i c = omega arith
+
+length-at-requires : tie.Need-length-at-requires Inv-loop μ-loop
+length-at-requires c κs =
+    let earlier = c .before .before .before .before in
+    let pre = earlier .before .pre in
+    (pre .0, omega arith)
+
+mul-lengths : tie.Need-mul-lengths Inv-loop μ-loop
+mul-lengths c = omega arith
+
+slice-write-lengths : tie.Need-slice-write-lengths Inv-loop μ-loop
+slice-write-lengths c = omega arith
+
+add-a : tie.Need-add-a Inv-loop μ-loop
+add-a c = omega arith
+
+loop-less : tie.Need-loop-less Inv-loop μ-loop
+loop-less c = omega arith
+
+loop-again : tie.Need-loop-again Inv-loop μ-loop
+loop-again c =
+    let earlier = c .before .before .before .before in
+    let pre = earlier .before .before .pre in
+    prefix-more _ (c .before .before .loop .inv) (omega (arith, c .before .loop-test .taken, pre .0 .arcs-all)) (c .length-at .ensures)
+
+same-length : tie.Need-same-length Inv-loop μ-loop
+same-length c =
+    let earlier = c .before .before .before .before in
+    let pre = earlier .before .pre in
+    c .before .loop .inv .long ∙ sym (pre .2)
+
+returns : tie.Need-returns Inv-loop μ-loop
+unfolding graphOf
+returns c = prefix-all (c .before .loop .inv) (omega arith)
+
+pub enter-lengths-spec : {M : Type 1} → statement M
+enter-lengths-spec =
+    tie.close
+    (tie.spec
+    Inv-loop
+    μ-loop
+    cast-n
+    loop-holds
+    cast-i
+    length-at-requires
+    mul-lengths
+    slice-write-lengths
+    add-a
+    loop-less
+    loop-again
+    same-length
+    returns)

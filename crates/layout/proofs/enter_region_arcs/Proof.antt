@@ -1,0 +1,88 @@
+-- `enter_region_arcs` meets its contract: the regions passed have their arcs. Assumes nothing.
+use Prim.Native.Nat.{_-_}
+use mathlib.Core.Path.{sym, _∙_}
+use native.Mathlib.Omega.{arith}
+use lib.ListN.{length-set}
+use Rattle.sheet.specs.Regions.{regionCount}
+use Rattle.layout.proofs.Rows.{EnteringArcs, region-arcs-none, region-arcs-more, region-arcs-all}
+use Rattle.layout.proofs.enter_region_arcs.Statement.{statement}
+use Rattle.layout.proofs.enter_region_arcs.Tie as tie
+
+abbrev Inv-loop : tie.InvT-loop
+Inv-loop d regions₀ n r₀ regions r = EnteringArcs d regions r
+
+abbrev μ-loop : tie.MeasureT-loop
+μ-loop d regions₀ n r₀ regions r = regionCount d - r
+
+add-n : tie.Need-add-n Inv-loop μ-loop
+add-n c = omega arith
+
+cast-n : tie.Need-cast-n Inv-loop μ-loop
+cast-n c = omega arith
+
+loop-holds : tie.Need-loop-holds Inv-loop μ-loop
+loop-holds c = region-arcs-none _ _ (c .before .before .pre .1)
+
+cast-i : tie.Need-cast-i Inv-loop μ-loop
+cast-i c = omega arith
+
+mul-i : tie.Need-mul-i Inv-loop μ-loop
+mul-i c = omega arith
+
+arc-in-row-requires : tie.Need-arc-in-row-requires Inv-loop μ-loop
+arc-in-row-requires c κs = omega arith
+
+mul-regions : tie.Need-mul-regions Inv-loop μ-loop
+mul-regions c = omega arith
+
+slice-write-regions : tie.Need-slice-write-regions Inv-loop μ-loop
+slice-write-regions c = omega arith
+
+set-height-requires : tie.Need-set-height-requires Inv-loop μ-loop
+set-height-requires c κs =
+    let loop = c .before .before .before .loop in
+    simp length-set (omega (arith, loop .inv .all, c .before .before .loop-test .taken))
+
+add-r : tie.Need-add-r Inv-loop μ-loop
+add-r c = omega arith
+
+loop-less : tie.Need-loop-less Inv-loop μ-loop
+loop-less c = omega arith
+
+loop-again : tie.Need-loop-again Inv-loop μ-loop
+loop-again c =
+    let earlier = c .before .before .before .before in
+    let loop = earlier .before .before .loop in
+    let loop-test = earlier .before .loop-test in
+    let arc-in-row = earlier .arc-in-row in
+    rw (c .before .before .set-height .ensures) (region-arcs-more _ (loop .inv) (omega (arith, loop-test .taken)) (arc-in-row .ensures))
+
+same-length : tie.Need-same-length Inv-loop μ-loop
+same-length c =
+    let earlier = c .before .before .before .before in
+    let pre = earlier .pre in
+    c .before .loop .inv .all ∙ sym (pre .1)
+
+returns : tie.Need-returns Inv-loop μ-loop
+returns c = region-arcs-all (c .before .loop .inv) (omega arith)
+
+pub enter-region-arcs-spec : {M : Type 1} → statement M
+enter-region-arcs-spec =
+    tie.close
+    (tie.spec
+    Inv-loop
+    μ-loop
+    add-n
+    cast-n
+    loop-holds
+    cast-i
+    mul-i
+    arc-in-row-requires
+    mul-regions
+    slice-write-regions
+    set-height-requires
+    add-r
+    loop-less
+    loop-again
+    same-length
+    returns)

@@ -1,0 +1,69 @@
+-- `enter_spans` meets its contract: the heights passed have their spans. Assumes nothing.
+use Prim.Native.Nat.{_-_}
+use mathlib.Core.Path.{sym, _∙_}
+use native.Mathlib.Omega.{arith}
+use Rattle.sheet.specs.Sections.{spanCount, span}
+use Rattle.sheet.proofs.Bounds.{spans-le}
+use Rattle.procedure.specs.OfSheet.{spansOf}
+use Rattle.layout.proofs.Entries.{Prefix, prefix-none, prefix-more, prefix-all}
+use Rattle.layout.proofs.enter_spans.Statement.{statement}
+use Rattle.layout.proofs.enter_spans.Tie as tie
+
+abbrev Inv-loop : tie.InvT-loop
+Inv-loop s spans₀ n i₀ spans i = Prefix (spanCount s) (span s) spans i
+
+abbrev μ-loop : tie.MeasureT-loop
+μ-loop s spans₀ n i₀ spans i = spanCount s - i
+
+loop-holds : tie.Need-loop-holds Inv-loop μ-loop
+loop-holds c = prefix-none _ _ _ (c .before .before .pre .1)
+
+span-at-requires : tie.Need-span-at-requires Inv-loop μ-loop
+span-at-requires c κs =
+    let earlier = c .before .before .before .before in
+    let args = earlier .args in
+    omega (arith, spans-le (args .s .now) 2)
+
+mul-spans : tie.Need-mul-spans Inv-loop μ-loop
+mul-spans c = omega arith
+
+slice-write-spans : tie.Need-slice-write-spans Inv-loop μ-loop
+slice-write-spans c = omega arith
+
+add-i : tie.Need-add-i Inv-loop μ-loop
+add-i c = omega arith
+
+loop-less : tie.Need-loop-less Inv-loop μ-loop
+loop-less c = omega arith
+
+loop-again : tie.Need-loop-again Inv-loop μ-loop
+loop-again c =
+    let earlier = c .before .before .before .before in
+    let pre = earlier .before .pre in
+    prefix-more _ (c .before .before .loop .inv) (omega (arith, c .before .loop-test .taken, pre .0 .spans-all)) (c .span-at .ensures)
+
+same-length : tie.Need-same-length Inv-loop μ-loop
+same-length c =
+    let earlier = c .before .before .before .before in
+    let pre = earlier .pre in
+    c .before .loop .inv .long ∙ sym (pre .1)
+
+returns : tie.Need-returns Inv-loop μ-loop
+unfolding spansOf
+returns c = prefix-all (c .before .loop .inv) (omega arith)
+
+pub enter-spans-spec : {M : Type 1} → statement M
+enter-spans-spec =
+    tie.close
+    (tie.spec
+    Inv-loop
+    μ-loop
+    loop-holds
+    span-at-requires
+    mul-spans
+    slice-write-spans
+    add-i
+    loop-less
+    loop-again
+    same-length
+    returns)

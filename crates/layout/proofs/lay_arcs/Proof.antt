@@ -1,0 +1,67 @@
+-- `lay_arcs` meets its contract: ends, then leaves, then links. Assumes nothing.
+use borrow.Author.Needs.{needs}
+use native.Mathlib.Omega.{arith}
+use Rattle.refusals.proofs.Accepted.{few-arcs}
+use Rattle.layout.proofs.Represented.{leaves-apart, linkable, arcs-laid}
+use Rattle.layout.proofs.lay_arcs.Statement.{statement}
+use Rattle.layout.proofs.lay_arcs.Tie as tie
+
+enter-ends-requires : tie.Need-enter-ends-requires
+enter-ends-requires c κs =
+    let earlier = c .before .before .before .before in
+    let pre = earlier .pre in
+    (pre .1, few-arcs _ (pre .0), pre .2)
+
+region-words-requires : tie.Need-region-words-requires
+region-words-requires c κs = search needs
+
+enter-leaves-requires : tie.Need-enter-leaves-requires
+enter-leaves-requires c κs =
+    let earlier = c .before .before .before .before in
+    let early = earlier .before .before .before .before in
+    let pre = early .before .pre in
+    let enter-ends = earlier .enter-ends in
+    rw (c .before .region-words .ensures) (leaves-apart _ (pre .0) _ (omega (arith, enter-ends .kept, pre .2)))
+
+link-requires : tie.Need-link-requires
+link-requires c κs =
+    let earlier = c .before .before .before .before in
+    let early = earlier .before .before .before .before in
+    let first = early .before .before .before .before in
+    let pre = first .before .before .pre in
+    let enter-ends = early .before .enter-ends in
+    let region-words = earlier .before .before .region-words in
+    let enter-leaves = earlier .enter-leaves in
+    linkable _ (pre .0) (enter-ends .ensures) (rw (region-words .ensures) at (enter-leaves .ensures))
+    (omega (arith, enter-leaves .kept, enter-ends .kept, pre .2)) _ (pre .3)
+
+same-length : tie.Need-same-length
+same-length c = search needs
+
+same-length-2 : tie.Need-same-length-2
+same-length-2 c = search needs
+
+returns : tie.Need-returns
+returns c =
+    let earlier = c .before .before .before .before .before .before .before .before in
+    let early = earlier .before .before .before .before .before .before .before .before in
+    let pre = early .before .before .before .pre in
+    let enter-ends = earlier .before .before .before .before .before .before .enter-ends in
+    let region-words = earlier .before .before .before .region-words in
+    let enter-leaves = earlier .before .enter-leaves in
+    let link = c .before .before .before .before .link in
+    arcs-laid _ (pre .0) (enter-ends .ensures) (rw (region-words .ensures) at (enter-leaves .ensures))
+    (omega (arith, enter-leaves .kept, enter-ends .kept, pre .2)) (link .ensures) (omega (arith, link .kept, enter-leaves .kept, enter-ends .kept, pre .2))
+    (omega (arith, link .kept, pre .3))
+
+pub lay-arcs-spec : {M : Type 1} → statement M
+lay-arcs-spec =
+    tie.close
+    (tie.spec
+    enter-ends-requires
+    region-words-requires
+    enter-leaves-requires
+    link-requires
+    same-length
+    same-length-2
+    returns)

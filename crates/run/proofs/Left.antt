@@ -1,0 +1,29 @@
+-- What a run of an accepted sheet with a table of the right length leaves: what every table of a run delivers, and of the whole run that it has ended.
+-- Assumes nothing.
+use Prim.Native.Nat.{ℕ}
+use mathlib.Core.Bool.{Bool, true}
+use mathlib.Core.Path.{_≡_, refl, sym, ap, subst, _∙_}
+use mathlib.Core.List.{List}
+use lib.ListN.{length}
+use Rattle.indices.specs.Steps.{if_then_else_}
+use Rattle.sheet.specs.Sections.{nodeCount}
+use Rattle.sheet.specs.Answer.{Answer, ended, paused}
+use Rattle.refusals.specs.Judgement.{Accepted}
+use Rattle.procedure.specs.Procedure.{enoughRounds}
+use Rattle.answers.specs.Tables.{tableLength}
+use Rattle.answers.specs.Runs.{runAnswer, tableAfter, Delivered}
+use Rattle.answers.proofs.Outcome.{made}
+use Rattle.runs.proofs.Delivered.{delivered, run-ends}
+
+module _ (b : List ℕ) (ok : Accepted b) where
+  -- the table at exit
+  pub left-table : (k : ℕ) (table : List ℕ) {table′ : List ℕ} → length table ≡ tableLength (nodeCount b) → table′ ≡ tableAfter b k table → Delivered b k table′
+  left-table k table room e = subst (λ (t : List ℕ). Delivered b k t) (made b k table ok room .1 ∙ sym e) (delivered b ok k)
+
+  -- the table at exit and the answer of the run to its end
+  pub ended-run : (table : List ℕ) {table′ : List ℕ} {answer : Answer} → length table ≡ tableLength (nodeCount b)
+      → answer ≡ runAnswer b enoughRounds table → table′ ≡ tableAfter b enoughRounds table → Delivered b enoughRounds table′ × (answer ≡ ended)
+  ended-run table room says e = (
+    left-table enoughRounds table room e,
+    says ∙ sym (made b enoughRounds table ok room .0) ∙ ap (λ (x : Bool). if x then ended else paused) (run-ends b ok),
+  )

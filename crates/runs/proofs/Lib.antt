@@ -1,0 +1,4 @@
+pub mod Delivered
+pub mod Limited
+pub mod Halls
+pub mod Agree
