@@ -6,7 +6,7 @@ use mathlib.Core.List.{List, [], _∷_, map}
 use Rattle.sheet.specs.Words.{top}
 use Rattle.sheet.specs.Samples.{hallA, oneNode}
 use Rattle.procedure.specs.Table.{nodeWords, tableOf}
-use Rattle.procedure.proofs.Cases.{Shown, show, run, runToEnd, none, cases as ran}
+use Rattle.procedure.proofs.Cases.{Shown, show, run, runToEnd, cases as ran}
 use Rattle.listing.specs.Text.{ascii, lastDigits, decimal}
 use Rattle.listing.specs.Listing.{field, status, counted, statusLine, nodeLine, nodeLines, listingOf, refusedLine}
 

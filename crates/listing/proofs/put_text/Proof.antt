@@ -6,8 +6,6 @@ use Rattle.listing.proofs.Writing.{length-wrote, wrote-none, byte-more,
 use Rattle.listing.specs.Written.{Wrote}
 use Rattle.listing.proofs.put_text.Statement.{statement}
 use Rattle.listing.proofs.put_text.Tie as tie
-use Rattle.listing.proofs.put_text.Reads as reads
-use Rattle.listing.proofs.put_text.Lts as lts
 
 abbrev Inv-loop : tie.InvT-loop
 Inv-loop text out₀ at i₀ out i = (i ≤ length text) × Wrote out₀ at (take i text) out (at + i)
@@ -15,43 +13,33 @@ Inv-loop text out₀ at i₀ out i = (i ≤ length text) × Wrote out₀ at (tak
 abbrev μ-loop : tie.MeasureT-loop
 μ-loop text out₀ at i₀ out i = length text - i
 
--- src/lib.rt:31:5
 loop-holds : tie.Need-loop-holds Inv-loop μ-loop
 loop-holds c = (zero-le, wrote-none (omega arith))
 
--- src/lib.rt:32:23
 shared-slice-read-out : tie.Need-shared-slice-read-out Inv-loop μ-loop
 shared-slice-read-out c = omega arith
 
--- src/lib.rt:32:13
 add-out : tie.Need-add-out Inv-loop μ-loop
 add-out c = omega arith
 
--- src/lib.rt:32:9
 slice-write-out : tie.Need-slice-write-out Inv-loop μ-loop
 slice-write-out c = omega (arith, length-wrote (c .before .before .loop .inv .1))
 
--- src/lib.rt:33:9
 add-i : tie.Need-add-i Inv-loop μ-loop
 add-i c = omega arith
 
--- src/lib.rt:31:5
 loop-less : tie.Need-loop-less Inv-loop μ-loop
 loop-less c = omega arith
 
--- src/lib.rt:31:5
 loop-again : tie.Need-loop-again Inv-loop μ-loop
 loop-again c = (omega arith, byte-more _ (c .before .before .loop .inv .1) (c .before .loop-test .taken))
 
--- src/lib.rt:35:5
 add-result : tie.Need-add-result Inv-loop μ-loop
 add-result c = omega arith
 
--- src/lib.rt:26:1
 same-length : tie.Need-same-length Inv-loop μ-loop
 same-length c = length-wrote (c .before .loop .inv .1)
 
--- src/lib.rt:26:1
 returns : tie.Need-returns Inv-loop μ-loop
 returns c = all-bytes _ (c .before .loop .inv .1) (c .loop-test .left)
 

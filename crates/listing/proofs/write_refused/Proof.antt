@@ -1,6 +1,5 @@
 -- `write_refused` meets its contract: the word, the number and the line end have room and are written one after another. Assumes nothing.
 use mathlib.Core.Path.{refl}
-use native.Mathlib.Omega.{arith}
 use Rattle.listing.specs.Listing.{refusedLine}
 use Rattle.listing.proofs.Writing.{wrote-then, room-before, room-after, byte-room, filled}
 use Rattle.listing.proofs.Lines.{refused-room}
