@@ -1,155 +1,17 @@
 """Writes the cases of crates/judge_cases: stdin, a sheet in hexadecimal a line, and stdout, the answer expected to each.
 
-The judge below is written from the paper, list by list, and shares nothing with the Rattle code. It has to agree with every line
-of tests/judge_vectors.txt and with each answer that a case states; otherwise the script stops and writes nothing.
+The judge of tests/paper.py has to agree with every line of tests/judge_vectors.txt and with each answer that a case states; otherwise
+the script stops and writes nothing.
 Run it by `python3 tests/judge_cases.py`: it writes the same files each time.
 """
-import re
 import sys
-from collections import Counter
-from pathlib import Path
-from random import Random
 
-ROOT = Path(__file__).resolve().parent.parent
-MOST_INPUT = 3_000_000
-
-
-# The judge: a sheet as lists by kind, and a test for each refusal. Where kinds are in order, the lists are the sheet's sections.
-
-class Lists:
-    def __init__(self, sheet):
-        self.size = len(sheet)
-        words = [int.from_bytes(sheet[at:at + 4], 'big') for at in range(0, self.size // 4 * 4, 4)]
-        self.kinds = ''.join('%x' % (word >> 28) for word in words)
-        named = [(word >> 28, word % 2**28) for word in words]
-        self.counts, self.sources, self.spans, self.ends, self.lengths = ([p for k, p in named if k == kind] for kind in range(1, 6))
-        self.nodes = self.counts[0] if self.counts else 0
-        self.tails = [(p >> 10) % 1024 for p in self.ends]
-        self.heads = [p % 1024 for p in self.ends]
-        self.regions = [(k, p) for k, p in named if k in (6, 7)]
-        self.leaf_payloads = [p for k, p in self.regions if k == 7]
-        self.leaf_arcs = [p % 2048 for p in self.leaf_payloads]
-        self.leaves = {number for number, (k, _) in enumerate(self.regions, 1) if k == 7}
-        self.parents = [p if k == 6 else (p >> 11) % 4096 for k, p in self.regions]
-
-
-def three_alike(numbers):
-    ranked = sorted(numbers)
-    return any(low == high for low, high in zip(ranked, ranked[2:]))
-
-
-def wrong_parent(s):
-    return any(parent >= number or parent in s.leaves for number, parent in enumerate(s.parents, 1))
-
-
-def wrong_leaves(s):
-    """Each arc has exactly one leaf when the leaves name all arcs, nothing else, and none twice."""
-    named = set(s.leaf_arcs)
-    return named != set(range(len(s.ends))) or len(named) < len(s.leaf_arcs)
-
-
-def childless(s):
-    inner = set(range(1, len(s.regions) + 1)) - s.leaves
-    return not inner <= set(s.parents)
-
-
-def hall_height(s):
-    """Where 11 to 13 do not apply, the deepest region is a leaf, and region 0 is as high as that leaf is deep."""
-    depths = [0]
-    for number, parent in enumerate(s.parents, 1):
-        depths.append(depths[parent] + 1 if parent < number else 0)
-    return max(depths[1:], default=1)
-
-
-REFUSALS = {
-    1: lambda s: s.size % 4 != 0 or s.size > 32828,
-    2: lambda s: not re.fullmatch('123*(45)*[67]*', s.kinds),
-    3: lambda s: any(p >= 2**20 for p in s.ends) or any(p >= 2**23 for p in s.leaf_payloads),
-    4: lambda s: not 1 <= s.nodes <= 1024,
-    5: lambda s: any(source >= s.nodes for source in s.sources),
-    6: lambda s: any(not 1 <= span <= 1_000_000 for span in s.spans),
-    7: lambda s: len(s.spans) > 15 or len(s.ends) > 2048 or len(s.regions) > 4094,
-    8: lambda s: any(node >= s.nodes for node in s.tails + s.heads),
-    9: lambda s: any(length > 262143 for length in s.lengths),
-    10: lambda s: three_alike(s.tails) or three_alike(s.heads),
-    11: wrong_parent,
-    12: wrong_leaves,
-    13: childless,
-    14: lambda s: len(s.spans) != hall_height(s),
-}
-
-
-def applies(number, sheet):
-    return REFUSALS[number](Lists(sheet))
-
-
-def judge(sheet):
-    """The lowest number that applies, or 0."""
-    lists = Lists(sheet)
-    return next((number for number, test in REFUSALS.items() if test(lists)), 0)
-
-
-# Sheets.
-
-def packed(words):
-    return b''.join(word.to_bytes(4, 'big') for word in words)
-
-
-def inner(parent):
-    return 6 << 28 | parent
-
-
-def leaf(parent, arc):
-    return 7 << 28 | parent << 11 | arc
-
-
-def arc(tail, head, length=1):
-    return [4 << 28 | tail << 10 | head, 5 << 28 | length]
-
-
-def words_of(nodes, source, spans, arcs, regions):
-    """The words of a sheet. Arcs are (tail, head) or (tail, head, length); regions are words."""
-    return [1 << 28 | nodes, 2 << 28 | source] + [3 << 28 | span for span in spans] + [word for a in arcs for word in arc(*a)] + regions
-
-
-def sheet_of(nodes=4, source=0, spans=(1,), arcs=(), regions=()):
-    return packed(words_of(nodes, source, spans, arcs, list(regions)))
-
-
-def flat(arcs):
-    return [leaf(0, a) for a in range(arcs)]
-
-
-def chain(height, arcs=1):
-    """Each inner region in the one before it, and all leaves in the last."""
-    return [inner(parent) for parent in range(height - 1)] + [leaf(height - 1, a) for a in range(arcs)]
-
-
-def side_by_side(depths):
-    """For each arc a chain of its own in region 0, its leaf as deep as listed."""
-    regions = []
-    for a, depth in enumerate(depths):
-        parent = 0
-        for _ in range(depth - 1):
-            regions.append(inner(parent))
-            parent = len(regions)
-        regions.append(leaf(parent, a))
-    return regions
-
-
-def two_each_way(nodes):
-    """Two arcs from each node and two to each, with lengths that differ."""
-    return [(v, (v + step) % nodes, 127 * v + step) for v in range(nodes) for step in (1, 5)]
-
-
-def changed(words, at, word):
-    return words[:at] + [word] + words[at + 1:]
-
-
-HALL_A = [int(word, 16) for word in (
-    '10000004 20000000 30000002 30000001 40000001 50000004 40000002 50000001 40000801 50000002 40000403 50000005 '
-    '60000000 60000000 70000800 70000803 70001001 70001002').split()]
-
+from cases import bytes_in, data, digits_of, hold, write_cases
+from paper import applies, judge
+from sheets import (
+    FAULTS, HALL_A, Chance, alternate, chain, changed, damaged, flat, halving, inner, leaf, many_chains, one_deep, packed, random_words,
+    sheet_of, side_by_side, two_each_way, with_faults, words_of,
+)
 
 # The cases: pairs of a sheet and the answer stated for it, None where the judge alone says it.
 
@@ -313,80 +175,6 @@ def cuts():
         yield bytes(range(256 - size, 256)), 1 if size % 4 else 2
 
 
-# Two faults in one sheet. Each change of FAULTS, two for a refusal, makes one fault in a sheet of 8 nodes and height 3.
-
-class Parts:
-    def __init__(self):
-        self.nodes, self.source, self.spans = 8, 1, [5, 6, 7]
-        self.arcs = [[v << 10 | v + 1, 10 + v] for v in range(6)]
-        self.regions = [inner(0), inner(1), leaf(2, 0), leaf(2, 1), leaf(1, 2), leaf(1, 3), leaf(0, 4), leaf(0, 5)]
-        self.front, self.end, self.bytes_after = [], [], b''
-
-    def sheet(self):
-        words = self.front + [1 << 28 | self.nodes, 2 << 28 | self.source] + [3 << 28 | span for span in self.spans]
-        for ends, length in self.arcs:
-            words += [4 << 28 | ends, 5 << 28 | length]
-        return packed(words + self.regions + self.end) + self.bytes_after
-
-    def set(self, name, value):
-        setattr(self, name, value)
-
-    def span(self, at, span):
-        self.spans[at] = span
-
-    def tails(self, arcs, node):
-        for a in arcs:
-            self.arcs[a][0] = self.arcs[a][0] >> 20 << 20 | node << 10 | self.arcs[a][0] % 1024
-
-    def heads(self, arcs, node):
-        for a in arcs:
-            self.arcs[a][0] = self.arcs[a][0] >> 10 << 10 | node
-
-    def ends_bit(self, a, bit):
-        self.arcs[a][0] |= 1 << bit
-
-    def length(self, a, length):
-        self.arcs[a][1] = length
-
-    def region(self, number, word):
-        self.regions[number - 1] = word
-
-    def leaf_bit(self, number, bit):
-        self.regions[number - 1] |= 1 << bit
-
-    def leaf_parent(self, number, parent):
-        word = self.regions[number - 1]
-        self.regions[number - 1] = word >> 23 << 23 | parent << 11 | word % 2048
-
-    def leaf_arc(self, number, a):
-        self.regions[number - 1] = self.regions[number - 1] >> 11 << 11 | a
-
-
-FAULTS = {
-    1: [lambda p: p.set('bytes_after', b'\0'), lambda p: p.set('bytes_after', b'\x10\x00\x00')],
-    2: [lambda p: p.end.append(0), lambda p: p.front.append(8 << 28)],
-    3: [lambda p: p.ends_bit(0, 20), lambda p: p.leaf_bit(8, 27)],
-    4: [lambda p: p.set('nodes', 1025), lambda p: p.set('nodes', 0)],
-    5: [lambda p: p.set('source', p.nodes), lambda p: p.set('source', 2**28 - 1)],
-    6: [lambda p: p.span(0, 0), lambda p: p.span(2, 1_000_001)],
-    7: [lambda p: p.spans.extend([1] * 13), lambda p: p.spans.extend([1] * 40)],
-    8: [lambda p: p.heads([0], 8), lambda p: p.tails([5], 1023)],
-    9: [lambda p: p.length(0, 262144), lambda p: p.length(5, 2**28 - 1)],
-    10: [lambda p: p.tails([1, 2, 3], 2), lambda p: p.heads([2, 3, 4], 4)],
-    11: [lambda p: p.region(2, inner(2)), lambda p: p.leaf_parent(8, 3)],
-    12: [lambda p: p.leaf_arc(3, 6), lambda p: p.leaf_arc(7, 3)],
-    13: [lambda p: p.regions.append(inner(0)), lambda p: p.regions.extend([inner(0), inner(9)])],
-    14: [lambda p: p.spans.extend([1] * 3), lambda p: p.spans.pop(1)],
-}
-
-
-def with_faults(*changes):
-    parts = Parts()
-    for change in changes:
-        change(parts)
-    return parts.sheet()
-
-
 def pairs():
     """Each fault alone, and every two together: the lower number is the answer. Where one change undoes the other, the sheet is left out."""
     yield with_faults(), 0
@@ -398,31 +186,6 @@ def pairs():
             if not both:
                 sys.exit('no sheet has faults %d and %d' % (low, high))
             yield from ((sheet, low) for sheet in both)
-
-
-# Sheets at the limits of size, and divisions of them.
-
-def halving():
-    """Two children for each inner region: 2,046 inner regions, then 2,048 leaves, height 11."""
-    return [inner((number - 1) // 2) for number in range(1, 2047)] + [leaf((number - 1) // 2, number - 2047) for number in range(2047, 4095)]
-
-
-def one_deep(others):
-    """A chain of 14 inner regions and others at its regions, a leaf in each, the leaves left over in region 0: height 15."""
-    regions = [inner(number) for number in range(14)] + [inner(number % 14) for number in range(others)]
-    ends = list(range(14, 15 + others))
-    return regions + [leaf(ends[a] if a < len(ends) else 0, 2047 - a) for a in range(2048)]
-
-
-def many_chains(chains, more):
-    """Chains of 14 inner regions with a leaf at each end, numbered level by level, and more leaves in region 0: height 15."""
-    regions = [inner(max(0, number - chains)) for number in range(1, 14 * chains + 1)]
-    return regions + [leaf(13 * chains + 1 + a, a) for a in range(chains)] + [leaf(0, chains + a) for a in range(more)]
-
-
-def alternate():
-    """Each inner region of region 0 followed by its one leaf, and two leaves more: height 2."""
-    return [word for a in range(2046) for word in (inner(0), leaf(2 * a + 1, a))] + [leaf(0, 2046), leaf(0, 2047)]
 
 
 def full_size():
@@ -459,63 +222,6 @@ def large():
     yield sheet_of(1, 0, [1] * 15, [(0, 0)], chain(4094)), 14
 
 
-# Random sheets. Only `random()` is used of the generator, since later versions of Python keep its numbers.
-
-class Chance:
-    def __init__(self, seed):
-        self.random = Random(seed).random
-
-    def below(self, limit):
-        return int(self.random() * limit)
-
-    def taken(self, items):
-        return items.pop(self.below(len(items)))
-
-    def shuffled(self, items):
-        left = list(items)
-        return [self.taken(left) for _ in items]
-
-
-def random_regions(chance, arcs):
-    """Groups leaves and groups of them from below, then numbers the groups so that each comes after its parent. Also the height."""
-    groups, height_of = [('leaf', a) for a in chance.shuffled(range(arcs))], {}
-    while len(groups) > 1 and chance.below(4):
-        some = [chance.taken(groups) for _ in range(1 + chance.below(min(3, len(groups))))]
-        groups.append(('inner', some))
-
-    def height(group):
-        return 0 if group[0] == 'leaf' else 1 + max(height(part) for part in group[1])
-
-    words, waiting = [], [(0, group) for group in groups]
-    while waiting:
-        parent, (kind, held) = chance.taken(waiting)
-        words.append(leaf(parent, held) if kind == 'leaf' else inner(parent))
-        waiting += [(len(words), part) for part in held] if kind == 'inner' else []
-    return words, 1 + max((height(group) for group in groups), default=0)
-
-
-def random_words(chance, most_nodes):
-    nodes = 1 + chance.below(most_nodes)
-    count = chance.below(2 * nodes + 1)
-    tails, heads = (chance.shuffled([v for v in range(nodes) for _ in range(2)])[:count] for _ in range(2))
-    arcs = [(tail, head, chance.below(262144)) for tail, head in zip(tails, heads)]
-    regions, height = random_regions(chance, count)
-    return words_of(nodes, chance.below(nodes), [1 + chance.below(1_000_000) for _ in range(height)], arcs, regions)
-
-
-def damaged(chance, words, way):
-    """A bit turned, a word doubled, a word dropped, or two words swapped."""
-    at = chance.below(len(words))
-    other = (at + 1 + chance.below(len(words) - 1)) % len(words)
-    if way == 0:
-        return changed(words, at, words[at] ^ 1 << chance.below(32))
-    if way == 1:
-        return words[:at] + [words[at]] + words[at:]
-    if way == 2:
-        return words[:at] + words[at + 1:]
-    return changed(changed(words, at, words[other]), other, words[at])
-
-
 def random_sheets():
     chance = Chance(1)
     for turn in range(300):
@@ -536,38 +242,23 @@ FAMILIES = [
 
 
 def vectors():
-    for line in (ROOT / 'tests' / 'judge_vectors.txt').read_text().splitlines():
-        if not line.startswith('#'):
-            digits, answer = line.split()
-            yield bytes.fromhex('' if digits == '-' else digits), int(answer)
+    for line in data('judge_vectors.txt'):
+        digits, answer = line.split()
+        yield bytes_in(digits), int(answer)
 
 
-def checked(name, cases):
-    """The cases with their answers, where the judge agrees with each answer that is stated."""
-    for at, (sheet, stated) in enumerate(cases):
-        answer = judge(sheet)
-        if stated is not None and answer != stated:
-            sys.exit('%s, case %d: the judge answers %d, stated is %d: %s' % (name, at, answer, stated, sheet.hex()[:300]))
-        yield sheet, answer
+def said(answer):
+    """The line expected for an answer of the judge."""
+    return 'refused input %d' % answer if answer else 'accepted'
 
 
-def main():
-    cases = list(checked('vectors', vectors()))
-    seen = {sheet for sheet, _ in cases}
-    for family in FAMILIES:
-        for sheet, answer in checked(family.__name__, family()):
-            if sheet not in seen:
-                seen.add(sheet)
-                cases.append((sheet, answer))
-    lines = ''.join((sheet.hex() or '-') + '\n' for sheet, _ in cases)
-    if len(lines) > MOST_INPUT:
-        sys.exit('%d bytes of cases' % len(lines))
-    (ROOT / 'crates' / 'judge_cases' / 'stdin').write_text(lines)
-    said = ['refused input %d' % answer if answer else 'accepted' for _, answer in cases]
-    (ROOT / 'crates' / 'judge_cases' / 'stdout').write_text('\n'.join(said) + '\n')
-    counts = Counter(answer for _, answer in cases)
-    print('%d cases, %d bytes; ' % (len(cases), len(lines)) + ', '.join('%d: %d' % pair for pair in sorted(counts.items())))
+def checked(family):
+    """The cases of a family with the lines expected."""
+    for sheet, stated in family():
+        case, line = digits_of(sheet), said(judge(sheet))
+        hold(family, case, line, None if stated is None else said(stated))
+        yield case, line
 
 
 if __name__ == '__main__':
-    main()
+    write_cases('judge_cases', [vectors], FAMILIES, checked, str)

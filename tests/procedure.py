@@ -1,0 +1,244 @@
+"""The procedure, its answer table and the route reader, written from the paper. They share nothing with the Rattle code.
+
+`Run` keeps a heap for each inner region, `PlainRun` looks through all children instead; the cases hold the two to each other. Distances
+are found a second way, by `distances`, and every ended table is held to them.
+"""
+from heapq import heapify, heappop, heappush
+
+from paper import Lists, judge
+
+NONE = 2**28 - 1
+HEADER = 9
+
+
+class Hall:
+    """What an accepted sheet says. Region 0 stands in the lists by region, with parent None."""
+
+    def __init__(self, sheet):
+        lists = Lists(sheet)
+        self.nodes, self.source, self.spans = lists.nodes, lists.sources[0], lists.spans
+        self.tails, self.heads, self.lengths = lists.tails, lists.heads, lists.lengths
+        self.parents = [None] + lists.parents
+        self.arc_of = {number: payload % 2048 for number, (kind, payload) in enumerate(lists.regions, 1) if kind == 7}
+        self.leaf_of = {arc: number for number, arc in self.arc_of.items()}
+        self.outgoing = [[] for _ in range(self.nodes)]
+        for arc, tail in enumerate(self.tails):
+            self.outgoing[tail].append(arc)
+        self.children = [[] for _ in self.parents]
+        for number, parent in enumerate(self.parents[1:], 1):
+            self.children[parent].append(number)
+        self.heights = [0] * len(self.parents)
+        for number in reversed(range(len(self.parents))):
+            if number not in self.arc_of:
+                self.heights[number] = 1 + max((self.heights[child] for child in self.children[number]), default=0)
+
+
+class Run:
+    """A run of a hall: its start, then a round at a time."""
+
+    def __init__(self, hall):
+        self.hall = hall
+        self.labels = [NONE] * hall.nodes
+        self.feeding = [NONE] * hall.nodes
+        self.labels[hall.source] = 0
+        # A leaf's own key is its one item; an inner region has a key for each child.
+        self.own_keys = {leaf: NONE for leaf in hall.arc_of}
+        self.keys = [NONE] * len(hall.parents)
+        self.heaps = [[] for _ in hall.parents]
+        self.rounds = self.leaves = self.inner = self.updates = 0
+        for arc in hall.outgoing[hall.source]:
+            self.update(arc, 0)
+
+    def first(self, region):
+        """The key of an inner region's first-chosen item, and the item: lowest key, then lowest region number."""
+        heap = self.heaps[region]
+        while heap and heap[0][0] != self.keys[heap[0][1]]:
+            heappop(heap)
+        return heap[0] if heap else (NONE, None)
+
+    def write(self, item, key):
+        """Writes an item's key in its region."""
+        self.keys[item] = key
+        heap = self.heaps[self.hall.parents[item]]
+        if key != NONE:
+            heappush(heap, (key, item))
+        if len(heap) > 64 + 4 * len(self.hall.children[self.hall.parents[item]]):
+            heap[:] = [(self.keys[child], child) for child in self.hall.children[self.hall.parents[item]] if self.keys[child] != NONE]
+            heapify(heap)
+
+    def smallest(self, region):
+        return self.own_keys[region] if region in self.own_keys else self.first(region)[0]
+
+    def update(self, arc, key):
+        """Updates an arc: from its leaf upward, while the smallest key falls."""
+        region, item = self.hall.leaf_of[arc], None
+        while True:
+            self.updates += 1
+            before = self.smallest(region)
+            if item is None:
+                self.own_keys[region] = key
+            else:
+                self.write(item, key)
+            if self.smallest(region) >= before or region == 0:
+                return
+            region, item = self.hall.parents[region], region
+
+    def work_leaf(self, region):
+        self.leaves += 1
+        hall, arc = self.hall, self.hall.arc_of[region]
+        head, reached = hall.heads[arc], self.labels[hall.tails[arc]] + hall.lengths[arc]
+        if self.labels[head] > reached:
+            self.labels[head], self.feeding[head] = reached, arc
+            for outgoing in hall.outgoing[head]:
+                self.update(outgoing, reached)
+        self.own_keys[region] = NONE
+
+    def work(self, region):
+        if region in self.own_keys:
+            self.work_leaf(region)
+            return
+        self.inner += 1
+        for _ in range(self.hall.spans[self.hall.heights[region] - 1]):
+            key, child = self.first(region)
+            if key == NONE:
+                return
+            self.work(child)
+            self.write(child, self.smallest(child))
+
+    def ended(self):
+        return self.smallest(0) == NONE
+
+    def round(self):
+        self.rounds += 1
+        self.work(0)
+
+    def table(self):
+        words = [8 << 28 | self.ended()]
+        for count in (self.rounds, self.leaves, self.inner, self.updates):
+            words += [11 << 28 | count >> 28, 11 << 28 | count % 2**28]
+        for label, arc in zip(self.labels, self.feeding):
+            words += [9 << 28 | label, 10 << 28 | arc]
+        return words
+
+
+class PlainRun(Run):
+    """The same with no heap: the first-chosen item by a look through all children."""
+
+    def first(self, region):
+        key, child = min(((self.keys[child], child) for child in self.hall.children[region]), default=(NONE, None))
+        return (key, child) if key != NONE else (NONE, None)
+
+    def write(self, item, key):
+        self.keys[item] = key
+
+
+def tables(hall, limits=None, run=Run):
+    """The tables after at most so many rounds, for each of the limits listed, None for no limit."""
+    made, going, limits = {}, run(hall), limits or [None]
+    for limit in sorted(limits, key=lambda limit: (limit is None, limit)):
+        while not going.ended() and (limit is None or going.rounds < limit):
+            going.round()
+        made[limit] = going.table()
+    return made
+
+
+def distances(hall):
+    """The lengths of shortest routes from the source, NONE where there is none: rounds over all arcs until nothing falls."""
+    found = [NONE] * hall.nodes
+    found[hall.source] = 0
+    falling = True
+    while falling:
+        falling = False
+        for tail, head, length in zip(hall.tails, hall.heads, hall.lengths):
+            if found[tail] != NONE and found[tail] + length < found[head]:
+                found[head] = found[tail] + length
+                falling = True
+    return found
+
+
+def table_size(nodes):
+    return HEADER + 2 * nodes
+
+
+def table_refusal(sheet, length):
+    """The refusal of a run, as ('input', number) or ('state', 21), or None."""
+    number = judge(sheet)
+    if number:
+        return 'input', number
+    return ('state', 21) if length != table_size(Lists(sheet).nodes) else None
+
+
+# The route reader.
+
+def chain_to(hall, feeding, node):
+    """The feeding arcs followed back from a node, taken from the source on; None where they do not lead there."""
+    arcs = []
+    while node != hall.source:
+        if feeding[node] == NONE or len(arcs) == hall.nodes:
+            return None
+        arcs.append(feeding[node])
+        node = hall.tails[feeding[node]]
+    return arcs[::-1]
+
+
+def leads(hall, arcs, node):
+    """Whether the arcs are a route from the source to the node."""
+    at = hall.source
+    for arc in arcs:
+        if hall.tails[arc] != at:
+            return False
+        at = hall.heads[arc]
+    return at == node
+
+
+def shortest(hall, labels, feeding):
+    """Whether the labels are the distances, and the feeding arcs form routes of those lengths."""
+    if labels != distances(hall):
+        return False
+    for node in range(hall.nodes):
+        if node == hall.source or labels[node] == NONE:
+            if feeding[node] != NONE:
+                return False
+            continue
+        arcs = chain_to(hall, feeding, node)
+        if arcs is None or not leads(hall, arcs, node) or sum(hall.lengths[arc] for arc in arcs) != labels[node]:
+            return False
+    return True
+
+
+def wrong_word(hall, table):
+    """Refusal 22."""
+    kinds = [8] + [11] * 8 + [9, 10] * hall.nodes
+    feeding = [word % 2**28 for word in table[HEADER + 1::2]]
+    return (
+        [word >> 28 for word in table] != kinds or table[0] % 2**28 > 1 or any(len(hall.tails) <= arc < NONE for arc in feeding)
+    )
+
+
+def table_faults(hall, table):
+    """Each of 22 to 24 with its test, for a table of the right length."""
+    labels, feeding = ([word % 2**28 for word in table[HEADER + at::2]] for at in range(2))
+    return {
+        22: lambda: wrong_word(hall, table),
+        23: lambda: table[0] % 2**28 == 0,
+        24: lambda: not shortest(hall, labels, feeding),
+    }
+
+
+def route(sheet, table, node, room):
+    """('route', arcs), ('no route',), ('input', number) or ('state', number)."""
+    number = judge(sheet)
+    if number:
+        return 'input', number
+    hall = Hall(sheet)
+    if node >= hall.nodes:
+        return 'input', 15
+    if len(table) != table_size(hall.nodes):
+        return 'state', 21
+    for number, applies in table_faults(hall, table).items():
+        if applies():
+            return 'state', number
+    if table[HEADER + 2 * node] % 2**28 == NONE:
+        return 'no route',
+    arcs = chain_to(hall, [word % 2**28 for word in table[HEADER + 1::2]], node)
+    return ('route', arcs) if len(arcs) <= room else ('state', 25)
