@@ -8,7 +8,7 @@ use Rattle.sheet.specs.Samples.{hallA, oneNode}
 use Rattle.procedure.specs.Table.{nodeWords, tableOf}
 use Rattle.procedure.proofs.Cases.{Shown, show, run, runToEnd, cases as ran}
 use Rattle.listing.specs.Text.{ascii, lastDigits, decimal}
-use Rattle.listing.specs.Listing.{field, status, counted, statusLine, nodeLine, nodeLines, listingOf, refusedLine}
+use Rattle.listing.specs.Listing.{field, spaced, status, counted, statusLine, nodeLine, nodeLines, listingOf, refusedLine}
 
 -- the listing of a state of a hall of so many nodes
 abbrev listed : Shown → ℕ → List ℕ
@@ -29,7 +29,7 @@ pub record Cases : Type 0 where
   pub refused : refusedLine 14 ≡ ascii "refused 14\n"
 
 pub cases : Cases
-unfolding top nodeWords tableOf lastDigits decimal field status counted statusLine nodeLine nodeLines listingOf refusedLine
+unfolding top nodeWords tableOf lastDigits decimal field spaced status counted statusLine nodeLine nodeLines listingOf refusedLine
 cases = record {
   numbers = refl;
   hall-a = ap (λ (s : Shown). listed s 4) (ran .to-its-end) ∙ refl;

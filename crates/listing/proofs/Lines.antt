@@ -12,7 +12,7 @@ use Rattle.indices.proofs.Steps.{eq-or-ne}
 use Rattle.sheet.specs.Words.{top}
 use Rattle.answers.specs.Tables.{statusIn, countIn, labelIn, predecessorIn}
 use Rattle.listing.specs.Text.{ascii, decimal}
-use Rattle.listing.specs.Listing.{field, status, counted, statusLine, nodeLine, nodeLines, listingOf, mostListing, refusedLine}
+use Rattle.listing.specs.Listing.{field, spaced, status, counted, statusLine, nodeLine, nodeLines, listingOf, mostListing, refusedLine}
 use Rattle.listing.specs.Written.{Room, Wrote}
 use Rattle.listing.proofs.Writing.{length-wrote}
 use Rattle.listing.proofs.Numbers.{decimal-within}
@@ -43,6 +43,10 @@ field-within payload small =
     ⊎-elim (λ e. omega (arith, ap length (field-none payload e)))
     (λ n. omega (arith, ap length (field-number payload n), decimal-within 8 payload (omega arith))) (eq-or-ne payload 268435455)
 
+spaced-within : (payload : ℕ) → payload < 268435456 → length (spaced payload) ≤ 10
+unfolding spaced
+spaced-within payload small = simp length-append (omega (arith, field-within payload small))
+
 module _ (table : List ℕ) where
   status-within : length (status table) ≤ 6
   status-within =
@@ -68,8 +72,8 @@ module _ (table : List ℕ) where
       (omega (
         arith,
         decimal-within 3 v (omega arith),
-        field-within (labelIn table v) (omega arith),
-        field-within (predecessorIn table v) (omega arith),
+        spaced-within (labelIn table v) (omega arith),
+        spaced-within (predecessorIn table v) (omega arith),
       ))
 
   node-lines-within : (v : ℕ) → v ≤ 1024 → length (nodeLines table v) ≤ 25 * v

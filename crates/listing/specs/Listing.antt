@@ -12,6 +12,10 @@ use Rattle.listing.specs.Text.{ascii, decimal}
 unfoldable pub field : ℕ → List ℕ
 field payload = if eqb payload top then ascii "-" else decimal payload
 
+-- a field after a space
+unfoldable pub spaced : ℕ → List ℕ
+spaced payload = ascii " " ++ field payload
+
 module _ (table : List ℕ) where
   -- "Kind 8: 1 ended, 0 paused."
   unfoldable pub status : List ℕ
@@ -28,7 +32,7 @@ module _ (table : List ℕ) where
 
   -- "Then per node: node, distance, feeding arc"
   unfoldable pub nodeLine : ℕ → List ℕ
-  nodeLine v = decimal v ++ ascii " " ++ field (labelIn table v) ++ ascii " " ++ field (predecessorIn table v) ++ ascii "\n"
+  nodeLine v = decimal v ++ spaced (labelIn table v) ++ spaced (predecessorIn table v) ++ ascii "\n"
 
   -- the lines of the nodes below n
   unfoldable pub nodeLines : ℕ → List ℕ

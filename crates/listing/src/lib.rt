@@ -5,7 +5,7 @@ ghost use Prim.Native.Nat.{_+_, _*_, _≤_, _<_};
 ghost use lib.ListN.{length};
 ghost use Rattle.answers.specs.Tables.{tableLength, payloadIn, countIn};
 ghost use Rattle.listing.specs.Text.{digit, decimal};
-ghost use Rattle.listing.specs.Listing.{field, status, statusLine, nodeLine, nodeLines, listingOf, mostListing, refusedLine};
+ghost use Rattle.listing.specs.Listing.{field, spaced, status, statusLine, nodeLine, nodeLines, listingOf, mostListing, refusedLine};
 ghost use Rattle.listing.specs.Written.{Room, Wrote, Filled};
 
 // The payload that stands for unreached and for no arc.
@@ -113,16 +113,23 @@ fn put_field(payload: u32, out: &mut [u8], at: usize) -> usize
     put_number(payload as u64, out, at)
 }
 
+// The payload of a word, after a space.
+fn put_payload(table: &[u32], i: usize, out: &mut [u8], at: usize) -> usize
+    requires { ⌜ (i < length (now table)) × Room (now out) at (spaced (payloadIn (now table) i)) ⌝ }
+    ensures { λ r. ⌜ Wrote (now (out .entry)) at (spaced (payloadIn (now (table .entry)) i)) (now (out .exit)) r ⌝ }
+{
+    let next = put_byte(b' ', out, at);
+    put_field(payload_at(table, i), out, next)
+}
+
 fn put_node_line(table: &[u32], v: usize, out: &mut [u8], at: usize) -> usize
     requires { ⌜ (tableLength v + 2 ≤ length (now table)) × Room (now out) at (nodeLine (now table) v) ⌝ }
     ensures { λ r. ⌜ Wrote (now (out .entry)) at (nodeLine (now (table .entry)) v) (now (out .exit)) r ⌝ }
 {
     let word = 9 + 2 * v;
-    let named = put_number(v as u64, out, at);
-    let distance = put_byte(b' ', out, named);
-    let placed = put_field(payload_at(table, word), out, distance);
-    let arc = put_byte(b' ', out, placed);
-    let line_end = put_field(payload_at(table, word + 1), out, arc);
+    let distance = put_number(v as u64, out, at);
+    let arc = put_payload(table, word, out, distance);
+    let line_end = put_payload(table, word + 1, out, arc);
     put_byte(b'\n', out, line_end)
 }
 
