@@ -1,0 +1,4 @@
+pub mod Writing
+pub mod Numbers
+pub mod Lines
+pub mod Cases

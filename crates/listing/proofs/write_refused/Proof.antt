@@ -1,0 +1,57 @@
+-- `write_refused` meets its contract: the word, the number and the line end have room and are written one after another. Assumes nothing.
+use mathlib.Core.Path.{refl}
+use Rattle.listing.specs.Listing.{refusedLine}
+use Rattle.listing.proofs.Writing.{wrote-then, room-before, room-after, byte-room, filled}
+use Rattle.listing.proofs.Lines.{refused-room}
+use borrow.Author.Needs.{needs}
+use Rattle.listing.proofs.write_refused.Statement.{statement}
+use Rattle.listing.proofs.write_refused.Tie as tie
+
+slice-aggregate-put-text : tie.Need-slice-aggregate-put-text
+slice-aggregate-put-text c = search needs
+
+put-text-requires : tie.Need-put-text-requires
+put-text-requires c κs = search needs
+
+put-number-requires : tie.Need-put-number-requires
+unfolding refusedLine
+put-number-requires c κs =
+    let put-text = c .before .before .before .put-text in
+    let fits = c .before .before .before .before .before .before .before .fits in
+    let pre = c .before .before .before .before .before .before .before .pre in
+    room-after (put-text .ensures) (room-before _ (refused-room (fits .n .fits) (pre)))
+
+put-byte-requires : tie.Need-put-byte-requires
+unfolding refusedLine
+put-byte-requires c κs =
+    let earlier = c .before .before .before .before .before .before .before .before in
+    let put-number = c .before .before .before .put-number in
+    let put-text = c .before .before .before .before .before .before .before .put-text in
+    let fits = earlier .before .before .before .fits in
+    let pre = earlier .before .before .before .pre in
+    byte-room (room-after (wrote-then (put-text .ensures) (put-number .ensures)) (refused-room (fits .n .fits) (pre)))
+
+same-length : tie.Need-same-length
+same-length c = search needs
+
+returns : tie.Need-returns
+unfolding refusedLine
+returns c =
+    let earlier = c .before .before .before .before .before .before .before .before in
+    let put-number = c .before .before .before .before .before .before .put-number in
+    let put-text = earlier .before .before .put-text in
+    let fits = earlier .before .before .before .before .before .before .fits in
+    let pre = earlier .before .before .before .before .before .before .pre in
+    let line = wrote-then (wrote-then (put-text .ensures) (put-number .ensures)) (c .before .before .put-byte .ensures) in
+    filled line refl (refused-room (fits .n .fits) (pre))
+
+pub write-refused-spec : {M : Type 1} → statement M
+write-refused-spec =
+    tie.close
+    (tie.spec
+    slice-aggregate-put-text
+    put-text-requires
+    put-number-requires
+    put-byte-requires
+    same-length
+    returns)

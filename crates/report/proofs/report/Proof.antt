@@ -1,0 +1,71 @@
+-- `report` meets its contract: the judge's refusal, or the run of the accepted sheet. Assumes nothing.
+use mathlib.Core.Path.{sym, ap, _∙_}
+use Rattle.io.proofs.Counting.{counts}
+use Rattle.judge.specs.Said.{said}
+use Rattle.listing.proofs.Writing.{filled-within}
+use Rattle.report.proofs.Outcomes.{reported-refusal}
+use borrow.Author.Needs.{needs}
+use Rattle.report.proofs.report.Statement.{statement}
+use Rattle.report.proofs.report.Tie as tie
+
+judge-requires : tie.Need-judge-requires
+judge-requires c κs = search needs
+
+enum-known-judged : tie.Need-enum-known-judged
+enum-known-judged c = search needs
+
+number-of-requires : tie.Need-number-of-requires
+number-of-requires c κs = search needs
+
+write-refused-requires : tie.Need-write-refused-requires
+write-refused-requires c κs = search needs
+
+enum-told : tie.Need-enum-told
+enum-told c = search needs
+
+report-accepted-requires : tie.Need-report-accepted-requires
+report-accepted-requires c κs =
+    let earlier = c .before .before .before .before .before .before .before .before in
+    let judge = c .before .before .before .before .judge in
+    let pre = earlier .pre in
+    (sym (judge .ensures) ∙ ap said (c .before .before .enum-told .given .1), pre .0, pre .1)
+
+same-length : tie.Need-same-length
+same-length c = search needs
+
+returns : tie.Need-returns
+returns c =
+    let earlier = c .before .before .before .before .before .before .before .before in
+    let number-of = c .before .before .before .before .number-of in
+    let judged = c .before .before .before .before .before .before .judged in
+    let judge = earlier .judge in (
+      reported-refusal _ _ (sym (judge .ensures) ∙ ap said (judged .given .1)) (rw (number-of .ensures) at (c .before .before .write-refused .ensures)),
+      counts _ _ (filled-within (c .before .before .write-refused .ensures)),
+    )
+
+same-length-2 : tie.Need-same-length-2
+same-length-2 c = search needs
+
+same-length-3 : tie.Need-same-length-3
+same-length-3 c = search needs
+
+returns-2 : tie.Need-returns-2
+returns-2 c =
+    let report-accepted = c .before .before .before .before .report-accepted in
+    (report-accepted .ensures, counts _ _ (filled-within (report-accepted .ensures .text)))
+
+pub report-spec : {M : Type 1} → statement M
+report-spec =
+    tie.close
+    (tie.spec
+    judge-requires
+    enum-known-judged
+    number-of-requires
+    write-refused-requires
+    enum-told
+    report-accepted-requires
+    same-length
+    returns
+    same-length-2
+    same-length-3
+    returns-2)

@@ -1,0 +1,59 @@
+// What `marks` prints of a sheet, written into a lent buffer: the sheet judged and run to its end.
+ghost use mathlib.Core.Path.{_≡_};
+ghost use Prim.Native.Nat.{_≤_};
+ghost use lib.ListN.{length};
+ghost use Rattle.io.specs.Counts.{Counts};
+ghost use Rattle.sheet.specs.Sections.{nodeCount};
+ghost use Rattle.sheet.specs.Answer.{refusalOf};
+ghost use Rattle.refusals.specs.Judgement.{Accepted};
+ghost use Rattle.answers.specs.Tables.{tableLength};
+ghost use Rattle.listing.specs.Listing.{listingOf, mostListing};
+ghost use Rattle.listing.specs.Written.{Filled};
+ghost use Rattle.report.specs.Report.{numberOf, endTable, Reported};
+use judge::Judged;
+use sheet::Fault;
+
+// How many words the table of the most nodes has.
+pub const MOST_TABLE: usize = 2057;
+
+fn number_of(fault: Fault) -> u8
+    ensures { λ r. ⌜ r ≡ numberOf (refusalOf fault) ⌝ }
+{
+    match fault {
+        Fault::Input(n) => n,
+        Fault::State(n) => n,
+    }
+}
+
+// Runs an accepted sheet to its end in a table of its size, and writes the listing.
+fn report_table(sheet: &[u8], nodes: usize, table: &mut [u32], out: &mut [u8]) -> usize
+    requires { ⌜ Accepted (now sheet) × (nodes ≡ nodeCount (now sheet)) × (length (now table) ≡ tableLength nodes) × (nodes ≤ 1024)
+        × (mostListing ≤ length (now out)) ⌝ }
+    ensures { λ r. ⌜ (now (table .exit) ≡ endTable (now (sheet .entry)))
+        × Filled (now (out .entry)) (listingOf (endTable (now (sheet .entry))) nodes) (now (out .exit)) r ⌝ }
+{
+    run::run(sheet, table);
+    listing::write_listing(table, nodes, out)
+}
+
+fn report_accepted(sheet: &[u8], table: &mut [u32], out: &mut [u8]) -> usize
+    requires { ⌜ Accepted (now sheet) × (tableLength 1024 ≤ length (now table)) × (mostListing ≤ length (now out)) ⌝ }
+    ensures { λ r. ⌜ Reported (now (sheet .entry)) (now (table .entry)) (now (out .entry)) (now (table .exit)) (now (out .exit)) r ⌝ }
+{
+    let nodes = sheet::node_count(sheet) as usize;
+    report_table(sheet, nodes, &mut table[..9 + 2 * nodes], out)
+}
+
+// Writes what is printed of a sheet to the front of the buffer, and returns how many bytes it has. The second promise follows from the first, in the
+// form in which a caller lends those bytes.
+pub fn report(sheet: &[u8], table: &mut [u32], out: &mut [u8]) -> usize
+    requires { ⌜ (tableLength 1024 ≤ length (now table)) × (mostListing ≤ length (now out)) ⌝ }
+    ensures { λ r. ⌜ Reported (now (sheet .entry)) (now (table .entry)) (now (out .entry)) (now (table .exit)) (now (out .exit)) r ⌝ }
+    ensures { λ r. ⌜ Counts r (now (out .exit)) ⌝ }
+{
+    let judged = judge::judge(sheet);
+    match judged {
+        Judged::Refused(fault) => listing::write_refused(number_of(fault), out),
+        Judged::Accepted => report_accepted(sheet, table, out),
+    }
+}

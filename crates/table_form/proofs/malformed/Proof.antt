@@ -1,0 +1,93 @@
+-- `malformed` meets its contract: the header's words, and then the nodes'. Assumes nothing.
+use mathlib.Core.Path.{sym, _∙_}
+use borrow.Author.Tests.{lt-ltb, le-ltb}
+use Rattle.refusals.proofs.Accepted.{few-nodes, few-arcs}
+use Rattle.answers.specs.Routes.{malformed}
+use borrow.Author.Needs.{needs}
+use native.Mathlib.Omega.{arith}
+use Rattle.table_form.proofs.malformed.Statement.{statement}
+use Rattle.table_form.proofs.malformed.Tie as tie
+
+wrong-kind-requires : tie.Need-wrong-kind-requires
+wrong-kind-requires c κs = search needs
+
+returns : tie.Need-returns
+unfolding malformed
+returns c = rw (sym (c .before .wrong-kind .ensures) ∙ c .if1 .taken)
+
+wrong-counts-requires : tie.Need-wrong-counts-requires
+wrong-counts-requires c κs = search needs
+
+returns-2 : tie.Need-returns-2
+unfolding malformed
+returns-2 c =
+    let wrong-kind = c .before .before .before .wrong-kind in
+    let status-kind = sym (wrong-kind .ensures) ∙ c .before .before .if1 .left in
+    rw (status-kind, sym (c .before .wrong-counts .ensures) ∙ c .if2 .taken)
+
+status-requires : tie.Need-status-requires
+status-requires c κs = search needs
+
+returns-3 : tie.Need-returns-3
+unfolding malformed
+returns-3 c =
+    let earlier = c .before .before .before .before in
+    let wrong-kind = earlier .before .wrong-kind in
+    let if1 = earlier .if1 in
+    let wrong-counts = c .before .before .before .wrong-counts in
+    let status-kind = sym (wrong-kind .ensures) ∙ if1 .left in
+    let count-kinds = sym (wrong-counts .ensures) ∙ c .before .before .if2 .left in
+    rw (status-kind, count-kinds, ← c .before .status .ensures, lt-ltb _ _ (c .if3 .taken))
+
+node-count-requires : tie.Need-node-count-requires
+node-count-requires c κs = search needs
+
+cast-wrong-nodes : tie.Need-cast-wrong-nodes
+cast-wrong-nodes c =
+    let earlier = c .before .before .before .before in
+    let early = earlier .before .before .before .before in
+    let pre = early .before .pre in
+    omega (arith, few-nodes _ (pre .accepted), c .node-count .ensures)
+
+cast-wrong-nodes-2 : tie.Need-cast-wrong-nodes-2
+cast-wrong-nodes-2 c =
+    let earlier = c .before .before .before .before in
+    let early = earlier .before .before .before .before in
+    let pre = early .before .before .pre in
+    omega (arith, few-arcs _ (pre .accepted), pre .located .arcs-all)
+
+wrong-nodes-requires : tie.Need-wrong-nodes-requires
+wrong-nodes-requires c κs = search needs
+
+returns-4 : tie.Need-returns-4
+unfolding malformed
+returns-4 c =
+    let earlier = c .before .before .before .before in
+    let early = earlier .before .before .before .before in
+    let wrong-kind = early .wrong-kind in
+    let if1 = earlier .before .before .before .if1 in
+    let wrong-counts = earlier .before .before .wrong-counts in
+    let if2 = earlier .before .if2 in
+    let status = earlier .status in
+    let if3 = c .before .before .before .if3 in
+    let pre = early .before .before .before .pre in
+    let status-kind = sym (wrong-kind .ensures) ∙ if1 .left in
+    let count-kinds = sym (wrong-counts .ensures) ∙ if2 .left in
+    rw (status-kind, count-kinds, ← status .ensures, le-ltb _ _ (if3 .left), ← c .before .before .node-count .ensures, ← pre .located .arcs-all)
+    (c .wrong-nodes .ensures)
+
+pub malformed-spec : {M : Type 1} → statement M
+malformed-spec =
+    tie.close
+    (tie.spec
+    wrong-kind-requires
+    returns
+    wrong-counts-requires
+    returns-2
+    status-requires
+    returns-3
+    node-count-requires
+    cast-wrong-nodes
+    cast-wrong-nodes-2
+    wrong-nodes-requires
+    returns-4)

@@ -1,0 +1,78 @@
+-- `not_shortest` meets its contract: the parts of the test in turn. Assumes nothing.
+use mathlib.Core.Path.{sym, ap, _∙_}
+use mathlib.Core.Bool.{not}
+use borrow.Author.Tests.{not-true, not-false}
+use Rattle.table_test.proofs.Parts.{shortest-parts}
+use borrow.Author.Needs.{needs}
+use Rattle.table_test.proofs.not_shortest.Statement.{statement}
+use Rattle.table_test.proofs.not_shortest.Tie as tie
+
+source-fits-requires : tie.Need-source-fits-requires
+source-fits-requires c κs = search needs
+
+returns : tie.Need-returns
+returns c =
+    let earlier = c .before .before .before .before in
+    let args = earlier .args in
+    rw (shortest-parts (args .s .now) (args .table .now), sym (c .before .source-fits .ensures) ∙ not-true _ (c .if1 .taken))
+
+nodes-fit-requires : tie.Need-nodes-fit-requires
+nodes-fit-requires c κs = search needs
+
+returns-2 : tie.Need-returns-2
+returns-2 c =
+    let earlier = c .before .before .before .before in
+    let source-fits = c .before .before .before .source-fits in
+    let args = earlier .before .before .args in
+    let source = sym (source-fits .ensures) ∙ not-false _ (c .before .before .if1 .left) in
+    rw (shortest-parts (args .s .now) (args .table .now), source, sym (c .before .nodes-fit .ensures) ∙ not-true _ (c .if2 .taken))
+
+arcs-relaxed-requires : tie.Need-arcs-relaxed-requires
+arcs-relaxed-requires c κs = search needs
+
+returns-3 : tie.Need-returns-3
+returns-3 c =
+    let earlier = c .before .before .before .before in
+    let early = earlier .before .before .before .before in
+    let source-fits = earlier .before .source-fits in
+    let if1 = earlier .if1 in
+    let nodes-fit = c .before .before .before .nodes-fit in
+    let args = early .args in
+    let source = sym (source-fits .ensures) ∙ not-false _ (if1 .left) in
+    let nodes = sym (nodes-fit .ensures) ∙ not-false _ (c .before .before .if2 .left) in
+    rw (shortest-parts (args .s .now) (args .table .now), source, nodes, sym (c .before .arcs-relaxed .ensures) ∙ not-true _ (c .if3 .taken))
+
+nodes-led-requires : tie.Need-nodes-led-requires
+nodes-led-requires c κs =
+    let earlier = c .before .before .before .before in
+    let early = earlier .before .before .before .before in
+    let pre = early .pre in
+    let nodes-fit = c .before .before .before .nodes-fit in
+    record { fitting = pre; fit = sym (nodes-fit .ensures) ∙ not-false _ (c .before .before .if2 .left) }
+
+returns-4 : tie.Need-returns-4
+returns-4 c =
+    let earlier = c .before .before .before .before in
+    let early = earlier .before .before .before .before in
+    let source-fits = earlier .before .before .source-fits in
+    let if1 = earlier .before .if1 in
+    let nodes-fit = earlier .nodes-fit in
+    let if2 = c .before .before .before .if2 in
+    let args = early .before .args in
+    let source = sym (source-fits .ensures) ∙ not-false _ (if1 .left) in
+    let nodes = sym (nodes-fit .ensures) ∙ not-false _ (if2 .left) in
+    let relaxed = sym (c .before .before .arcs-relaxed .ensures) ∙ not-false _ (c .before .if3 .left) in
+    rw (shortest-parts (args .s .now) (args .table .now), source, nodes, relaxed) (ap not (c .nodes-led .ensures))
+
+pub not-shortest-spec : {M : Type 1} → statement M
+not-shortest-spec =
+    tie.close
+    (tie.spec
+    source-fits-requires
+    returns
+    nodes-fit-requires
+    returns-2
+    arcs-relaxed-requires
+    returns-3
+    nodes-led-requires
+    returns-4)

@@ -1,0 +1,113 @@
+"""Writes the cases of crates/marks_cases: stdin, a sheet in hexadecimal a line, and stdout, what `marks` prints of each.
+
+What is expected comes from tests/procedure.py. It has to agree with every line of tests/marks_vectors.txt and with each text that a case
+states, and what is printed of an ended run has to be shortest. Otherwise the script stops and writes nothing.
+Run it by `python3 tests/marks_cases.py`: it writes the same files each time.
+"""
+import sys
+
+from cases import bytes_in, data, digits_of, hold, write_cases
+from paper import judge
+from procedure import NONE, Hall, Run, shortest
+from sheets import (
+    FAULTS, HALL_A, Chance, balanced, chain, changed, divided, flat, halving, ladder, one_deep, packed, random_arcs, random_regions, two_each_way,
+    with_faults,
+)
+
+
+def printed(sheet):
+    """What `marks` prints, without its last line end."""
+    number = judge(sheet)
+    if number:
+        return 'refused %d' % number
+    hall = Hall(sheet)
+    run = Run(hall)
+    while not run.ended():
+        run.round()
+    if not shortest(hall, run.labels, run.feeding):
+        sys.exit('not shortest: %s' % sheet.hex()[:300])
+    lines = ['ended rounds %d leaves %d inner %d updates %d' % (run.rounds, run.leaves, run.inner, run.updates)]
+    for node, values in enumerate(zip(run.labels, run.feeding)):
+        lines.append(' '.join([str(node)] + ['-' if value == NONE else str(value) for value in values]))
+    return '\n'.join(lines)
+
+
+# Each family yields sheets, each with the text stated, None where the procedure alone says it.
+
+def marked():
+    yield packed(HALL_A), 'ended rounds 3 leaves 5 inner 6 updates 13\n0 0 -\n1 3 2\n2 1 1\n3 8 3'
+    yield packed([0x10000001, 0x20000000, 0x30000001]), 'ended rounds 0 leaves 0 inner 0 updates 0\n0 0 -'
+    yield packed([0x10000001, 0x20000000]), 'refused 14'
+    for at, word, number in ((0, 1 << 28, 4), (0, 1 << 28 | 1025, 4), (5, 5 << 28 | 262144, 9), (17, 0x70001001, 12), (2, 3 << 28, 6)):
+        yield packed(changed(HALL_A, at, word)), 'refused %d' % number
+    yield packed(HALL_A + [0x60000000]), 'refused 13'
+    for at, word in ((0, 1 << 28 | 1024), (5, 5 << 28 | 262143)):
+        yield packed(changed(HALL_A, at, word)), None
+
+
+def refused():
+    for number, changes in FAULTS.items():
+        for change in changes:
+            yield with_faults(change), 'refused %d' % number
+    yield with_faults(), None
+
+
+def sizes():
+    """Byte counts about the longest sheet, and input that goes on after it."""
+    hall = packed(HALL_A)
+    yield b'', 'refused 2'
+    for size in range(1, 4):
+        yield hall[:size], 'refused 1'
+        yield hall + hall[:size], 'refused 1'
+    yield hall.ljust(32_828, b'\0'), 'refused 2'
+    for size in (32_827, 32_829, 32_831, 32_832, 32_833, 40_000, 65_536):
+        yield hall.ljust(size, b'\0'), 'refused 1'
+
+
+def small_halls():
+    chance = Chance(5)
+    lengths = [[0], [0, 1], [1, 2, 5], [262143], list(range(0, 262144, 4099))]
+    for turn in range(80):
+        nodes = 2 + chance.below(12)
+        count = 1 + chance.below(2 * nodes)
+        arcs = random_arcs(chance, nodes, count, lengths[turn % 5])
+        shapes = [flat(count), chain(1 + turn % 15, count), ladder(1 + turn % 15, count), balanced(2, list(range(count))), random_regions(chance, count)[0]]
+        yield divided(nodes, chance.below(nodes), arcs, shapes[turn % 5], lambda h: 1 + chance.below(3)), None
+
+
+def full_size():
+    chance = Chance(6)
+    mixed = random_arcs(chance, 1024, 2048, list(range(1000)))
+    wide = random_arcs(chance, 1024, 2048, list(range(262144)))
+    longest = [(v, v + 1, 262143) for v in range(1023)] + [(v + 1, v, 0) for v in range(1023)]
+    yield divided(1024, 0, longest, balanced(4, chance.shuffled(range(2046))), lambda h: 1 + h), None
+    yield divided(1024, 1023, two_each_way(1024), one_deep(2032), lambda h: 1_000_000), None
+    yield divided(1024, 5, wide, halving(), lambda h: 1), None
+    yield divided(1024, 9, mixed, flat(2048), lambda h: 2), None
+    yield divided(1024, 700, wide, balanced(13, chance.shuffled(range(2048))), lambda h: 1 + chance.below(1_000_000)), None
+    yield divided(1024, 1, longest[:1], flat(1), lambda h: 1), None
+
+
+FAMILIES = [marked, refused, sizes, small_halls, full_size]
+
+
+def vectors():
+    for line in data('marks_vectors.txt'):
+        digits, text = line.split(' ', 1)
+        yield bytes_in(digits), text.replace('|', '\n')
+
+
+def checked(family):
+    """The cases of a family with the texts expected."""
+    for sheet, stated in family():
+        case, text = digits_of(sheet), printed(sheet)
+        hold(family, case, text, stated)
+        yield case, text
+
+
+def kind(text):
+    return text if text.startswith('refused') else text.split(' ')[0]
+
+
+if __name__ == '__main__':
+    write_cases('marks_cases', [vectors], FAMILIES, checked, kind)
