@@ -1,0 +1,73 @@
+"""Checks the samples: what `./mark` prints for each samples/NAME.hex is samples/NAME.txt, and that is what the procedure of tests/procedure.py gives.
+
+It also tries `./mark` on files that hold something else than words. Run it by `python3 tests/samples.py`; with `--write` it writes the .txt
+files from tests/procedure.py, which shares nothing with the Rattle code.
+"""
+import re
+import subprocess
+import sys
+import tempfile
+from pathlib import Path
+
+from paper import judge
+from procedure import NONE, Hall, Run, distances
+
+ROOT = Path(__file__).resolve().parent.parent
+
+
+def sheet_of(text):
+    return bytes.fromhex(''.join(re.sub('#.*', '', text).split()))
+
+
+def shown(number):
+    return '-' if number == NONE else str(number)
+
+
+def listing(sheet):
+    """What `marks` is to print, as the paper has it."""
+    number = judge(sheet)
+    if number:
+        return f'refused {number}\n'
+    hall = Hall(sheet)
+    run = Run(hall)
+    while not run.ended():
+        run.round()
+    assert run.labels == distances(hall)
+    lines = [f'ended rounds {run.rounds} leaves {run.leaves} inner {run.inner} updates {run.updates}']
+    lines += [f'{node} {shown(label)} {shown(arc)}' for node, (label, arc) in enumerate(zip(run.labels, run.feeding))]
+    return '\n'.join(lines) + '\n'
+
+
+def mark(path):
+    done = subprocess.run([ROOT / 'mark', path], capture_output=True, text=True)
+    return done.returncode, done.stdout, done.stderr
+
+
+def refuses(text, line):
+    """A file that holds something else than words is refused before the program runs, in one line that names the file's line."""
+    with tempfile.NamedTemporaryFile('w', suffix='.hex') as file:
+        file.write(text)
+        file.flush()
+        status, out, err = mark(file.name)
+    return status == 1 and not out and err.count('\n') == 1 and f'line {line}:' in err
+
+
+def main():
+    wrong = []
+    samples = sorted((ROOT / 'samples').glob('*.hex'))
+    for path in samples:
+        expected, beside = listing(sheet_of(path.read_text())), path.with_suffix('.txt')
+        if '--write' in sys.argv[1:]:
+            beside.write_text(expected)
+        if beside.read_text() != expected:
+            wrong.append(f'{beside.name} is not what the procedure gives')
+        if mark(path) != (0, expected, ''):
+            wrong.append(f'./mark {path.name} prints something else')
+    refused = [('10000001\n\n2000000g\n', 3), ('1000000120000000\n', 1), ('# a comment\n10000001 2000 # another\n', 2), ('10000001\n-\n', 2)]
+    wrong += [f'{text!r} is not refused' for text, line in refused if not refuses(text, line)]
+    if wrong:
+        sys.exit('\n'.join(wrong))
+    print(f'{len(samples)} samples and {len(refused)} files that are no sheets: as expected')
+
+
+main()
