@@ -5,14 +5,14 @@ use mathlib.Core.Path.{_≡_, refl}
 use lib.ListN.{replicate}
 use Rattle.indices.specs.Columns.{column}
 use Rattle.indices.specs.Steps.{upTo, times}
-use Rattle.indices.specs.Tests.{any, count, lead, most}
+use Rattle.indices.specs.Tests.{all, any, count, lead, most}
 use Rattle.sheet.specs.Words.{word, kind, payload, top}
 use Rattle.sheet.specs.Sections.{spansFrom, arcsFrom, regionWords}
 use Rattle.sheet.specs.Arcs.{tail, head, arcLength}
 use Rattle.sheet.specs.Heights.{heightIn, heightOf}
 use Rattle.sheet.specs.Regions.{leafWord, parentWord, arcWord}
 use Rattle.sheet.specs.Samples.{bytesOf, mostOfHallA, hallA, oneNode}
-use Rattle.sheet.specs.Answer.{input, Answer, accepted, ended, paused, refused}
+use Rattle.sheet.specs.Answer.{input, state, Answer, accepted, ended, paused, route, refused}
 use Rattle.refusals.specs.Form.{wrongSize, outOfOrder, bitSet, nodesOutside, sourceOutside, spansOutside, tooMany}
 use Rattle.refusals.specs.Fields.{endsOutside, lengthsOutside, crowdedNodes, tooManyAtNode}
 use Rattle.refusals.specs.Nesting.{wrongParents, wrongLeaves, childlessRegions, spansDiffer}
@@ -23,13 +23,19 @@ use Rattle.procedure.specs.Queues.{before, choose, minItemBelow, minItem, minKe
 use Rattle.procedure.specs.Procedure.{relax, clearKey, processLeaf, rewriteKey, countInner, countRound, processChild, alive, ended as hasEnded}
 use Rattle.procedure.specs.Procedure.{enoughRounds, processFor, process, start, round, after}
 use Rattle.procedure.specs.Table.{nodeWords, tableOf}
-use Rattle.answers.specs.Tables.{tableLength, wrongLength}
+use Rattle.procedure.specs.Routes.{followed}
+use Rattle.shortest.specs.TableTest.{leadsBack, sourceTest, unfedTest, fedTest, relaxedTest, ledTest, settled?}
+use Rattle.answers.specs.Tables.{tableLength, wrongLength, labelsIn, predecessorsIn}
 use Rattle.answers.specs.Runs.{runRefusals, runAnswer, runTable, tableAfter}
+use Rattle.answers.specs.Routes.{nodeOutside, wrongNode, isPaused, malformed, notShortest, tableRefusals, routeRefusals, routeTo, foundRoute}
+use Rattle.answers.specs.Routes.{routeAnswer, leftBy, bufferAfter}
 
--- a call: to judge a sheet, given by its words; to run it for at most so many rounds, with a table lent
+-- a call: to judge a sheet, given by its words; to run it for at most so many rounds, with a table lent; to read the route to a node out of a table, with
+-- a buffer lent
 pub data Call : Type 0 where
   judge : List ℕ → Call
   run : List ℕ → ℕ → List ℕ → Call
+  readRoute : List ℕ → List ℕ → ℕ → List ℕ → Call
 
 -- what comes of it: the answer, and the words of what was lent
 record Outcome : Type 0 where
@@ -39,6 +45,8 @@ record Outcome : Type 0 where
 abbrev outcome : Call → Outcome
 outcome (judge ws) = record { answer = judgement (bytesOf ws); words = [] }
 outcome (run ws k table) = record { answer = runAnswer (bytesOf ws) k table; words = tableAfter (bytesOf ws) k table }
+outcome (readRoute ws table node buffer) =
+    record { answer = routeAnswer (bytesOf ws) table node buffer; words = bufferAfter (bytesOf ws) table node buffer }
 
 record Row : Type 0 where
   call : Call
@@ -62,16 +70,29 @@ loop length = 0x10000001 ∷ 0x20000000 ∷ 0x30000001 ∷ 0x40000000 ∷ length
 abbrev blank : ℕ → List ℕ
 blank n = replicate (tableLength n) 0
 
+-- A's finished table, node 3 labelled as said
+abbrev finishedA : ℕ → List ℕ
+finishedA label =
+    0x80000001 ∷ 0xb0000000 ∷ 0xb0000003 ∷ 0xb0000000 ∷ 0xb0000005 ∷ 0xb0000000 ∷ 0xb0000006 ∷ 0xb0000000 ∷ 0xb000000d
+    ∷ 0x90000000 ∷ 0xafffffff ∷ 0x90000003 ∷ 0xa0000002 ∷ 0x90000001 ∷ 0xa0000001 ∷ label ∷ 0xa0000003 ∷ []
+
+-- nodes 1 and 2 joined by zero arcs both ways; and each fed from the other, at 7
+abbrev cutOff : List ℕ
+cutOff =
+    0x10000003 ∷ 0x20000000 ∷ 0x30000001 ∷ 0x40000402 ∷ 0x50000000 ∷ 0x40000801 ∷ 0x50000000 ∷ 0x70000000 ∷ 0x70000001 ∷ []
+
+abbrev ring : List ℕ
+ring =
+    0x80000001 ∷ 0xb0000000 ∷ 0xb0000000 ∷ 0xb0000000 ∷ 0xb0000000 ∷ 0xb0000000 ∷ 0xb0000000 ∷ 0xb0000000 ∷ 0xb0000000
+    ∷ 0x90000000 ∷ 0xafffffff ∷ 0x90000007 ∷ 0xa0000001 ∷ 0x90000007 ∷ 0xa0000000 ∷ []
+
 abbrev rows : List Row
 rows =
     -- hall A, and the one-node hall
     judge hallA is accepted
     ∷ judge oneNode is accepted
     -- "A to its end, as printed."
-    ∷ run hallA enoughRounds (blank 4) is ended leaving (
-    0x80000001 ∷ 0xb0000000 ∷ 0xb0000003 ∷ 0xb0000000 ∷ 0xb0000005 ∷ 0xb0000000 ∷ 0xb0000006 ∷ 0xb0000000 ∷ 0xb000000d
-    ∷ 0x90000000 ∷ 0xafffffff ∷ 0x90000003 ∷ 0xa0000002 ∷ 0x90000001 ∷ 0xa0000001 ∷ 0x90000008 ∷ 0xa0000003 ∷ []
-    )
+    ∷ run hallA enoughRounds (blank 4) is ended leaving finishedA 0x90000008
     -- "A, k = 1: paused; counts 1, 2, 2, 8; labels 0, 4, unreached, 9."
     ∷ run hallA 1 (blank 4) is paused leaving (
     0x80000000 ∷ 0xb0000000 ∷ 0xb0000001 ∷ 0xb0000000 ∷ 0xb0000002 ∷ 0xb0000000 ∷ 0xb0000002 ∷ 0xb0000000 ∷ 0xb0000008
@@ -99,6 +120,13 @@ rows =
     -- "A with last word `70001001`: 12." "A with `60000000` added: 13."
     ∷ judge (mostOfHallA ++ (0x70001001 ∷ [])) is refused (input 12)
     ∷ judge (hallA ++ (0x60000000 ∷ [])) is refused (input 13)
+    -- "Route to node 3 in A: arcs 1, 2, 3." The rest of the buffer stays. "Into two words: 25."
+    ∷ readRoute hallA (finishedA 0x90000008) 3 (0 ∷ 0 ∷ 0 ∷ 7 ∷ []) is route 3 leaving (1 ∷ 2 ∷ 3 ∷ 7 ∷ [])
+    ∷ readRoute hallA (finishedA 0x90000008) 3 (0 ∷ 7 ∷ []) is refused (state 25) leaving (0 ∷ 7 ∷ [])
+    -- "A's finished table with node 3 at 9: 24."
+    ∷ readRoute hallA (finishedA 0x90000009) 3 (0 ∷ 0 ∷ 7 ∷ []) is refused (state 24) leaving (0 ∷ 0 ∷ 7 ∷ [])
+    -- "Nodes 1 and 2 joined by zero arcs both ways, cut off from the source, in a table that feeds each from the other at 7: 24."
+    ∷ readRoute cutOff ring 1 (0 ∷ 7 ∷ []) is refused (state 24) leaving (0 ∷ 7 ∷ [])
     -- "Span 0: 6."
     ∷ judge (0x10000001 ∷ 0x20000000 ∷ 0x30000000 ∷ []) is refused (input 6)
     ∷ []
@@ -109,5 +137,6 @@ unfolding any count lead most upTo times column word kind payload top spansFrom 
     spansOutside tooMany endsOutside lengthsOutside crowdedNodes tooManyAtNode wrongParents wrongLeaves childlessRegions spansDiffer leafOf graphOf
     divisionOf spansOf before choose minItemBelow minItem minKey write updateFor update updateArc updateOutgoing relax clearKey processLeaf rewriteKey
     countInner countRound processChild alive hasEnded processFor process start round after nodeWords tableOf wrongLength runRefusals runAnswer runTable
-    tableAfter
+    tableAfter all labelsIn predecessorsIn followed leadsBack sourceTest unfedTest fedTest relaxedTest ledTest settled? nodeOutside wrongNode isPaused
+    malformed notShortest tableRefusals routeRefusals routeTo foundRoute routeAnswer leftBy bufferAfter
 marked = refl

@@ -2,3 +2,4 @@ pub mod Delivered
 pub mod Limited
 pub mod Halls
 pub mod Agree
+pub mod Finished
