@@ -7,29 +7,11 @@ Run it by `python3 tests/marks_cases.py`: it writes the same files each time.
 import sys
 
 from cases import bytes_in, data, digits_of, hold, write_cases
-from paper import judge
-from procedure import NONE, Hall, Run, shortest
+from procedure import printed
 from sheets import (
     FAULTS, HALL_A, Chance, balanced, chain, changed, divided, flat, halving, ladder, one_deep, packed, random_arcs, random_regions, two_each_way,
     with_faults,
 )
-
-
-def printed(sheet):
-    """What `marks` prints, without its last line end."""
-    number = judge(sheet)
-    if number:
-        return 'refused %d' % number
-    hall = Hall(sheet)
-    run = Run(hall)
-    while not run.ended():
-        run.round()
-    if not shortest(hall, run.labels, run.feeding):
-        sys.exit('not shortest: %s' % sheet.hex()[:300])
-    lines = ['ended rounds %d leaves %d inner %d updates %d' % (run.rounds, run.leaves, run.inner, run.updates)]
-    for node, values in enumerate(zip(run.labels, run.feeding)):
-        lines.append(' '.join([str(node)] + ['-' if value == NONE else str(value) for value in values]))
-    return '\n'.join(lines)
 
 
 # Each family yields sheets, each with the text stated, None where the procedure alone says it.
@@ -100,7 +82,7 @@ def vectors():
 def checked(family):
     """The cases of a family with the texts expected."""
     for sheet, stated in family():
-        case, text = digits_of(sheet), printed(sheet)
+        case, text = digits_of(sheet), '\n'.join(printed(sheet))
         hold(family, case, text, stated)
         yield case, text
 

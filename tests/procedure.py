@@ -156,6 +156,23 @@ def distances(hall):
     return found
 
 
+def printed(sheet):
+    """The lines that `marks` prints. An ended run is held to `shortest`."""
+    number = judge(sheet)
+    if number:
+        return ['refused %d' % number]
+    hall = Hall(sheet)
+    run = Run(hall)
+    while not run.ended():
+        run.round()
+    if not shortest(hall, run.labels, run.feeding):
+        raise SystemExit('not shortest: %s' % sheet.hex()[:300])
+    lines = ['ended rounds %d leaves %d inner %d updates %d' % (run.rounds, run.leaves, run.inner, run.updates)]
+    for node, values in enumerate(zip(run.labels, run.feeding)):
+        lines.append(' '.join([str(node)] + ['-' if value == NONE else str(value) for value in values]))
+    return lines
+
+
 def table_size(nodes):
     return HEADER + 2 * nodes
 

@@ -10,7 +10,7 @@ import sys
 
 from cases import bytes_in, data, digits_of, digits_of_words, hold, write_cases
 from paper import judge
-from procedure import HEADER, NONE, Hall, PlainRun, Run, distances, shortest, table_refusal, table_size, tables
+from procedure import HEADER, Hall, PlainRun, distances, printed, shortest, table_refusal, table_size, tables
 from sheets import (
     FAULTS, HALL_A, Chance, alternate, balanced, chain, changed, divided, flat, halving, ladder, many_chains, one_deep, packed,
     random_arcs, random_regions, sheet_of, side_by_side, single_children, two_each_way, with_faults, woken,
@@ -181,25 +181,12 @@ def limited_vectors():
 def marks_vectors():
     """The sheets of the vectors of `marks`, to their end, where what it prints is what the procedure says."""
     for line in data('marks_vectors.txt'):
-        digits, printed = line.split(' ', 1)
+        digits, stated = line.split(' ', 1)
         sheet = bytes_in(digits)
-        if '|'.join(marks(sheet)) != printed:
-            sys.exit('marks prints %s: %s' % ('|'.join(marks(sheet))[:200], line[:200]))
+        found = '|'.join(printed(sheet))
+        if found != stated:
+            sys.exit('marks prints %s: %s' % (found[:200], line[:200]))
         yield sheet, [(None, 25 if judge(sheet) else right(sheet), None)]
-
-
-def marks(sheet):
-    """The lines that `marks` prints."""
-    number = judge(sheet)
-    if number:
-        return ['refused %d' % number]
-    run = Run(Hall(sheet))
-    while not run.ended():
-        run.round()
-    lines = ['ended rounds %d leaves %d inner %d updates %d' % (run.rounds, run.leaves, run.inner, run.updates)]
-    for node, values in enumerate(zip(run.labels, run.feeding)):
-        lines.append(' '.join([str(node)] + ['-' if value == NONE else str(value) for value in values]))
-    return lines
 
 
 # What is expected.

@@ -9,33 +9,13 @@ import sys
 import tempfile
 from pathlib import Path
 
-from paper import judge
-from procedure import NONE, Hall, Run, distances
+from procedure import printed
 
 ROOT = Path(__file__).resolve().parent.parent
 
 
 def sheet_of(text):
     return bytes.fromhex(''.join(re.sub('#.*', '', text).split()))
-
-
-def shown(number):
-    return '-' if number == NONE else str(number)
-
-
-def listing(sheet):
-    """What `marks` is to print, as the paper has it."""
-    number = judge(sheet)
-    if number:
-        return f'refused {number}\n'
-    hall = Hall(sheet)
-    run = Run(hall)
-    while not run.ended():
-        run.round()
-    assert run.labels == distances(hall)
-    lines = [f'ended rounds {run.rounds} leaves {run.leaves} inner {run.inner} updates {run.updates}']
-    lines += [f'{node} {shown(label)} {shown(arc)}' for node, (label, arc) in enumerate(zip(run.labels, run.feeding))]
-    return '\n'.join(lines) + '\n'
 
 
 def mark(path):
@@ -56,7 +36,7 @@ def main():
     wrong = []
     samples = sorted((ROOT / 'samples').glob('*.hex'))
     for path in samples:
-        expected, beside = listing(sheet_of(path.read_text())), path.with_suffix('.txt')
+        expected, beside = '\n'.join(printed(sheet_of(path.read_text()))) + '\n', path.with_suffix('.txt')
         if '--write' in sys.argv[1:]:
             beside.write_text(expected)
         if beside.read_text() != expected:

@@ -1,14 +1,14 @@
 // The division checker: refusals 11 to 14, over the part of the sheet after the last arc, and the bits of a leaf's word.
 // Word k of that part is region k + 1. Every check is linear in the words.
 ghost use mathlib.Core.Path.{_≡_};
-ghost use mathlib.Core.Bool.{Bool, true, false, cond};
-ghost use Prim.Native.Nat.{ℕ, suc, max, _+_, _≤_, _<_};
+ghost use mathlib.Core.Bool.{true, false, cond};
+ghost use Prim.Native.Nat.{suc, max, _+_, _≤_, _<_};
 ghost use lib.ListN.{length};
 ghost use Rattle.indices.specs.Tests.{any};
 ghost use Rattle.indices.specs.Tally.{Tally};
 ghost use Rattle.sheet.specs.Limits.{mostArcs, mostRegionWords};
 ghost use Rattle.sheet.specs.Words.{words};
-ghost use Rattle.sheet.specs.Regions.{isLeaf, parent, height};
+ghost use Rattle.sheet.specs.Regions.{parent, height};
 ghost use Rattle.sheet.specs.Answer.{numbered, accepted, lowest};
 ghost use Rattle.refusals.specs.Nesting.{wrongParent, wrongParents, notOneLeaf, childlessRegions};
 ghost use Rattle.refusals.specs.Judgement.{divisionRefusals};

@@ -1,5 +1,5 @@
 -- What the start rests on: filled slices and cleared queues are the start before its updates. Assumes nothing.
-use Prim.Native.Nat.{ℕ, _^_, _≤_, _<_}
+use Prim.Native.Nat.{ℕ, _≤_, _<_}
 use mathlib.Core.Path.{_≡_, refl, sym, ap, _∙_}
 use mathlib.Core.List.{List}
 use native.Mathlib.Omega.{arith}
@@ -14,8 +14,8 @@ use Rattle.procedure.specs.Procedure.{start}
 use Rattle.theory.specs.Counts.{Small}
 use Rattle.theory.proofs.Final.{no-rounds, after-small}
 use Rattle.queue.specs.Trees.{QueuesOk}
-use Rattle.slices.specs.Tables.{Tables, Tabled}
-use Rattle.slices.specs.States.{queuesOf, stateOf, Updatable, UpdatingOutgoing, Queued, Computed, Blank}
+use Rattle.slices.specs.Tables.{Tables}
+use Rattle.slices.specs.States.{queuesOf, stateOf, UpdatingOutgoing, Queued, Computed, Blank}
 
 -- at most four arcs leave a node
 pub few-out : mostArcsEachWay ≤ 4

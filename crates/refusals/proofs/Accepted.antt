@@ -13,7 +13,6 @@ use Rattle.sheet.specs.Sections.{nodeCount, source, spanCount, span, arcCount, 
 use Rattle.sheet.specs.Arcs.{tail, head, arcLength}
 use Rattle.sheet.specs.Heights.{Nesting}
 use Rattle.sheet.specs.Regions.{regionCount, leafWord, arcWord, isLeaf, parent, height}
-use Rattle.sheet.specs.Answer.{accepted}
 use Rattle.sheet.proofs.Lowest.{clear-at}
 use Rattle.sheet.proofs.Heights.{child-lower, root-highest}
 use Rattle.refusals.specs.Form.{outOfOrder, nodesOutside, sourceOutside, spansOutside, tooMany}

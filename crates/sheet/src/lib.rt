@@ -1,8 +1,7 @@
 // The sheet: its words, its sections and their fields. A sheet is lent as its bytes.
 ghost use mathlib.Core.Path.{_≡_};
-ghost use mathlib.Core.Bool.{Bool, _&&_};
-ghost use Prim.Native.Nat.{ℕ, _+_, _-_, _*_, _≤_, _<_};
-ghost use lib.ListN.{length};
+ghost use mathlib.Core.Bool.{_&&_};
+ghost use Prim.Native.Nat.{_+_, _-_, _*_, _≤_, _<_};
 ghost use lib.Dec.{eqb};
 ghost use Rattle.sheet.specs.Words.{words, word, kindOf, payloadOf, kind, payload};
 ghost use Rattle.sheet.specs.Sections.{Located, stepAt, partAfter, nodeCount, source, spansFrom, arcsFrom, span, arcCount};

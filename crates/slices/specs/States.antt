@@ -1,5 +1,5 @@
 -- The slices that a run changes, with the tables, as a state of the procedure; and what each function asks and gives. Definitions; assumes nothing.
-use Prim.Native.Nat.{ℕ, _+_, _^_, _≤_, _<_}
+use Prim.Native.Nat.{ℕ, _^_, _≤_, _<_}
 use mathlib.Core.Path.{_≡_}
 use mathlib.Core.List.{List}
 use lib.ListN.{length}

@@ -5,7 +5,6 @@ use mathlib.Core.Bool.{true, false, true≢false}
 use mathlib.Core.Path.{_≡_, refl, sym, ap, _∙_}
 use mathlib.Core.Logic.{_≢_, ⊎-elim}
 use mathlib.Core.List.{List}
-use native.Mathlib.Nat.{le-refl}
 use native.Mathlib.Numerals.{add-one}
 use native.Mathlib.Omega.{arith}
 use lib.ListN.{length, set, length-set}
@@ -15,11 +14,10 @@ use Rattle.indices.specs.Columns.{at}
 use Rattle.indices.specs.Steps.{if_then_else_, upTo}
 use Rattle.indices.proofs.Steps.{upTo-cong, eq-or-ne}
 use Rattle.sheet.specs.Words.{top}
-use Rattle.procedure.specs.Graph.{Graph, arcs, tail}
+use Rattle.procedure.specs.Graph.{Graph, arcs}
 use Rattle.procedure.specs.Division.{Division, regions, parent, arcOf, isLeaf, leafOf}
 use Rattle.procedure.specs.State.{Queues}
 use Rattle.procedure.specs.Queues.{minKey, write, update, updateArc, updateOutgoing}
-use Rattle.procedure.specs.WellFormed.{DivisionOk}
 use Rattle.theory.proofs.Chosen.{minKey-leaf}
 use Rattle.theory.proofs.Update.{write-leaf, write-inner, write-counts, update-grows, update-rises, update-stops, update-elim}
 use Rattle.theory.proofs.Outgoing.{arc-leaf-test}
