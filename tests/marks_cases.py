@@ -4,7 +4,6 @@ What is expected comes from tests/procedure.py. It has to agree with every line 
 states, and what is printed of an ended run has to be shortest. Otherwise the script stops and writes nothing.
 Run it by `python3 tests/marks_cases.py`: it writes the same files each time.
 """
-import sys
 
 from cases import bytes_in, data, digits_of, hold, write_cases
 from procedure import printed
