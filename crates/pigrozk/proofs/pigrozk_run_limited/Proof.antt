@@ -1,0 +1,23 @@
+-- `pigrozk_run_limited` meets its contract: the code of the run's answer. Assumes nothing.
+use mathlib.Core.Path.{ap, _∙_}
+use borrow.Author.Needs.{needs}
+use Rattle.pigrozk.specs.Codes.{codeOf}
+use Rattle.pigrozk.proofs.pigrozk_run_limited.Statement.{statement}
+use Rattle.pigrozk.proofs.pigrozk_run_limited.Tie as tie
+
+run-limited-requires : tie.Need-run-limited-requires
+run-limited-requires c κs = search needs
+
+ran-code-requires : tie.Need-ran-code-requires
+ran-code-requires c κs = search needs
+
+same-length : tie.Need-same-length
+same-length c = search needs
+
+returns : tie.Need-returns
+returns c =
+    let done = c .before .before .before .run-limited .ensures in
+    (c .ran-code .ensures ∙ ap codeOf (done .0), done .1, done .2)
+
+pub pigrozk-run-limited-spec : {M : Type 1} → statement M
+pigrozk-run-limited-spec = tie.close (tie.spec run-limited-requires ran-code-requires same-length returns)

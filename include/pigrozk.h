@@ -1,0 +1,76 @@
+/* Travel times by nested regions: the four calls, for C and C++.
+ *
+ * Link target/staticlib/libpigrozk.a, which `rt staticlib pigrozk` writes; it needs no other library. It is for x86-64.
+ *
+ * A sheet is bytes, each word of 32 bits with its most significant byte first. A table and a buffer are words in the machine's own order.
+ * What is lent is a pointer and a length: of a sheet in bytes, of a table or a buffer in words. There is no other precondition than that
+ * of any such pair: the pointer is not null, even where the length is 0, it is aligned for its type, that many items lie behind it, and what
+ * is written (the table of a run, the buffer of a route) overlaps nothing else that is lent. Each call answers for every content and every
+ * length, and ends. Nothing is allocated or kept, so calls may be made in any number of threads.
+ *
+ * Each call returns one of the codes below. A refusal leaves all that was lent as it was.
+ */
+#ifndef PIGROZK_H
+#define PIGROZK_H
+
+#include <stddef.h>
+#include <stdint.h>
+
+#ifdef __cplusplus
+extern "C" {
+#endif
+
+/* The limits of a sheet that is accepted. */
+#define PIGROZK_MOST_BYTES 32828
+#define PIGROZK_MOST_NODES 1024
+#define PIGROZK_MOST_SPANS 15
+#define PIGROZK_MOST_SPAN 1000000
+#define PIGROZK_MOST_ARCS 2048
+#define PIGROZK_MOST_LENGTH 262143
+#define PIGROZK_MOST_REGION_WORDS 4094
+
+/* How many words a table has, for a sheet of n nodes: exactly so many, or a call answers 21. */
+#define PIGROZK_TABLE_WORDS(n) (9 + 2 * (size_t)(n))
+#define PIGROZK_MOST_TABLE_WORDS 2057
+
+/* A buffer of so many words has room for every route. */
+#define PIGROZK_MOST_ROUTE_WORDS 1023
+
+/* The words of a table: the top 4 bits are the kind, the low 28 the payload. Place 0 has kind 8: 1 ended, 0 paused. Places 1 to 8 have kind 11: rounds,
+ * leaves worked, inner regions worked, updates, each as its high 28 bits, then its low 28. Then for each node a word of kind 9, its distance, and one of
+ * kind 10, its feeding arc. */
+#define PIGROZK_KIND(word) ((uint32_t)(word) >> 28)
+#define PIGROZK_PAYLOAD(word) ((uint32_t)(word) & 268435455u)
+/* The payload that says 'unreached' in kind 9 and 'no arc' in kind 10. */
+#define PIGROZK_NONE 268435455u
+
+/* The codes. A number from 1 to 99 is that of a refusal: 1 to 15 the input was at fault, 21 to 25 the state. */
+#define PIGROZK_IS_REFUSED(code) ((code) < 100u)
+#define PIGROZK_ACCEPTED 256u
+#define PIGROZK_PAUSED 257u
+#define PIGROZK_ENDED 258u
+#define PIGROZK_NO_ROUTE 259u
+/* A route: 65,536 and the count of its arcs. */
+#define PIGROZK_ROUTE 65536u
+#define PIGROZK_IS_ROUTE(code) ((code) >= PIGROZK_ROUTE)
+#define PIGROZK_ROUTE_ARCS(code) ((code) - PIGROZK_ROUTE)
+
+/* Judges a sheet: accepted, or a refusal from 1 to 14. */
+uint32_t pigrozk_judge(const uint8_t *sheet, size_t sheet_bytes);
+
+/* Runs a sheet to its end: ended, or a refusal from 1 to 14 or 21. */
+uint32_t pigrozk_run(const uint8_t *sheet, size_t sheet_bytes, uint32_t *table, size_t table_words);
+
+/* Runs a sheet for at most so many rounds: ended, paused, or a refusal from 1 to 14 or 21. */
+uint32_t pigrozk_run_limited(const uint8_t *sheet, size_t sheet_bytes, uint32_t rounds, uint32_t *table, size_t table_words);
+
+/* Reads the route to a node out of a finished table: the numbers of its arcs, from the source on, stand at the front of the buffer, and the rest of the
+ * buffer stays. A route, no route, or a refusal from 1 to 15 or 21 to 25. */
+uint32_t pigrozk_route(const uint8_t *sheet, size_t sheet_bytes, const uint32_t *table, size_t table_words, uint32_t node, uint32_t *buffer,
+                       size_t buffer_words);
+
+#ifdef __cplusplus
+}
+#endif
+
+#endif

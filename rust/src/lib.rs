@@ -1,0 +1,98 @@
+//! Travel times by nested regions: the four proved calls, from Rust.
+//!
+//! None of them has a precondition: each answers for every sheet, table and buffer, and ends. A refusal leaves all that was lent as it was. What they
+//! promise is stated in `crates/pigrozk/src/lib.rt`; `include/pigrozk.h` has the same calls for C.
+
+/// The limits of a sheet that is accepted.
+pub const MOST_BYTES: usize = 32_828;
+pub const MOST_NODES: usize = 1_024;
+pub const MOST_SPANS: usize = 15;
+pub const MOST_SPAN: u32 = 1_000_000;
+pub const MOST_ARCS: usize = 2_048;
+pub const MOST_LENGTH: u32 = 262_143;
+pub const MOST_REGION_WORDS: usize = 4_094;
+
+/// The longest table, and room for every route, in words.
+pub const MOST_TABLE_WORDS: usize = table_words(MOST_NODES);
+pub const MOST_ROUTE_WORDS: usize = MOST_NODES - 1;
+
+/// The payload of a table word that says 'unreached' or 'no arc'.
+pub const NONE: u32 = 268_435_455;
+
+/// How many words a table has, for a sheet of so many nodes.
+pub const fn table_words(nodes: usize) -> usize {
+    9 + 2 * nodes
+}
+
+/// What a call answers.
+#[derive(Clone, Copy, Debug, PartialEq, Eq, Hash)]
+pub enum Answer {
+    /// The sheet is in order.
+    Accepted,
+    /// The rounds were made, and the run has not ended.
+    Paused,
+    /// The run has ended.
+    Ended,
+    /// The node is unreached.
+    NoRoute,
+    /// So many arcs stand at the front of the buffer.
+    Route(usize),
+    /// The number of the refusal: 1 to 15 from the input, 21 to 25 from the state.
+    Refused(u8),
+}
+
+impl Answer {
+    /// The answer that a code of the library says.
+    fn of(code: u32) -> Answer {
+        match code {
+            256 => Answer::Accepted,
+            257 => Answer::Paused,
+            258 => Answer::Ended,
+            259 => Answer::NoRoute,
+            1..=99 => Answer::Refused(code as u8),
+            65_536.. => Answer::Route((code - 65_536) as usize),
+            _ => unreachable!("{code} is no code of the library"),
+        }
+    }
+}
+
+mod library {
+    extern "C" {
+        pub fn pigrozk_judge(sheet: *const u8, bytes: usize) -> u32;
+        pub fn pigrozk_run(sheet: *const u8, bytes: usize, table: *mut u32, words: usize) -> u32;
+        pub fn pigrozk_run_limited(sheet: *const u8, bytes: usize, rounds: u32, table: *mut u32, words: usize) -> u32;
+        pub fn pigrozk_route(
+            sheet: *const u8,
+            bytes: usize,
+            table: *const u32,
+            words: usize,
+            node: u32,
+            buffer: *mut u32,
+            room: usize,
+        ) -> u32;
+    }
+}
+
+// SAFETY, of all four: a call reads and writes within the pairs of pointer and length alone, and these are those of slices.
+
+/// Judges a sheet: `Accepted`, or `Refused` with 1 to 14.
+pub fn judge(sheet: &[u8]) -> Answer {
+    Answer::of(unsafe { library::pigrozk_judge(sheet.as_ptr(), sheet.len()) })
+}
+
+/// Runs a sheet to its end: `Ended`, or `Refused` with 1 to 14 or 21.
+pub fn run(sheet: &[u8], table: &mut [u32]) -> Answer {
+    Answer::of(unsafe { library::pigrozk_run(sheet.as_ptr(), sheet.len(), table.as_mut_ptr(), table.len()) })
+}
+
+/// Runs a sheet for at most so many rounds: `Ended`, `Paused`, or `Refused` with 1 to 14 or 21.
+pub fn run_limited(sheet: &[u8], rounds: u32, table: &mut [u32]) -> Answer {
+    Answer::of(unsafe { library::pigrozk_run_limited(sheet.as_ptr(), sheet.len(), rounds, table.as_mut_ptr(), table.len()) })
+}
+
+/// Reads the route to a node out of a finished table, into the front of the buffer: `Route`, `NoRoute`, or `Refused` with 1 to 15 or 21 to 25.
+pub fn route(sheet: &[u8], table: &[u32], node: u32, buffer: &mut [u32]) -> Answer {
+    Answer::of(unsafe {
+        library::pigrozk_route(sheet.as_ptr(), sheet.len(), table.as_ptr(), table.len(), node, buffer.as_mut_ptr(), buffer.len())
+    })
+}
