@@ -1,0 +1,112 @@
+//! Times the proved calls against the independent program and plain Dijkstra, in one run, and prints the ratios.
+//!
+//! Every time is that of a whole call, from the sheet's bytes to the table or the judgement, and the least of interleaved repetitions.
+
+use bench::generate::divisions::{Nesting, NESTINGS};
+use bench::generate::halls::{self, Shape, SHAPES};
+use bench::generate::random::Random;
+use bench::generate::sheets::{self, Spans, SPANS};
+use bench::{proved, reference};
+use std::hint::black_box;
+use std::time::{Duration, Instant};
+
+const SEED: u64 = 9;
+const TIME_FOR_A_SHEET: Duration = Duration::from_millis(400);
+const LEAST_REPETITIONS: usize = 7;
+
+/// Least times in microseconds, and the leaves that the run works.
+struct Times {
+    leaves: u64,
+    proved_run: f64,
+    plain_run: f64,
+    dijkstra: f64,
+    proved_judge: f64,
+    plain_judge: f64,
+}
+
+fn least(time: &mut f64, call: impl FnOnce() -> u32, expected: u32) {
+    let start = Instant::now();
+    let answer = black_box(call());
+    *time = time.min(start.elapsed().as_secs_f64() * 1e6);
+    assert_eq!(answer, expected);
+}
+
+fn measured(sheet: &[u8], nodes: usize) -> Times {
+    let mut table = vec![0; 9 + 2 * nodes];
+    let most = f64::INFINITY;
+    let mut times = Times { leaves: 0, proved_run: most, plain_run: most, dijkstra: most, proved_judge: most, plain_judge: most };
+    let start = Instant::now();
+    let mut repetitions = 0;
+    while repetitions < LEAST_REPETITIONS || start.elapsed() < TIME_FOR_A_SHEET {
+        let sheet = black_box(sheet);
+        least(&mut times.dijkstra, || reference::run_dijkstra(sheet, &mut table).code(), 258);
+        least(&mut times.plain_run, || reference::run(sheet, &mut table).code(), 258);
+        least(&mut times.proved_run, || proved::run(sheet, &mut table), 258);
+        least(&mut times.plain_judge, || reference::judge(sheet).code(), 256);
+        least(&mut times.proved_judge, || proved::judge(sheet), 256);
+        repetitions += 1;
+    }
+    times.leaves = ((table[3] & reference::TOP) as u64) << 28 | (table[4] & reference::TOP) as u64;
+    times
+}
+
+fn sheet(shape: Shape, nesting: Nesting, spans: Spans, nodes: usize) -> Vec<u8> {
+    let mut random = Random::new(SEED);
+    let hall = halls::regular(shape, nodes, &mut random);
+    let division = nesting.full(hall.arcs.len(), &mut random);
+    sheets::bytes(&sheets::words(&hall, &division, spans, &mut random))
+}
+
+/// Ratios of one column, for its summary.
+struct Ratios(Vec<f64>);
+
+impl Ratios {
+    fn line(&self, name: &str) {
+        let mean = (self.0.iter().map(|ratio| ratio.ln()).sum::<f64>() / self.0.len() as f64).exp();
+        let least = self.0.iter().copied().fold(f64::INFINITY, f64::min);
+        let most = self.0.iter().copied().fold(0.0, f64::max);
+        println!("{name:<34} mean {mean:.2}  least {least:.2}  most {most:.2}");
+    }
+}
+
+fn every_shape() {
+    println!("Full-size sheets: 1,024 nodes, up to 2,048 arcs. Times in microseconds.");
+    println!("| hall | division | spans | leaves worked | proved run | plain run | Dijkstra | run ratio | to Dijkstra | proved judge | plain judge | judge ratio |");
+    println!("|---|---|---|--:|--:|--:|--:|--:|--:|--:|--:|--:|");
+    let mut columns = [Ratios(vec![]), Ratios(vec![]), Ratios(vec![])];
+    for shape in SHAPES {
+        for nesting in NESTINGS {
+            for spans in SPANS {
+                let t = measured(&sheet(shape, nesting, spans, 1024), 1024);
+                let ratios = [t.proved_run / t.plain_run, t.proved_run / t.dijkstra, t.proved_judge / t.plain_judge];
+                print!("| {shape:?} | {nesting:?} | {spans:?} | {} | {:.1} | {:.1} | {:.1} ", t.leaves, t.proved_run, t.plain_run, t.dijkstra);
+                println!("| {:.2} | {:.2} | {:.1} | {:.1} | {:.2} |", ratios[0], ratios[1], t.proved_judge, t.plain_judge, ratios[2]);
+                columns.iter_mut().zip(ratios).for_each(|(column, ratio)| column.0.push(ratio));
+            }
+        }
+    }
+    println!();
+    columns[0].line("proved run / plain run");
+    columns[1].line("proved run / Dijkstra");
+    columns[2].line("proved judge / plain judge");
+}
+
+fn growth(shape: Shape, nesting: Nesting, spans: Spans) {
+    println!("\nGrowth: {shape:?}, {nesting:?}, spans {spans:?}. Run and judge in microseconds.");
+    println!("| arcs | leaves worked | proved run | plain run | Dijkstra | ns a leaf, proved | ns a leaf, plain | proved judge | plain judge | ns an arc, judge |");
+    println!("|--:|--:|--:|--:|--:|--:|--:|--:|--:|--:|");
+    for arcs in [64, 128, 256, 512, 1024, 2048] {
+        let t = measured(&sheet(shape, nesting, spans, arcs / 2), arcs / 2);
+        let of_leaf = |time: f64| 1000.0 * time / t.leaves as f64;
+        print!("| {arcs} | {} | {:.1} | {:.1} | {:.1} ", t.leaves, t.proved_run, t.plain_run, t.dijkstra);
+        print!("| {:.1} | {:.1} ", of_leaf(t.proved_run), of_leaf(t.plain_run));
+        println!("| {:.1} | {:.1} | {:.1} |", t.proved_judge, t.plain_judge, 1000.0 * t.proved_judge / arcs as f64);
+    }
+}
+
+fn main() {
+    every_shape();
+    growth(Shape::Grid, Nesting::Halves, Spans::Random);
+    growth(Shape::Random, Nesting::Mixed, Spans::One);
+    growth(Shape::Rings, Nesting::Flat, Spans::Million);
+}

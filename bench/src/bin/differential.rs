@@ -1,0 +1,317 @@
+//! The four proved calls against the independent program, on generated sheets: `differential [CASES] [SEED]`.
+//!
+//! Compared are the answers, every word of the tables and buffers lent and of the words around them, and that a refusal changed nothing. Ends with 1
+//! at the first difference, or if a refusal number or an answer was never seen.
+
+use bench::generate::random::Random;
+use bench::generate::{damage, sheets, tables};
+use bench::reference::{self, judge::accepted, sheet::Sheet};
+use bench::{proved, reference::Answer};
+use std::collections::BTreeMap;
+use std::fmt::Write;
+use std::process::ExitCode;
+use std::time::Instant;
+
+const CASES: u64 = 1_000_000;
+const SEED: u64 = 20_260;
+const GUARD: usize = 4;
+
+/// What was called and how the two differ.
+struct Difference(String);
+
+type Outcome = Result<(), Difference>;
+
+/// How often each call gave each answer: the number of a route stands for routes of any length.
+#[derive(Default)]
+struct Tally {
+    answers: BTreeMap<(&'static str, u32), u64>,
+    sheets: BTreeMap<&'static str, u64>,
+}
+
+impl Tally {
+    fn count(&mut self, call: &'static str, answer: Answer) {
+        *self.answers.entry((call, answer.code().min(65_536))).or_default() += 1;
+    }
+
+    fn print(&self) {
+        for (kind, count) in &self.sheets {
+            println!("sheets {kind}: {count}");
+        }
+        for call in ["judge", "run", "run_limited", "route"] {
+            let answers = self.answers.iter().filter(|((of, _), _)| *of == call);
+            let parts: Vec<String> = answers.map(|((_, code), count)| format!("{} {count}", named(*code))).collect();
+            println!("{call}: {}", parts.join(", "));
+        }
+        println!("calls compared: {}", self.answers.values().sum::<u64>());
+    }
+
+    /// The numbers and answers that were never seen.
+    fn unseen(&self) -> Vec<String> {
+        let wanted = (1..=15).chain(21..=25).chain(256..=259).chain([65_536]);
+        wanted.filter(|code| !self.answers.keys().any(|(_, seen)| seen == code)).map(named).collect()
+    }
+}
+
+fn named(code: u32) -> String {
+    match code {
+        256 => "accepted".to_string(),
+        257 => "paused".to_string(),
+        258 => "ended".to_string(),
+        259 => "no-route".to_string(),
+        65_536 => "route".to_string(),
+        number => number.to_string(),
+    }
+}
+
+/// A slice to be lent, with guard words on both sides.
+struct Lent {
+    words: Vec<u32>,
+}
+
+impl Lent {
+    fn new(length: usize, random: &mut Random) -> Lent {
+        let first = random.word();
+        Lent { words: (0..length + 2 * GUARD).map(|at| first.wrapping_add(0x0123_4567 * at as u32)).collect() }
+    }
+
+    fn part(&mut self) -> &mut [u32] {
+        let end = self.words.len() - GUARD;
+        &mut self.words[GUARD..end]
+    }
+}
+
+/// Makes one call of both programs with equal slices, compares answers and words, and gives the answer and the slice at exit.
+fn compared(
+    call: &'static str,
+    told: &str,
+    lent: Lent,
+    tally: &mut Tally,
+    of_proved: impl FnOnce(&mut [u32]) -> u32,
+    of_reference: impl FnOnce(&mut [u32]) -> Answer,
+) -> Result<(Answer, Vec<u32>), Difference> {
+    let before = lent.words.clone();
+    let mut expected = Lent { words: lent.words.clone() };
+    let mut got = lent;
+    let answer = of_reference(expected.part());
+    let code = of_proved(got.part());
+    tally.count(call, answer);
+    if code != answer.code() {
+        return Err(Difference(format!("{call} {told}: answered {code}, expected {}", answer.code())));
+    }
+    if let Some(at) = (0..before.len()).find(|at| got.words[*at] != expected.words[*at]) {
+        let (found, wanted) = (got.words[at], expected.words[at]);
+        return Err(Difference(format!("{call} {told}: word {} is {found:08x}, expected {wanted:08x}", at as i64 - GUARD as i64)));
+    }
+    if matches!(answer, Answer::Refused(_) | Answer::NoRoute) && got.words != before {
+        return Err(Difference(format!("{call} {told}: a refusal changed what was lent")));
+    }
+    Ok((answer, got.part().to_vec()))
+}
+
+/// One sheet with what its calls need.
+struct Trial<'a> {
+    bytes: &'a [u8],
+    random: &'a mut Random,
+    tally: &'a mut Tally,
+}
+
+impl Trial<'_> {
+    fn all(&mut self) -> Outcome {
+        let untouched = self.bytes.to_vec();
+        let bytes = self.bytes;
+        compared("judge", "", Lent { words: vec![0; 2 * GUARD] }, self.tally, |_| proved::judge(bytes), |_| reference::judge(bytes))?;
+        match accepted(bytes) {
+            Ok(sheet) => self.accepted(&sheet)?,
+            Err(_) => self.refused()?,
+        }
+        match self.bytes == untouched {
+            true => Ok(()),
+            false => Err(Difference("the sheet itself was changed".to_string())),
+        }
+    }
+
+    fn refused(&mut self) -> Outcome {
+        let length = self.random.below(60);
+        let node = self.random.below(4) as u32;
+        self.run(length)?;
+        let rounds = self.rounds();
+        self.run_limited(rounds, length)?;
+        let table = Lent::new(length, self.random).part().to_vec();
+        let buffer = self.random.below(8);
+        self.route(&table, node, buffer).map(drop)
+    }
+
+    fn accepted(&mut self, sheet: &Sheet) -> Outcome {
+        let length = 9 + 2 * sheet.nodes();
+        let finished = self.run(length)?;
+        if self.random.once_in(4) {
+            let wrong = self.wrong_length(length);
+            self.run(wrong)?;
+            self.run_limited(1, wrong)?;
+        }
+        let some = self.rounds();
+        let mut paused = None;
+        for rounds in [0, 1, 2, some, u32::MAX] {
+            let (answer, table) = self.run_limited(rounds, length)?;
+            if answer == Answer::Paused {
+                paused = Some(table);
+            }
+        }
+        self.routes(sheet, &finished)?;
+        if let Some(table) = paused {
+            let node = self.node(sheet);
+            self.route(&table, node, sheet.nodes())?;
+        }
+        Ok(())
+    }
+
+    /// Routes out of the finished table, out of damaged ones, out of one of another length and out of that of a hall that differs in a length.
+    fn routes(&mut self, sheet: &Sheet, finished: &[u32]) -> Outcome {
+        for _ in 0..3 {
+            self.route_and_near(sheet, finished)?;
+        }
+        for _ in 0..4 {
+            let mut table = finished.to_vec();
+            tables::damaged(&mut table, sheet, self.random);
+            self.route_and_near(sheet, &table)?;
+        }
+        if self.random.once_in(4) {
+            let wrong = self.wrong_length(finished.len());
+            let table: Vec<u32> = finished.iter().chain(finished).chain(&[0, 0]).copied().take(wrong).collect();
+            self.route_and_near(sheet, &table)?;
+        }
+        if sheet.arc_count() > 0 && self.random.once_in(2) {
+            let other = self.other_table(sheet, finished.len());
+            self.route_and_near(sheet, &other)?;
+        }
+        Ok(())
+    }
+
+    /// The finished table of a hall that differs in the length of one arc.
+    fn other_table(&mut self, sheet: &Sheet, length: usize) -> Vec<u32> {
+        let arc = self.random.below(sheet.arc_count());
+        let at = 4 * (2 + sheet.spans().len() + 2 * arc + 1);
+        let mut other = self.bytes.to_vec();
+        let changed = self.random.pick(&[0, 1, 2, 262_143]);
+        other[at..at + 4].copy_from_slice(&(5u32 << 28 | changed).to_be_bytes());
+        let mut table = vec![0; length];
+        reference::run(&other, &mut table);
+        table
+    }
+
+    /// A route with a buffer of some length, and where it is one, again with buffers as long as it and one word shorter or longer.
+    fn route_and_near(&mut self, sheet: &Sheet, table: &[u32]) -> Outcome {
+        let node = self.node(sheet);
+        let room = self.random.pick(&[0, 1, 2, 3, sheet.nodes(), sheet.nodes()]);
+        if let Answer::Route(count) = self.route(table, node, room)? {
+            let count = count as usize;
+            let near = self.random.pick(&[count, count + 1, count.saturating_sub(1)]);
+            self.route(table, node, near)?;
+        }
+        Ok(())
+    }
+
+    fn run(&mut self, length: usize) -> Result<Vec<u32>, Difference> {
+        let lent = Lent::new(length, self.random);
+        let bytes = self.bytes;
+        let told = format!("with a table of {length} words");
+        compared("run", &told, lent, self.tally, |table| proved::run(bytes, table), |table| reference::run(bytes, table)).map(|(_, table)| table)
+    }
+
+    fn run_limited(&mut self, rounds: u32, length: usize) -> Result<(Answer, Vec<u32>), Difference> {
+        let lent = Lent::new(length, self.random);
+        let bytes = self.bytes;
+        let told = format!("for {rounds} rounds with a table of {length} words");
+        let of_proved = |table: &mut [u32]| proved::run_limited(bytes, rounds, table);
+        compared("run_limited", &told, lent, self.tally, of_proved, |table| reference::run_limited(bytes, rounds, table))
+    }
+
+    fn route(&mut self, table: &[u32], node: u32, room: usize) -> Result<Answer, Difference> {
+        let lent = Lent::new(room, self.random);
+        let bytes = self.bytes;
+        let untouched = table.to_vec();
+        let told = || {
+            let words = untouched.iter().fold(String::new(), |text, word| text + &format!("{word:08x}"));
+            format!("to node {node} with a buffer of {room} words out of the table {words}")
+        };
+        let of_proved = |buffer: &mut [u32]| proved::route(bytes, table, node, buffer);
+        let outcome = compared("route", "", lent, self.tally, of_proved, |buffer| reference::route(bytes, table, node, buffer));
+        if table != untouched {
+            return Err(Difference(format!("route {}: the table was changed", told())));
+        }
+        outcome.map(|(answer, _)| answer).map_err(|Difference(text)| Difference(format!("{text}; {}", told())))
+    }
+
+    fn rounds(&mut self) -> u32 {
+        let few = self.random.below(30) as u32;
+        let any = self.random.word();
+        self.random.pick(&[few, few, any])
+    }
+
+    fn wrong_length(&mut self, length: usize) -> usize {
+        let any = self.random.below(length);
+        self.random.pick(&[0, any, length - 1, length - 2, length + 1, length + 2])
+    }
+
+    fn node(&mut self, sheet: &Sheet) -> u32 {
+        if self.random.once_in(12) {
+            return self.random.pick(&[sheet.nodes() as u32, sheet.nodes() as u32 + 1, 1024, 65_536, 1 << 28, u32::MAX]);
+        }
+        self.random.below(sheet.nodes()) as u32
+    }
+}
+
+/// The sheet of a case, and of what sort it is.
+fn sheet_of(random: &mut Random) -> (&'static str, Vec<u8>) {
+    match random.below(1000) {
+        0..=449 => ("accepted, any shape", sheets::bytes(&sheets::any(random))),
+        450 if random.once_in(3) => ("accepted, full size", sheets::bytes(&sheets::full(random))),
+        451 if random.once_in(3) => ("damaged, full size", damage::damaged(sheets::full(random), random)),
+        450..=899 => ("damaged", damage::damaged(sheets::any(random), random)),
+        _ => ("noise", sheets::noise(random)),
+    }
+}
+
+fn hexadecimal(bytes: &[u8]) -> String {
+    bytes.iter().fold(String::new(), |mut text, byte| {
+        write!(text, "{byte:02x}").expect("text can be written");
+        text
+    })
+}
+
+fn number(argument: Option<String>, otherwise: u64) -> u64 {
+    match argument {
+        None => otherwise,
+        Some(text) => text.parse().unwrap_or_else(|_| {
+            eprintln!("usage: differential [CASES] [SEED]");
+            std::process::exit(2)
+        }),
+    }
+}
+
+fn main() -> ExitCode {
+    let mut arguments = std::env::args().skip(1);
+    let cases = number(arguments.next(), CASES);
+    let seed = number(arguments.next(), SEED);
+    println!("{cases} cases, seed {seed}");
+    let start = Instant::now();
+    let mut tally = Tally::default();
+    for case in 0..cases {
+        let mut random = Random::of_case(seed, case);
+        let (sort, bytes) = sheet_of(&mut random);
+        *tally.sheets.entry(sort).or_default() += 1;
+        if let Err(Difference(text)) = (Trial { bytes: &bytes, random: &mut random, tally: &mut tally }).all() {
+            println!("DIFFERENCE in case {case} of seed {seed} ({sort}): {text}\nsheet {}", hexadecimal(&bytes));
+            return ExitCode::from(1);
+        }
+    }
+    tally.print();
+    println!("{} s", start.elapsed().as_secs());
+    let unseen = tally.unseen();
+    if !unseen.is_empty() {
+        println!("never seen: {}", unseen.join(", "));
+        return ExitCode::from(1);
+    }
+    println!("no difference");
+    ExitCode::SUCCESS
+}

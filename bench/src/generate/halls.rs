@@ -1,0 +1,99 @@
+//! Halls: nodes, source and arcs, with at most two arcs from and to each node.
+
+use super::random::Random;
+
+pub struct Hall {
+    pub nodes: usize,
+    pub source: usize,
+    /// Tail, head and length.
+    pub arcs: Vec<(usize, usize, u32)>,
+}
+
+#[derive(Clone, Copy, Debug, PartialEq, Eq)]
+pub enum Shape {
+    Grid,
+    Ladder,
+    Rings,
+    Random,
+}
+
+pub const SHAPES: [Shape; 4] = [Shape::Grid, Shape::Ladder, Shape::Rings, Shape::Random];
+
+impl Shape {
+    /// Arcs of this shape between so many nodes, with length 0: two from and two to each node where their number lets it.
+    pub fn arcs(self, nodes: usize, random: &mut Random) -> Vec<(usize, usize, u32)> {
+        match self {
+            Shape::Grid => grid(nodes),
+            Shape::Ladder => ladder(nodes),
+            Shape::Rings => (0..nodes).flat_map(|v| [(v, (v + 1) % nodes, 0), (v, (v + nodes - 1) % nodes, 0)]).collect(),
+            Shape::Random => random_arcs(nodes, random),
+        }
+    }
+}
+
+/// Rows and columns of one-way streets that change direction from one to the next, joined at the edges.
+fn grid(nodes: usize) -> Vec<(usize, usize, u32)> {
+    let wide = (1..=nodes).take_while(|wide| wide * wide <= nodes).last().unwrap_or(1);
+    let high = nodes / wide;
+    let mut arcs = Vec::new();
+    for v in 0..wide * high {
+        let (x, y) = (v % wide, v / wide);
+        let along = if y % 2 == 0 { (x + 1) % wide } else { (x + wide - 1) % wide };
+        let across = if x % 2 == 0 { (y + 1) % high } else { (y + high - 1) % high };
+        arcs.extend([(v, y * wide + along, 0), (v, across * wide + x, 0)]);
+    }
+    arcs
+}
+
+/// Two rails, one for each direction, and rungs both ways between them.
+fn ladder(nodes: usize) -> Vec<(usize, usize, u32)> {
+    let rungs = nodes / 2;
+    let mut arcs = Vec::new();
+    for rung in 0..rungs {
+        let (near, far) = (2 * rung, 2 * rung + 1);
+        arcs.extend([(near, far, 0), (far, near, 0)]);
+        if rung + 1 < rungs {
+            arcs.extend([(near, near + 2, 0), (far + 2, far, 0)]);
+        }
+    }
+    arcs
+}
+
+/// Self-arcs and parallel arcs among them.
+fn random_arcs(nodes: usize, random: &mut Random) -> Vec<(usize, usize, u32)> {
+    let mut heads: Vec<usize> = (0..2 * nodes).map(|end| end / 2).collect();
+    random.shuffle(&mut heads);
+    heads.into_iter().enumerate().map(|(end, head)| (end / 2, head, 0)).collect()
+}
+
+/// A hall of full size or smaller for the benchmark, with lengths up to 262,143.
+pub fn regular(shape: Shape, nodes: usize, random: &mut Random) -> Hall {
+    let mut arcs = shape.arcs(nodes, random);
+    for arc in &mut arcs {
+        arc.2 = random.below(262_144) as u32;
+    }
+    Hall { nodes, source: 0, arcs }
+}
+
+/// A hall of any kind: arcs left out, in any order, with lengths of a kind.
+pub fn any(most_nodes: usize, random: &mut Random) -> Hall {
+    let nodes = 1 + random.below(most_nodes);
+    let mut arcs = random.pick(&SHAPES).arcs(nodes, random);
+    if random.once_in(2) {
+        random.shuffle(&mut arcs);
+    }
+    if random.once_in(2) {
+        let kept = random.below(arcs.len() + 1);
+        random.shuffle(&mut arcs);
+        arcs.truncate(kept);
+    }
+    let limit = random.pick(&[1, 2, 4, 16, 1000, 262_144]);
+    let zeros = random.once_in(3);
+    for arc in &mut arcs {
+        arc.2 = if zeros && random.once_in(3) { 0 } else { random.below(limit) as u32 };
+    }
+    if random.once_in(20) {
+        arcs.iter_mut().for_each(|arc| arc.2 = 262_143);
+    }
+    Hall { nodes, source: random.below(nodes), arcs }
+}

@@ -1,0 +1,91 @@
+//! Sheets: a hall, a division and spans as words, accepted ones and noise.
+
+use super::divisions::{Division, NESTINGS};
+use super::halls::{self, Hall};
+use super::random::Random;
+
+#[derive(Clone, Copy, Debug, PartialEq, Eq)]
+pub enum Spans {
+    One,
+    Random,
+    Million,
+}
+
+pub const SPANS: [Spans; 3] = [Spans::One, Spans::Random, Spans::Million];
+
+impl Spans {
+    fn span(self, random: &mut Random) -> u32 {
+        match self {
+            Spans::One => 1,
+            Spans::Random => {
+                let most = 1 << random.below(20);
+                1 + random.below(most) as u32
+            }
+            Spans::Million => 1_000_000,
+        }
+    }
+}
+
+pub fn words(hall: &Hall, division: &Division, spans: Spans, random: &mut Random) -> Vec<u32> {
+    let mut words = vec![1 << 28 | hall.nodes as u32, 2 << 28 | hall.source as u32];
+    words.extend((0..division.height()).map(|_| 3 << 28 | spans.span(random)));
+    for (tail, head, length) in &hall.arcs {
+        words.extend([4 << 28 | (*tail as u32) << 10 | *head as u32, 5 << 28 | length]);
+    }
+    words.extend(division.words());
+    words
+}
+
+pub fn bytes(words: &[u32]) -> Vec<u8> {
+    words.iter().flat_map(|word| word.to_be_bytes()).collect()
+}
+
+/// An accepted sheet of any shape; most are small, a few of full size.
+pub fn any(random: &mut Random) -> Vec<u32> {
+    let most_nodes = match random.below(2000) {
+        0 => 1024,
+        1..=20 => 200,
+        21..=400 => 40,
+        _ => 12,
+    };
+    let hall = halls::any(most_nodes, random);
+    let nesting = random.pick(&NESTINGS);
+    let division = nesting.of(hall.arcs.len(), random);
+    words(&hall, &division, random.pick(&SPANS), random)
+}
+
+/// A sheet of full size: 1,024 nodes, and as many arcs as the shape has.
+pub fn full(random: &mut Random) -> Vec<u32> {
+    let hall = halls::regular(random.pick(&halls::SHAPES), 1024, random);
+    let division = random.pick(&NESTINGS).full(hall.arcs.len(), random);
+    words(&hall, &division, random.pick(&SPANS), random)
+}
+
+/// Bytes without a form, words of any kind, or words whose kinds are in order and whose payloads are small or anything.
+pub fn noise(random: &mut Random) -> Vec<u8> {
+    match random.below(8) {
+        0 => (0..random.below(80)).map(|_| random.word() as u8).collect(),
+        1 => bytes(&(0..random.below(20)).map(|_| random.word()).collect::<Vec<u32>>()),
+        2 => (0..random.pick(&[32_824, 32_828, 32_829, 32_832])).map(|_| random.word() as u8).collect(),
+        _ => bytes(&ordered_noise(random)),
+    }
+}
+
+fn ordered_noise(random: &mut Random) -> Vec<u32> {
+    let mut kinds = vec![1, 2];
+    kinds.extend(vec![3; random.below(4)]);
+    kinds.extend([4, 5].repeat(random.below(4)));
+    kinds.extend((0..random.below(8)).map(|_| 6 + random.below(2) as u32));
+    let whole = random.once_in(4);
+    let small = 1 + random.below(16);
+    kinds.iter().map(|kind| kind << 28 | if whole { random.word() >> 4 } else { noise_payload(*kind, small, random) }).collect()
+}
+
+fn noise_payload(kind: u32, small: usize, random: &mut Random) -> u32 {
+    let (first, second) = (random.below(small) as u32, random.below(small) as u32);
+    match kind {
+        4 => first << 10 | second,
+        7 => first << 11 | second,
+        _ => first,
+    }
+}

@@ -1,0 +1,5 @@
+//! An independent program of the four calls, generators of sheets and tables, and the way to the proved library.
+
+pub mod generate;
+pub mod proved;
+pub mod reference;

@@ -1,0 +1,50 @@
+//! Plain Dijkstra with the heap of the standard library.
+
+use super::sheet::Sheet;
+use super::table::{write_header, write_node, Counts};
+use super::{Answer, TOP};
+use std::cmp::Reverse;
+use std::collections::BinaryHeap;
+
+pub struct Distances {
+    pub labels: Vec<u32>,
+    pub feeds: Vec<u32>,
+}
+
+pub fn distances(sheet: &Sheet) -> Distances {
+    let arcs: Vec<_> = sheet.arcs().collect();
+    let mut outgoing = vec![[TOP; 2]; sheet.nodes()];
+    for (number, arc) in arcs.iter().enumerate() {
+        let pair = &mut outgoing[arc.tail];
+        pair[(pair[0] != TOP) as usize] = number as u32;
+    }
+    let mut labels = vec![TOP; sheet.nodes()];
+    let mut feeds = vec![TOP; sheet.nodes()];
+    let mut heap = BinaryHeap::new();
+    labels[sheet.source()] = 0;
+    heap.push(Reverse((0, sheet.source() as u32)));
+    while let Some(Reverse((label, node))) = heap.pop() {
+        if label > labels[node as usize] {
+            continue;
+        }
+        for number in outgoing[node as usize].into_iter().filter(|number| *number != TOP) {
+            let arc = arcs[number as usize];
+            let sum = label + arc.length;
+            if sum < labels[arc.head] {
+                labels[arc.head] = sum;
+                feeds[arc.head] = number;
+                heap.push(Reverse((sum, arc.head as u32)));
+            }
+        }
+    }
+    Distances { labels, feeds }
+}
+
+pub fn run(sheet: &Sheet, table: &mut [u32]) -> Answer {
+    let found = distances(sheet);
+    write_header(table, true, &Counts { rounds: 0, leaves: 0, inner: 0, updates: 0 });
+    for (node, (label, feed)) in found.labels.iter().zip(&found.feeds).enumerate() {
+        write_node(table, node, *label, *feed);
+    }
+    Answer::Ended
+}

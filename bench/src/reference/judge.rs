@@ -1,0 +1,84 @@
+//! The refusals 1 to 14, one after the other.
+
+use super::sheet::{is_leaf, kind, leaf_arc, parent, payload, Sheet};
+
+/// The sheet, or the lowest number that applies to it.
+pub fn accepted(bytes: &[u8]) -> Result<Sheet, u32> {
+    if bytes.len() % 4 != 0 || bytes.len() > 32_828 {
+        return Err(1);
+    }
+    let words = bytes.chunks_exact(4).map(|word| u32::from_be_bytes([word[0], word[1], word[2], word[3]])).collect();
+    let sheet = Sheet::in_order(words).ok_or(2u32)?;
+    const TESTS: [(u32, fn(&Sheet) -> bool); 12] = [
+        (3, bit_set),
+        (4, |sheet| sheet.nodes() < 1 || sheet.nodes() > 1024),
+        (5, |sheet| sheet.source() >= sheet.nodes()),
+        (6, |sheet| sheet.spans().iter().any(|word| payload(*word) < 1 || payload(*word) > 1_000_000)),
+        (7, |sheet| sheet.spans().len() > 15 || sheet.arc_count() > 2048 || sheet.regions().len() > 4094),
+        (8, |sheet| sheet.arcs().any(|arc| arc.tail >= sheet.nodes() || arc.head >= sheet.nodes())),
+        (9, |sheet| sheet.arcs().any(|arc| arc.length > 262_143)),
+        (10, crowded),
+        (11, wrong_parent),
+        (12, wrong_leaves),
+        (13, childless),
+        (14, |sheet| sheet.spans().len() != heights(sheet)[0]),
+    ];
+    match TESTS.iter().find(|(_, applies)| applies(&sheet)) {
+        Some((number, _)) => Err(*number),
+        None => Ok(sheet),
+    }
+}
+
+fn bit_set(sheet: &Sheet) -> bool {
+    sheet.arc_words().chunks_exact(2).any(|pair| payload(pair[0]) >> 20 != 0)
+        || sheet.regions().iter().any(|word| kind(*word) == 7 && payload(*word) >> 23 != 0)
+}
+
+fn crowded(sheet: &Sheet) -> bool {
+    let mut outgoing = [0u16; 1024];
+    let mut incoming = [0u16; 1024];
+    for arc in sheet.arcs() {
+        outgoing[arc.tail] += 1;
+        incoming[arc.head] += 1;
+    }
+    outgoing.iter().chain(&incoming).any(|count| *count > 2)
+}
+
+fn wrong_parent(sheet: &Sheet) -> bool {
+    let regions = sheet.regions();
+    regions.iter().enumerate().any(|(at, word)| {
+        let parent = parent(*word);
+        parent > at || parent > 0 && is_leaf(regions[parent - 1])
+    })
+}
+
+fn wrong_leaves(sheet: &Sheet) -> bool {
+    let mut leaves = [0u16; 2048];
+    for word in sheet.regions().iter().filter(|word| is_leaf(**word)) {
+        leaves[leaf_arc(*word)] += 1;
+    }
+    let (there, beyond) = leaves.split_at(sheet.arc_count());
+    there.iter().any(|count| *count != 1) || beyond.iter().any(|count| *count != 0)
+}
+
+fn childless(sheet: &Sheet) -> bool {
+    let regions = sheet.regions();
+    let mut has_child = [false; 4096];
+    for word in regions {
+        has_child[parent(*word)] = true;
+    }
+    regions.iter().enumerate().any(|(at, word)| !is_leaf(*word) && !has_child[at + 1])
+}
+
+/// The height of every region. Children come after their parents, so one pass from the last region back finds all.
+pub fn heights(sheet: &Sheet) -> Vec<usize> {
+    let regions = sheet.regions();
+    let mut heights = vec![0; regions.len() + 1];
+    heights[0] = 1;
+    for (at, word) in regions.iter().enumerate().rev() {
+        let own = heights[at + 1];
+        let above = &mut heights[parent(*word)];
+        *above = (*above).max(own + 1);
+    }
+    heights
+}

@@ -1,0 +1,88 @@
+//! The four calls as a program of its own, written from the paper; it shares nothing with the proved crates.
+
+pub mod dijkstra;
+pub mod judge;
+pub mod procedure;
+pub mod route;
+pub mod sheet;
+pub mod table;
+
+use sheet::Sheet;
+
+/// The payload that stands for 'unreached', for the key 'none' and for 'no arc'.
+pub const TOP: u32 = (1 << 28) - 1;
+
+/// What a call answers.
+#[derive(Clone, Copy, Debug, PartialEq, Eq)]
+pub enum Answer {
+    Accepted,
+    Paused,
+    Ended,
+    NoRoute,
+    Route(u32),
+    Refused(u32),
+}
+
+impl Answer {
+    /// The answer as the number that the library for C hands back.
+    pub fn code(self) -> u32 {
+        match self {
+            Answer::Refused(number) => number,
+            Answer::Accepted => 256,
+            Answer::Paused => 257,
+            Answer::Ended => 258,
+            Answer::NoRoute => 259,
+            Answer::Route(count) => 65_536 + count,
+        }
+    }
+}
+
+pub fn judge(bytes: &[u8]) -> Answer {
+    match judge::accepted(bytes) {
+        Ok(_) => Answer::Accepted,
+        Err(number) => Answer::Refused(number),
+    }
+}
+
+pub fn run(bytes: &[u8], table: &mut [u32]) -> Answer {
+    run_for(bytes, None, table)
+}
+
+pub fn run_limited(bytes: &[u8], rounds: u32, table: &mut [u32]) -> Answer {
+    run_for(bytes, Some(rounds), table)
+}
+
+fn run_for(bytes: &[u8], limit: Option<u32>, table: &mut [u32]) -> Answer {
+    match sheet_for(bytes, table) {
+        Err(number) => Answer::Refused(number),
+        Ok(sheet) => procedure::run(&sheet, limit, table),
+    }
+}
+
+/// Distances and feeding arcs by Dijkstra's procedure, in a table whose counts are 0.
+pub fn run_dijkstra(bytes: &[u8], table: &mut [u32]) -> Answer {
+    match sheet_for(bytes, table) {
+        Err(number) => Answer::Refused(number),
+        Ok(sheet) => dijkstra::run(&sheet, table),
+    }
+}
+
+fn sheet_for(bytes: &[u8], table: &[u32]) -> Result<Sheet, u32> {
+    let sheet = judge::accepted(bytes)?;
+    if table.len() != table::length(sheet.nodes()) {
+        return Err(21);
+    }
+    Ok(sheet)
+}
+
+pub fn route(bytes: &[u8], table: &[u32], node: u32, buffer: &mut [u32]) -> Answer {
+    match route::arcs(bytes, table, node) {
+        Err(number) => Answer::Refused(number),
+        Ok(None) => Answer::NoRoute,
+        Ok(Some(arcs)) if arcs.len() > buffer.len() => Answer::Refused(25),
+        Ok(Some(arcs)) => {
+            buffer[..arcs.len()].copy_from_slice(&arcs);
+            Answer::Route(arcs.len() as u32)
+        }
+    }
+}

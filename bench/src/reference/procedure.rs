@@ -1,0 +1,207 @@
+//! The nested-region procedure, written for speed: one winner tree for each region.
+//!
+//! The tree of a region with f children has 2f places. Its children stand at places f to 2f - 1, place p below f holds the better of places
+//! 2p and 2p + 1, and place 1 the first-chosen child. A place holds key and region number in one number, so that the better one is the lower one.
+//! A leaf's own key and its key in its parent are equal whenever one of them is read, and stand in the parent's tree alone.
+
+use super::judge::heights;
+use super::sheet::{is_leaf, leaf_arc, parent, payload, Arc, Sheet};
+use super::table::{write_header, write_node, Counts};
+use super::{Answer, TOP};
+
+const NONE: u64 = (TOP as u64) << 16;
+
+fn item(key: u32, region: usize) -> u64 {
+    (key as u64) << 16 | region as u64
+}
+
+fn key(item: u64) -> u32 {
+    (item >> 16) as u32
+}
+
+fn region(item: u64) -> usize {
+    item as u16 as usize
+}
+
+/// What is known of a region: where it stands in its parent's tree, where its own tree begins, and its span, or its arc for a leaf.
+#[derive(Clone, Copy, Default)]
+struct Region {
+    parent: u16,
+    place: u16,
+    tree: u16,
+    leaf: bool,
+    span_or_arc: u32,
+}
+
+/// A node's label and feeding arc, and the leaves of its outgoing arcs, 0 for none.
+#[derive(Clone, Copy)]
+struct Node {
+    label: u32,
+    feed: u32,
+    leaves: [u16; 2],
+}
+
+struct Run {
+    regions: Vec<Region>,
+    trees: Vec<u64>,
+    arcs: Vec<Arc>,
+    nodes: Vec<Node>,
+    counts: Counts,
+}
+
+/// Runs an accepted sheet for at most so many rounds, or to its end, and writes the table.
+pub fn run(sheet: &Sheet, limit: Option<u32>, table: &mut [u32]) -> Answer {
+    let mut run = Run::new(sheet);
+    run.start(sheet.source());
+    while !run.ended() && limit.is_none_or(|limit| run.counts.rounds < limit as u64) {
+        run.counts.rounds += 1;
+        run.process(0);
+    }
+    write_header(table, run.ended(), &run.counts);
+    for (number, node) in run.nodes.iter().enumerate() {
+        write_node(table, number, node.label, node.feed);
+    }
+    if run.ended() {
+        Answer::Ended
+    } else {
+        Answer::Paused
+    }
+}
+
+fn regions(sheet: &Sheet) -> Vec<Region> {
+    let words = sheet.regions();
+    let mut children = vec![0u16; words.len() + 1];
+    for word in words {
+        children[parent(*word)] += 1;
+    }
+    let mut regions = vec![Region::default(); words.len() + 1];
+    let mut next = 0;
+    for (row, children) in regions.iter_mut().zip(&children) {
+        row.tree = next;
+        next += 2 * children;
+    }
+    let heights = heights(sheet);
+    regions[0].span_or_arc = payload(sheet.spans()[heights[0] - 1]);
+    let mut free = children;
+    for (at, word) in words.iter().enumerate() {
+        let above = parent(*word);
+        regions[at + 1].parent = above as u16;
+        regions[at + 1].place = free[above];
+        free[above] += 1;
+        regions[at + 1].leaf = is_leaf(*word);
+        regions[at + 1].span_or_arc = match is_leaf(*word) {
+            true => leaf_arc(*word) as u32,
+            false => payload(sheet.spans()[heights[at + 1] - 1]),
+        };
+    }
+    regions
+}
+
+impl Run {
+    fn new(sheet: &Sheet) -> Run {
+        let regions = regions(sheet);
+        let trees = vec![NONE; 2 * regions.len()];
+        let arcs: Vec<Arc> = sheet.arcs().collect();
+        let mut leaves = vec![0u16; arcs.len()];
+        for (number, row) in regions.iter().enumerate().filter(|(_, row)| row.leaf) {
+            leaves[row.span_or_arc as usize] = number as u16;
+        }
+        let mut nodes = vec![Node { label: TOP, feed: TOP, leaves: [0; 2] }; sheet.nodes()];
+        for (arc, leaf) in arcs.iter().zip(&leaves) {
+            let pair = &mut nodes[arc.tail].leaves;
+            pair[(pair[0] != 0) as usize] = *leaf;
+        }
+        Run { regions, trees, arcs, nodes, counts: Counts { rounds: 0, leaves: 0, inner: 0, updates: 0 } }
+    }
+
+    fn start(&mut self, source: usize) {
+        self.nodes[source].label = 0;
+        self.update_outgoing(source, 0);
+    }
+
+    /// The smallest key of region 0 is none. A hall without arcs has a tree of no places, but two are there.
+    fn ended(&self) -> bool {
+        self.trees[1] >= NONE
+    }
+
+    fn update_outgoing(&mut self, node: usize, key: u32) {
+        for leaf in self.nodes[node].leaves {
+            if leaf == 0 {
+                break;
+            }
+            self.update(leaf as usize, key);
+        }
+    }
+
+    /// An update that starts at a leaf and climbs while smallest keys fall.
+    fn update(&mut self, leaf: usize, new: u32) {
+        self.counts.updates += 1;
+        let mut at = leaf;
+        let mut row = self.regions[leaf];
+        let mut tree = self.regions[row.parent as usize].tree as usize;
+        if key(self.trees[tree + row.place as usize]) <= new {
+            return;
+        }
+        loop {
+            self.counts.updates += 1;
+            let before = key(self.trees[tree + 1]);
+            self.write(tree, row.place as usize, item(new, at));
+            if row.parent == 0 || key(self.trees[tree + 1]) >= before {
+                return;
+            }
+            at = row.parent as usize;
+            row = self.regions[at];
+            tree = self.regions[row.parent as usize].tree as usize;
+        }
+    }
+
+    /// Puts an item into a tree and repairs the places above it.
+    fn write(&mut self, tree: usize, mut place: usize, item: u64) {
+        let trees = &mut self.trees[tree..];
+        trees[place] = item;
+        while place > 1 {
+            place /= 2;
+            let best = trees[2 * place].min(trees[2 * place + 1]);
+            if trees[place] == best {
+                return;
+            }
+            trees[place] = best;
+        }
+    }
+
+    fn process(&mut self, inner: usize) {
+        self.counts.inner += 1;
+        let tree = self.regions[inner].tree as usize;
+        for _ in 0..self.regions[inner].span_or_arc {
+            let first = self.trees[tree + 1];
+            if first >= NONE {
+                return;
+            }
+            let child = region(first);
+            let row = self.regions[child];
+            let after = if row.leaf {
+                self.process_leaf(row.span_or_arc as usize);
+                NONE
+            } else {
+                self.process(child);
+                match self.trees[row.tree as usize + 1] {
+                    NONE.. => NONE,
+                    first => item(key(first), child),
+                }
+            };
+            self.write(tree, row.place as usize, after);
+        }
+    }
+
+    fn process_leaf(&mut self, number: usize) {
+        self.counts.leaves += 1;
+        let arc = self.arcs[number];
+        let sum = self.nodes[arc.tail].label + arc.length;
+        let head = &mut self.nodes[arc.head];
+        if head.label > sum {
+            head.label = sum;
+            head.feed = number as u32;
+            self.update_outgoing(arc.head, sum);
+        }
+    }
+}

@@ -1,0 +1,72 @@
+//! The route reader: the refusals 15 and 21 to 24, and the arcs of a route.
+
+use super::dijkstra::distances;
+use super::judge::accepted;
+use super::sheet::{kind, payload, Arc, Sheet};
+use super::{table, TOP};
+
+/// The arcs from the source to a node, nothing for an unreached node, or a refusal. The buffer is left to the caller.
+pub fn arcs(bytes: &[u8], table: &[u32], node: u32) -> Result<Option<Vec<u32>>, u32> {
+    let sheet = accepted(bytes)?;
+    if node as usize >= sheet.nodes() {
+        return Err(15);
+    }
+    if table.len() != table::length(sheet.nodes()) {
+        return Err(21);
+    }
+    if wrong_form(&sheet, table) {
+        return Err(22);
+    }
+    if payload(table[0]) == 0 {
+        return Err(23);
+    }
+    let labels: Vec<u32> = table[9..].iter().step_by(2).map(|word| payload(*word)).collect();
+    let feeds: Vec<u32> = table[10..].iter().step_by(2).map(|word| payload(*word)).collect();
+    let arcs: Vec<Arc> = sheet.arcs().collect();
+    if labels != distances(&sheet).labels || !(0..sheet.nodes()).all(|node| fed_well(&sheet, &arcs, &labels, &feeds, node)) {
+        return Err(24);
+    }
+    if labels[node as usize] == TOP {
+        return Ok(None);
+    }
+    Ok(chain(&sheet, &arcs, &feeds, node as usize))
+}
+
+fn wrong_form(sheet: &Sheet, table: &[u32]) -> bool {
+    let wrong_kind = table.iter().enumerate().any(|(at, word)| {
+        kind(*word)
+            != match at {
+                0 => 8,
+                1..=8 => 11,
+                _ => 10 - at as u32 % 2,
+            }
+    });
+    wrong_kind || payload(table[0]) > 1 || table[10..].iter().step_by(2).any(|word| payload(*word) != TOP && payload(*word) as usize >= sheet.arc_count())
+}
+
+/// The source and unreached nodes have no feeding arc; the feeding arcs of any other node, followed back, are a route to it as long as its label.
+fn fed_well(sheet: &Sheet, arcs: &[Arc], labels: &[u32], feeds: &[u32], node: usize) -> bool {
+    if node == sheet.source() || labels[node] == TOP {
+        return feeds[node] == TOP;
+    }
+    match chain(sheet, arcs, feeds, node) {
+        Some(route) => route.iter().map(|arc| arcs[*arc as usize].length).sum::<u32>() == labels[node],
+        None => false,
+    }
+}
+
+/// Feeding arcs followed back from a node, from the source on; nothing where they do not lead to the source. A chain without a ring has less than n arcs.
+fn chain(sheet: &Sheet, arcs: &[Arc], feeds: &[u32], node: usize) -> Option<Vec<u32>> {
+    let mut route = Vec::new();
+    let mut at = node;
+    while at != sheet.source() {
+        let feed = feeds[at];
+        if feed == TOP || arcs[feed as usize].head != at || route.len() >= sheet.nodes() {
+            return None;
+        }
+        route.push(feed);
+        at = arcs[feed as usize].tail;
+    }
+    route.reverse();
+    Some(route)
+}
