@@ -3,14 +3,12 @@
 //! Every time is that of a whole call, from the sheet's bytes to the table or the judgement, and the least of interleaved repetitions.
 
 use bench::generate::divisions::{Nesting, NESTINGS};
-use bench::generate::halls::{self, Shape, SHAPES};
-use bench::generate::random::Random;
+use bench::generate::halls::{Shape, SHAPES};
 use bench::generate::sheets::{self, Spans, SPANS};
 use bench::{proved, reference};
 use std::hint::black_box;
 use std::time::{Duration, Instant};
 
-const SEED: u64 = 9;
 const TIME_FOR_A_SHEET: Duration = Duration::from_millis(400);
 const LEAST_REPETITIONS: usize = 7;
 
@@ -50,13 +48,6 @@ fn measured(sheet: &[u8], nodes: usize) -> Times {
     times
 }
 
-fn sheet(shape: Shape, nesting: Nesting, spans: Spans, nodes: usize) -> Vec<u8> {
-    let mut random = Random::new(SEED);
-    let hall = halls::regular(shape, nodes, &mut random);
-    let division = nesting.full(hall.arcs.len(), &mut random);
-    sheets::bytes(&sheets::words(&hall, &division, spans, &mut random))
-}
-
 /// Ratios of one column, for its summary.
 struct Ratios(Vec<f64>);
 
@@ -77,7 +68,7 @@ fn every_shape() {
     for shape in SHAPES {
         for nesting in NESTINGS {
             for spans in SPANS {
-                let t = measured(&sheet(shape, nesting, spans, 1024), 1024);
+                let t = measured(&sheets::regular(shape, nesting, spans, 1024), 1024);
                 let ratios = [t.proved_run / t.plain_run, t.proved_run / t.dijkstra, t.proved_judge / t.plain_judge];
                 print!("| {shape:?} | {nesting:?} | {spans:?} | {} | {:.1} | {:.1} | {:.1} ", t.leaves, t.proved_run, t.plain_run, t.dijkstra);
                 println!("| {:.2} | {:.2} | {:.1} | {:.1} | {:.2} |", ratios[0], ratios[1], t.proved_judge, t.plain_judge, ratios[2]);
@@ -96,7 +87,7 @@ fn growth(shape: Shape, nesting: Nesting, spans: Spans) {
     println!("| arcs | leaves worked | proved run | plain run | Dijkstra | ns a leaf, proved | ns a leaf, plain | proved judge | plain judge | ns an arc, judge |");
     println!("|--:|--:|--:|--:|--:|--:|--:|--:|--:|--:|");
     for arcs in [64, 128, 256, 512, 1024, 2048] {
-        let t = measured(&sheet(shape, nesting, spans, arcs / 2), arcs / 2);
+        let t = measured(&sheets::regular(shape, nesting, spans, arcs / 2), arcs / 2);
         let of_leaf = |time: f64| 1000.0 * time / t.leaves as f64;
         print!("| {arcs} | {} | {:.1} | {:.1} | {:.1} ", t.leaves, t.proved_run, t.plain_run, t.dijkstra);
         print!("| {:.1} | {:.1} ", of_leaf(t.proved_run), of_leaf(t.plain_run));

@@ -1,7 +1,7 @@
 //! Sheets: a hall, a division and spans as words, accepted ones and noise.
 
-use super::divisions::{Division, NESTINGS};
-use super::halls::{self, Hall};
+use super::divisions::{Division, Nesting, NESTINGS};
+use super::halls::{self, Hall, Shape};
 use super::random::Random;
 
 #[derive(Clone, Copy, Debug, PartialEq, Eq)]
@@ -52,6 +52,14 @@ pub fn any(random: &mut Random) -> Vec<u32> {
     let nesting = random.pick(&NESTINGS);
     let division = nesting.of(hall.arcs.len(), random);
     words(&hall, &division, random.pick(&SPANS), random)
+}
+
+/// The sheet of the benchmark for a shape of each kind.
+pub fn regular(shape: Shape, nesting: Nesting, spans: Spans, nodes: usize) -> Vec<u8> {
+    let mut random = Random::new(9);
+    let hall = halls::regular(shape, nodes, &mut random);
+    let division = nesting.full(hall.arcs.len(), &mut random);
+    bytes(&words(&hall, &division, spans, &mut random))
 }
 
 /// A sheet of full size: 1,024 nodes, and as many arcs as the shape has.

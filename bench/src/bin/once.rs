@@ -1,0 +1,43 @@
+//! One call on one sheet of the benchmark, for a count of its instructions: `once CALL HALL DIVISION SPANS [TIMES]`.
+//!
+//! CALL is proved-run, plain-run, dijkstra, proved-judge or plain-judge; the others are named as in the benchmark's table.
+
+use bench::generate::divisions::NESTINGS;
+use bench::generate::halls::SHAPES;
+use bench::generate::sheets::{self, SPANS};
+use bench::{proved, reference};
+use std::fmt::Debug;
+use std::hint::black_box;
+
+fn named<T: Copy + Debug>(items: &[T], name: Option<&String>) -> T {
+    match items.iter().find(|item| name.is_some_and(|name| format!("{item:?}") == *name)) {
+        Some(item) => *item,
+        None => usage(),
+    }
+}
+
+fn usage() -> ! {
+    eprintln!("usage: once proved-run|plain-run|dijkstra|proved-judge|plain-judge HALL DIVISION SPANS [TIMES]");
+    eprintln!("halls {SHAPES:?}, divisions {NESTINGS:?}, spans {SPANS:?}");
+    std::process::exit(2)
+}
+
+fn main() {
+    let arguments: Vec<String> = std::env::args().skip(1).collect();
+    let call = arguments.first().map_or("", String::as_str);
+    let sheet = sheets::regular(named(&SHAPES, arguments.get(1)), named(&NESTINGS, arguments.get(2)), named(&SPANS, arguments.get(3)), 1024);
+    let times = arguments.get(4).map_or(1, |times| times.parse().unwrap_or_else(|_| usage()));
+    let mut table = vec![0; 9 + 2 * 1024];
+    for _ in 0..times {
+        let sheet = black_box(&sheet);
+        let answer = match call {
+            "proved-run" => proved::run(sheet, &mut table),
+            "plain-run" => reference::run(sheet, &mut table).code(),
+            "dijkstra" => reference::run_dijkstra(sheet, &mut table).code(),
+            "proved-judge" => proved::judge(sheet),
+            "plain-judge" => reference::judge(sheet).code(),
+            _ => usage(),
+        };
+        black_box(answer);
+    }
+}
