@@ -1,11 +1,6 @@
 -- The number by which the library for C and Rust gives an answer. Definitions; assumes nothing.
 use Prim.Native.Nat.{ℕ, _+_}
-use Rattle.sheet.specs.Answer.{Refusal, input, state, Answer, accepted, ended, paused, route, noRoute, refused}
-
--- "the number alone": input and state are numbered in one row, so that the number also says which of the two was at fault
-abbrev pub numberOf : Refusal → ℕ
-numberOf (input n) = n
-numberOf (state n) = n
+use Rattle.sheet.specs.Answer.{numberOf, Answer, accepted, ended, paused, route, noRoute, refused}
 
 -- 1 to 99 a refusal, 256 to 259 what has no number of its own, from 65,536 on a route with the count of its arcs
 abbrev pub codeOf : Answer → ℕ

@@ -4,7 +4,7 @@ use mathlib.Core.Path.{_≡_, sym, ap, _∙_}
 use mathlib.Core.List.{List, _++_}
 use lib.ListN.{length, drop}
 use Rattle.sheet.specs.Sections.{nodeCount}
-use Rattle.sheet.specs.Answer.{Refusal, refused}
+use Rattle.sheet.specs.Answer.{numberOf, Refusal, refused}
 use Rattle.refusals.specs.Judgement.{judgement, Accepted}
 use Rattle.procedure.specs.Procedure.{enoughRounds}
 use Rattle.answers.specs.Tables.{tableLength}
@@ -12,7 +12,7 @@ use Rattle.answers.specs.Runs.{tableAfter}
 use Rattle.answers.proofs.Outcome.{made}
 use Rattle.listing.specs.Listing.{listingOf, refusedLine}
 use Rattle.listing.specs.Written.{Filled}
-use Rattle.report.specs.Report.{numberOf, endTable, printed, wordsAfter, Reported}
+use Rattle.report.specs.Report.{endTable, printed, wordsAfter, Reported}
 
 module _ (b : List ℕ) {table out outAfter : List ℕ} {n : ℕ} where
   -- of a refused sheet the line of the refusal is printed, and the table stays

@@ -5,18 +5,13 @@ use mathlib.Core.List.{List, _++_}
 use lib.ListN.{drop}
 use Rattle.indices.specs.Steps.{if_then_else_}
 use Rattle.sheet.specs.Sections.{nodeCount}
-use Rattle.sheet.specs.Answer.{Refusal, input, state, Answer, accepted, ended, paused, route, noRoute, refused, isRefused}
+use Rattle.sheet.specs.Answer.{numberOf, Answer, accepted, ended, paused, route, noRoute, refused, isRefused}
 use Rattle.refusals.specs.Judgement.{judgement}
 use Rattle.procedure.specs.Procedure.{enoughRounds}
 use Rattle.answers.specs.Tables.{tableLength}
 use Rattle.answers.specs.Runs.{runTable}
 use Rattle.listing.specs.Listing.{listingOf, refusedLine}
 use Rattle.listing.specs.Written.{Filled}
-
--- "and the number alone"
-abbrev pub numberOf : Refusal → ℕ
-numberOf (input n) = n
-numberOf (state n) = n
 
 -- the line of a refusal; of any other answer the listing
 abbrev pub textOf : Answer → List ℕ → List ℕ

@@ -4,12 +4,12 @@ ghost use Prim.Native.Nat.{_≤_};
 ghost use lib.ListN.{length};
 ghost use Rattle.io.specs.Counts.{Counts};
 ghost use Rattle.sheet.specs.Sections.{nodeCount};
-ghost use Rattle.sheet.specs.Answer.{refusalOf};
+ghost use Rattle.sheet.specs.Answer.{numberOf, refusalOf};
 ghost use Rattle.refusals.specs.Judgement.{Accepted};
 ghost use Rattle.answers.specs.Tables.{tableLength};
 ghost use Rattle.listing.specs.Listing.{listingOf, mostListing};
 ghost use Rattle.listing.specs.Written.{Filled};
-ghost use Rattle.report.specs.Report.{numberOf, endTable, Reported};
+ghost use Rattle.report.specs.Report.{endTable, Reported};
 use judge::Judged;
 use sheet::Fault;
 
