@@ -7,7 +7,7 @@ use super::{table, TOP};
 
 /// The arcs from the source to a node, nothing for an unreached node, or a refusal. The buffer is left to the caller.
 pub fn arcs(bytes: &[u8], table: &[u32], node: u32) -> Result<Option<Vec<u32>>, u32> {
-    let sheet = accepted(bytes)?;
+    let sheet = accepted(bytes)?.sheet;
     if node as usize >= sheet.nodes() {
         return Err(15);
     }
