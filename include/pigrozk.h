@@ -20,6 +20,9 @@
 extern "C" {
 #endif
 
+/* A stack of so many bytes has room for each call. No theorem speaks of a stack: this is measured (tests/c/stack.c), and rounded up. */
+#define PIGROZK_STACK_BYTES 163840
+
 /* The limits of a sheet that is accepted. */
 #define PIGROZK_MOST_BYTES 32828
 #define PIGROZK_MOST_NODES 1024

@@ -62,7 +62,7 @@ impl Ratios {
 
 fn every_shape() {
     println!("Full-size sheets: 1,024 nodes, up to 2,048 arcs. Times in microseconds.");
-    println!("| hall | division | spans | leaves worked | proved run | plain run | Dijkstra | run ratio | to Dijkstra | proved judge | plain judge | judge ratio |");
+    println!("| hall | division | spans | leaves | proved run | plain run | Dijkstra | ratio | to Dijkstra | proved judge | plain judge | ratio |");
     println!("|---|---|---|--:|--:|--:|--:|--:|--:|--:|--:|--:|");
     let mut columns = [Ratios(vec![]), Ratios(vec![]), Ratios(vec![])];
     for shape in SHAPES {
@@ -84,7 +84,7 @@ fn every_shape() {
 
 fn growth(shape: Shape, nesting: Nesting, spans: Spans) {
     println!("\nGrowth: {shape:?}, {nesting:?}, spans {spans:?}. Run and judge in microseconds.");
-    println!("| arcs | leaves worked | proved run | plain run | Dijkstra | ns a leaf, proved | ns a leaf, plain | proved judge | plain judge | ns an arc, judge |");
+    println!("| arcs | leaves | proved run | plain run | Dijkstra | proved, ns a leaf | plain, ns a leaf | proved judge | plain judge | ns an arc |");
     println!("|--:|--:|--:|--:|--:|--:|--:|--:|--:|--:|");
     for arcs in [64, 128, 256, 512, 1024, 2048] {
         let t = measured(&sheets::regular(shape, nesting, spans, arcs / 2), arcs / 2);

@@ -83,7 +83,7 @@ impl Lent {
 /// Makes one call of both programs with equal slices, compares answers and words, and gives the answer and the slice at exit.
 fn compared(
     call: &'static str,
-    told: &str,
+    told: impl Fn() -> String,
     lent: Lent,
     tally: &mut Tally,
     of_proved: impl FnOnce(&mut [u32]) -> u32,
@@ -96,14 +96,14 @@ fn compared(
     let code = of_proved(got.part());
     tally.count(call, answer);
     if code != answer.code() {
-        return Err(Difference(format!("{call} {told}: answered {code}, expected {}", answer.code())));
+        return Err(Difference(format!("{call} {}: answered {code}, expected {}", told(), answer.code())));
     }
     if let Some(at) = (0..before.len()).find(|at| got.words[*at] != expected.words[*at]) {
         let (found, wanted) = (got.words[at], expected.words[at]);
-        return Err(Difference(format!("{call} {told}: word {} is {found:08x}, expected {wanted:08x}", at as i64 - GUARD as i64)));
+        return Err(Difference(format!("{call} {}: word {} is {found:08x}, expected {wanted:08x}", told(), at as i64 - GUARD as i64)));
     }
     if matches!(answer, Answer::Refused(_) | Answer::NoRoute) && got.words != before {
-        return Err(Difference(format!("{call} {told}: a refusal changed what was lent")));
+        return Err(Difference(format!("{call} {}: a refusal changed what was lent", told())));
     }
     Ok((answer, got.part().to_vec()))
 }
@@ -119,9 +119,10 @@ impl Trial<'_> {
     fn all(&mut self) -> Outcome {
         let untouched = self.bytes.to_vec();
         let bytes = self.bytes;
-        compared("judge", "", Lent { words: vec![0; 2 * GUARD] }, self.tally, |_| proved::judge(bytes), |_| reference::judge(bytes))?;
+        let nothing = Lent { words: vec![0; 2 * GUARD] };
+        compared("judge", String::new, nothing, self.tally, |_| proved::judge(bytes), |_| reference::judge(bytes))?;
         match accepted(bytes) {
-            Ok(sheet) => self.accepted(&sheet)?,
+            Ok(accepted) => self.accepted(&accepted.sheet)?,
             Err(_) => self.refused()?,
         }
         match self.bytes == untouched {
@@ -214,16 +215,16 @@ impl Trial<'_> {
     fn run(&mut self, length: usize) -> Result<Vec<u32>, Difference> {
         let lent = Lent::new(length, self.random);
         let bytes = self.bytes;
-        let told = format!("with a table of {length} words");
-        compared("run", &told, lent, self.tally, |table| proved::run(bytes, table), |table| reference::run(bytes, table)).map(|(_, table)| table)
+        let told = || format!("with a table of {length} words");
+        compared("run", told, lent, self.tally, |table| proved::run(bytes, table), |table| reference::run(bytes, table)).map(|(_, table)| table)
     }
 
     fn run_limited(&mut self, rounds: u32, length: usize) -> Result<(Answer, Vec<u32>), Difference> {
         let lent = Lent::new(length, self.random);
         let bytes = self.bytes;
-        let told = format!("for {rounds} rounds with a table of {length} words");
+        let told = || format!("for {rounds} rounds with a table of {length} words");
         let of_proved = |table: &mut [u32]| proved::run_limited(bytes, rounds, table);
-        compared("run_limited", &told, lent, self.tally, of_proved, |table| reference::run_limited(bytes, rounds, table))
+        compared("run_limited", told, lent, self.tally, of_proved, |table| reference::run_limited(bytes, rounds, table))
     }
 
     fn route(&mut self, table: &[u32], node: u32, room: usize) -> Result<Answer, Difference> {
@@ -235,11 +236,11 @@ impl Trial<'_> {
             format!("to node {node} with a buffer of {room} words out of the table {words}")
         };
         let of_proved = |buffer: &mut [u32]| proved::route(bytes, table, node, buffer);
-        let outcome = compared("route", "", lent, self.tally, of_proved, |buffer| reference::route(bytes, table, node, buffer));
-        if table != untouched {
-            return Err(Difference(format!("route {}: the table was changed", told())));
+        let (answer, _) = compared("route", told, lent, self.tally, of_proved, |buffer| reference::route(bytes, table, node, buffer))?;
+        match table == untouched {
+            true => Ok(answer),
+            false => Err(Difference(format!("route {}: the table was changed", told()))),
         }
-        outcome.map(|(answer, _)| answer).map_err(|Difference(text)| Difference(format!("{text}; {}", told())))
     }
 
     fn rounds(&mut self) -> u32 {

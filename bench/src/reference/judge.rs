@@ -2,14 +2,20 @@
 
 use super::sheet::{is_leaf, kind, leaf_arc, parent, payload, Sheet};
 
+/// An accepted sheet, with the height of each region.
+pub struct Accepted {
+    pub sheet: Sheet,
+    pub heights: Vec<u16>,
+}
+
 /// The sheet, or the lowest number that applies to it.
-pub fn accepted(bytes: &[u8]) -> Result<Sheet, u32> {
+pub fn accepted(bytes: &[u8]) -> Result<Accepted, u32> {
     if bytes.len() % 4 != 0 || bytes.len() > 32_828 {
         return Err(1);
     }
     let words = bytes.chunks_exact(4).map(|word| u32::from_be_bytes([word[0], word[1], word[2], word[3]])).collect();
     let sheet = Sheet::in_order(words).ok_or(2u32)?;
-    const TESTS: [(u32, fn(&Sheet) -> bool); 12] = [
+    const TESTS: [(u32, fn(&Sheet) -> bool); 11] = [
         (3, bit_set),
         (4, |sheet| sheet.nodes() < 1 || sheet.nodes() > 1024),
         (5, |sheet| sheet.source() >= sheet.nodes()),
@@ -21,11 +27,14 @@ pub fn accepted(bytes: &[u8]) -> Result<Sheet, u32> {
         (11, wrong_parent),
         (12, wrong_leaves),
         (13, childless),
-        (14, |sheet| sheet.spans().len() != heights(sheet)[0]),
     ];
-    match TESTS.iter().find(|(_, applies)| applies(&sheet)) {
-        Some((number, _)) => Err(*number),
-        None => Ok(sheet),
+    if let Some((number, _)) = TESTS.iter().find(|(_, applies)| applies(&sheet)) {
+        return Err(*number);
+    }
+    let heights = heights(&sheet);
+    match sheet.spans().len() == heights[0] as usize {
+        true => Ok(Accepted { sheet, heights }),
+        false => Err(14),
     }
 }
 
@@ -71,7 +80,7 @@ fn childless(sheet: &Sheet) -> bool {
 }
 
 /// The height of every region. Children come after their parents, so one pass from the last region back finds all.
-pub fn heights(sheet: &Sheet) -> Vec<usize> {
+fn heights(sheet: &Sheet) -> Vec<u16> {
     let regions = sheet.regions();
     let mut heights = vec![0; regions.len() + 1];
     heights[0] = 1;

@@ -7,7 +7,7 @@ pub mod route;
 pub mod sheet;
 pub mod table;
 
-use sheet::Sheet;
+use judge::Accepted;
 
 /// The payload that stands for 'unreached', for the key 'none' and for 'no arc'.
 pub const TOP: u32 = (1 << 28) - 1;
@@ -53,26 +53,26 @@ pub fn run_limited(bytes: &[u8], rounds: u32, table: &mut [u32]) -> Answer {
 }
 
 fn run_for(bytes: &[u8], limit: Option<u32>, table: &mut [u32]) -> Answer {
-    match sheet_for(bytes, table) {
+    match accepted_for(bytes, table) {
         Err(number) => Answer::Refused(number),
-        Ok(sheet) => procedure::run(&sheet, limit, table),
+        Ok(accepted) => procedure::run(&accepted, limit, table),
     }
 }
 
 /// Distances and feeding arcs by Dijkstra's procedure, in a table whose counts are 0.
 pub fn run_dijkstra(bytes: &[u8], table: &mut [u32]) -> Answer {
-    match sheet_for(bytes, table) {
+    match accepted_for(bytes, table) {
         Err(number) => Answer::Refused(number),
-        Ok(sheet) => dijkstra::run(&sheet, table),
+        Ok(accepted) => dijkstra::run(&accepted.sheet, table),
     }
 }
 
-fn sheet_for(bytes: &[u8], table: &[u32]) -> Result<Sheet, u32> {
-    let sheet = judge::accepted(bytes)?;
-    if table.len() != table::length(sheet.nodes()) {
-        return Err(21);
+fn accepted_for(bytes: &[u8], table: &[u32]) -> Result<Accepted, u32> {
+    let accepted = judge::accepted(bytes)?;
+    match table.len() == table::length(accepted.sheet.nodes()) {
+        true => Ok(accepted),
+        false => Err(21),
     }
-    Ok(sheet)
 }
 
 pub fn route(bytes: &[u8], table: &[u32], node: u32, buffer: &mut [u32]) -> Answer {

@@ -4,8 +4,8 @@
 //! 2p and 2p + 1, and place 1 the first-chosen child. A place holds key and region number in one number, so that the better one is the lower one.
 //! A leaf's own key and its key in its parent are equal whenever one of them is read, and stand in the parent's tree alone.
 
-use super::judge::heights;
-use super::sheet::{is_leaf, leaf_arc, parent, payload, Arc, Sheet};
+use super::judge::Accepted;
+use super::sheet::{is_leaf, leaf_arc, parent, payload, Arc};
 use super::table::{write_header, write_node, Counts};
 use super::{Answer, TOP};
 
@@ -24,7 +24,7 @@ fn region(item: u64) -> usize {
 }
 
 /// What is known of a region: where it stands in its parent's tree, where its own tree begins, and its span, or its arc for a leaf.
-#[derive(Clone, Copy, Default)]
+#[derive(Clone, Copy)]
 struct Region {
     parent: u16,
     place: u16,
@@ -50,9 +50,9 @@ struct Run {
 }
 
 /// Runs an accepted sheet for at most so many rounds, or to its end, and writes the table.
-pub fn run(sheet: &Sheet, limit: Option<u32>, table: &mut [u32]) -> Answer {
-    let mut run = Run::new(sheet);
-    run.start(sheet.source());
+pub fn run(accepted: &Accepted, limit: Option<u32>, table: &mut [u32]) -> Answer {
+    let mut run = Run::new(accepted);
+    run.start(accepted.sheet.source());
     while !run.ended() && limit.is_none_or(|limit| run.counts.rounds < limit as u64) {
         run.counts.rounds += 1;
         run.process(0);
@@ -68,38 +68,39 @@ pub fn run(sheet: &Sheet, limit: Option<u32>, table: &mut [u32]) -> Answer {
     }
 }
 
-fn regions(sheet: &Sheet) -> Vec<Region> {
-    let words = sheet.regions();
+/// How many places come before each region's tree, and after them the children of each region.
+fn trees_and_children(words: &[u32]) -> (Vec<u16>, Vec<u16>) {
     let mut children = vec![0u16; words.len() + 1];
     for word in words {
         children[parent(*word)] += 1;
     }
-    let mut regions = vec![Region::default(); words.len() + 1];
-    let mut next = 0;
-    for (row, children) in regions.iter_mut().zip(&children) {
-        row.tree = next;
-        next += 2 * children;
+    let mut places = vec![0; children.len()];
+    for region in 1..children.len() {
+        places[region] = places[region - 1] + 2 * children[region - 1];
     }
-    let heights = heights(sheet);
-    regions[0].span_or_arc = payload(sheet.spans()[heights[0] - 1]);
-    let mut free = children;
+    (places, children)
+}
+
+fn regions(accepted: &Accepted) -> Vec<Region> {
+    let words = accepted.sheet.regions();
+    let spans = accepted.sheet.spans();
+    let (trees, mut free) = trees_and_children(words);
+    let mut regions = Vec::with_capacity(words.len() + 1);
+    regions.push(Region { parent: 0, place: 0, tree: 0, leaf: false, span_or_arc: payload(spans[spans.len() - 1]) });
     for (at, word) in words.iter().enumerate() {
-        let above = parent(*word);
-        regions[at + 1].parent = above as u16;
-        regions[at + 1].place = free[above];
-        free[above] += 1;
-        regions[at + 1].leaf = is_leaf(*word);
-        regions[at + 1].span_or_arc = match is_leaf(*word) {
-            true => leaf_arc(*word) as u32,
-            false => payload(sheet.spans()[heights[at + 1] - 1]),
-        };
+        let parent = parent(*word);
+        let leaf = is_leaf(*word);
+        let span_or_arc = if leaf { leaf_arc(*word) as u32 } else { payload(spans[accepted.heights[at + 1] as usize - 1]) };
+        regions.push(Region { parent: parent as u16, place: free[parent], tree: trees[at + 1], leaf, span_or_arc });
+        free[parent] += 1;
     }
     regions
 }
 
 impl Run {
-    fn new(sheet: &Sheet) -> Run {
-        let regions = regions(sheet);
+    fn new(accepted: &Accepted) -> Run {
+        let sheet = &accepted.sheet;
+        let regions = regions(accepted);
         let trees = vec![NONE; 2 * regions.len()];
         let arcs: Vec<Arc> = sheet.arcs().collect();
         let mut leaves = vec![0u16; arcs.len()];

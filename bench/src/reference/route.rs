@@ -7,7 +7,7 @@ use super::{table, TOP};
 
 /// The arcs from the source to a node, nothing for an unreached node, or a refusal. The buffer is left to the caller.
 pub fn arcs(bytes: &[u8], table: &[u32], node: u32) -> Result<Option<Vec<u32>>, u32> {
-    let sheet = accepted(bytes)?;
+    let sheet = accepted(bytes)?.sheet;
     if node as usize >= sheet.nodes() {
         return Err(15);
     }
@@ -41,7 +41,9 @@ fn wrong_form(sheet: &Sheet, table: &[u32]) -> bool {
                 _ => 10 - at as u32 % 2,
             }
     });
-    wrong_kind || payload(table[0]) > 1 || table[10..].iter().step_by(2).any(|word| payload(*word) != TOP && payload(*word) as usize >= sheet.arc_count())
+    wrong_kind
+        || payload(table[0]) > 1
+        || table[10..].iter().step_by(2).any(|word| payload(*word) != TOP && payload(*word) as usize >= sheet.arc_count())
 }
 
 /// The source and unreached nodes have no feeding arc; the feeding arcs of any other node, followed back, are a route to it as long as its label.

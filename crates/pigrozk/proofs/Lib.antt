@@ -1,1 +1,2 @@
 pub mod RouteLength
+pub mod Told

@@ -1,7 +1,6 @@
 -- `pigrozk_judge` meets its contract: the code of the judge's answer. Assumes nothing.
-use mathlib.Core.Path.{ap, _∙_}
 use borrow.Author.Needs.{needs}
-use Rattle.pigrozk.specs.Codes.{codeOf}
+use Rattle.pigrozk.proofs.Told.{same-code}
 use Rattle.pigrozk.proofs.pigrozk_judge.Statement.{statement}
 use Rattle.pigrozk.proofs.pigrozk_judge.Tie as tie
 
@@ -12,7 +11,7 @@ judged-code-requires : tie.Need-judged-code-requires
 judged-code-requires c κs = search needs
 
 returns : tie.Need-returns
-returns c = c .judged-code .ensures ∙ ap codeOf (c .before .judge .ensures)
+returns c = same-code (c .judged-code .ensures) (c .before .judge .ensures)
 
 pub pigrozk-judge-spec : {M : Type 1} → statement M
 pigrozk-judge-spec = tie.close (tie.spec judge-requires judged-code-requires returns)

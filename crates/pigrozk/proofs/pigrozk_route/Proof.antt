@@ -1,9 +1,8 @@
 -- `pigrozk_route` meets its contract: the code of the route reader's answer. Assumes nothing.
-use mathlib.Core.Path.{ap, _∙_}
 use borrow.Author.Needs.{needs}
 use Rattle.answers.proofs.Routes.{table-known}
-use Rattle.pigrozk.specs.Codes.{codeOf}
 use Rattle.pigrozk.proofs.RouteLength.{few-arcs}
+use Rattle.pigrozk.proofs.Told.{same-code}
 use Rattle.pigrozk.proofs.pigrozk_route.Statement.{statement}
 use Rattle.pigrozk.proofs.pigrozk_route.Tie as tie
 
@@ -21,7 +20,7 @@ same-length c = search needs
 returns : tie.Need-returns
 returns c =
     let done = c .before .before .before .route .ensures in
-    (c .routed-code .ensures ∙ ap codeOf (done .0), done .1, table-known _ _ _ _)
+    (same-code (c .routed-code .ensures) (done .0), done .1, table-known _ _ _ _)
 
 pub pigrozk-route-spec : {M : Type 1} → statement M
 pigrozk-route-spec = tie.close (tie.spec route-requires routed-code-requires same-length returns)

@@ -1,7 +1,6 @@
 -- `pigrozk_run` meets its contract: the code of the run's answer. Assumes nothing.
-use mathlib.Core.Path.{ap, _∙_}
 use borrow.Author.Needs.{needs}
-use Rattle.pigrozk.specs.Codes.{codeOf}
+use Rattle.pigrozk.proofs.Told.{same-code}
 use Rattle.pigrozk.proofs.pigrozk_run.Statement.{statement}
 use Rattle.pigrozk.proofs.pigrozk_run.Tie as tie
 
@@ -18,7 +17,7 @@ returns : tie.Need-returns
 returns c =
     let done = c .before .before .before .run .ensures in
     let coded = c .ran-code .ensures in
-    (coded ∙ ap codeOf (done .0), done .1, λ ok room. (done .2 ok room .0, coded ∙ ap codeOf (done .2 ok room .1)))
+    (same-code coded (done .0), done .1, λ ok room. (done .2 ok room .0, same-code coded (done .2 ok room .1)))
 
 pub pigrozk-run-spec : {M : Type 1} → statement M
 pigrozk-run-spec = tie.close (tie.spec run-requires ran-code-requires same-length returns)

@@ -1,7 +1,6 @@
 -- `pigrozk_run_limited` meets its contract: the code of the run's answer. Assumes nothing.
-use mathlib.Core.Path.{ap, _∙_}
 use borrow.Author.Needs.{needs}
-use Rattle.pigrozk.specs.Codes.{codeOf}
+use Rattle.pigrozk.proofs.Told.{same-code}
 use Rattle.pigrozk.proofs.pigrozk_run_limited.Statement.{statement}
 use Rattle.pigrozk.proofs.pigrozk_run_limited.Tie as tie
 
@@ -17,7 +16,7 @@ same-length c = search needs
 returns : tie.Need-returns
 returns c =
     let done = c .before .before .before .run-limited .ensures in
-    (c .ran-code .ensures ∙ ap codeOf (done .0), done .1, done .2)
+    (same-code (c .ran-code .ensures) (done .0), done .1, done .2)
 
 pub pigrozk-run-limited-spec : {M : Type 1} → statement M
 pigrozk-run-limited-spec = tie.close (tie.spec run-limited-requires ran-code-requires same-length returns)

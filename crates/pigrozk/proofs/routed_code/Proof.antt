@@ -1,5 +1,5 @@
 -- `routed_code` meets its contract: a route's count fits behind 65,536. Assumes nothing.
-use mathlib.Core.Path.{sym, ap, _∙_}
+use mathlib.Core.Path.{sym, ap}
 use native.Mathlib.Omega.{arith}
 use Rattle.route.specs.Said.{said}
 use Rattle.pigrozk.specs.Codes.{codeOf}

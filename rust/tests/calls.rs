@@ -1,0 +1,124 @@
+//! The four calls through the wrapper: the paper's cases on hall A, lengths at the edge, and the samples, whose listings come from another program.
+use pigrozk::{judge, route, run, run_limited, table_words, Answer, MOST_TABLE_WORDS, NONE};
+use std::fmt::Write;
+use std::path::{Path, PathBuf};
+
+const PATTERN: u32 = 0x5eed_5eed;
+
+fn samples() -> PathBuf {
+    Path::new(env!("CARGO_MANIFEST_DIR")).join("../samples")
+}
+
+/// The bytes of a sheet that is written as words of eight hexadecimal digits; '#' starts a comment.
+fn sheet_of(text: &str) -> Vec<u8> {
+    let words = text.lines().flat_map(|line| line.split('#').next().unwrap_or("").split_whitespace());
+    words.flat_map(|word| u32::from_str_radix(word, 16).expect("a word").to_be_bytes()).collect()
+}
+
+fn sample(name: &str) -> Vec<u8> {
+    sheet_of(&std::fs::read_to_string(samples().join(name).with_extension("hex")).expect("a sample"))
+}
+
+/// A table for the sheet, as a run to its end leaves it.
+fn ended(sheet: &[u8], nodes: usize) -> Vec<u32> {
+    let mut table = vec![PATTERN; table_words(nodes)];
+    assert_eq!(run(sheet, &mut table), Answer::Ended);
+    table
+}
+
+fn payload(word: u32) -> u32 {
+    word & NONE
+}
+
+/// What the paper prints of an ended table.
+fn listing(table: &[u32]) -> String {
+    let count = |i: usize| (u64::from(payload(table[1 + 2 * i])) << 28) + u64::from(payload(table[2 + 2 * i]));
+    let shown = |word: u32| if payload(word) == NONE { "-".to_string() } else { payload(word).to_string() };
+    let mut text = format!("ended rounds {} leaves {} inner {} updates {}\n", count(0), count(1), count(2), count(3));
+    for (node, words) in table[9..].chunks(2).enumerate() {
+        writeln!(text, "{node} {} {}", shown(words[0]), shown(words[1])).expect("written");
+    }
+    text
+}
+
+#[test]
+fn samples_as_listed() {
+    let mut tried = 0;
+    for entry in std::fs::read_dir(samples()).expect("samples/") {
+        let path = entry.expect("an entry").path();
+        if path.extension().is_some_and(|kind| kind == "hex") {
+            let sheet = sheet_of(&std::fs::read_to_string(&path).expect("a sample"));
+            let expected = std::fs::read_to_string(path.with_extension("txt")).expect("its listing");
+            let nodes = u32::from_be_bytes([0, sheet[1], sheet[2], sheet[3]]) as usize;
+            let mut table = vec![PATTERN; table_words(nodes)];
+            let printed = match run(&sheet, &mut table) {
+                Answer::Refused(number) => format!("refused {number}\n"),
+                Answer::Ended => listing(&table),
+                other => panic!("{other:?}"),
+            };
+            assert_eq!(printed, expected, "{}", path.display());
+            tried += 1;
+        }
+    }
+    assert!(tried >= 12);
+}
+
+#[test]
+fn judged() {
+    let mut sheet = sample("hall-a");
+    assert_eq!(judge(&sheet), Answer::Accepted);
+    assert_eq!(judge(&sheet[..71]), Answer::Refused(1));
+    assert_eq!(judge(&[]), Answer::Refused(2));
+    sheet[3] = 0;
+    assert_eq!(judge(&sheet), Answer::Refused(4));
+}
+
+#[test]
+fn rounds() {
+    let sheet = sample("hall-a");
+    let mut table = ended(&sheet, 4);
+    assert_eq!(run_limited(&sheet, 0, &mut table), Answer::Paused);
+    assert_eq!(table[..9].iter().map(|word| payload(*word)).collect::<Vec<_>>(), [0, 0, 0, 0, 0, 0, 0, 0, 6]);
+    assert_eq!(run_limited(&sheet, 1, &mut table), Answer::Paused);
+    assert_eq!(table[..9].iter().map(|word| payload(*word)).collect::<Vec<_>>(), [0, 0, 1, 0, 2, 0, 2, 0, 8]);
+    assert_eq!(run_limited(&sheet, u32::MAX, &mut table), Answer::Ended);
+    assert_eq!(table, ended(&sheet, 4));
+}
+
+#[test]
+fn tables_of_other_lengths() {
+    let sheet = sample("hall-a");
+    for words in [0, 16, 18, MOST_TABLE_WORDS] {
+        let mut table = vec![PATTERN; words];
+        assert_eq!(run(&sheet, &mut table), Answer::Refused(21));
+        assert_eq!(run_limited(&sheet, 1, &mut table), Answer::Refused(21));
+        assert_eq!(route(&sheet, &table, 3, &mut []), Answer::Refused(21));
+        assert_eq!(table, vec![PATTERN; words]);
+    }
+}
+
+#[test]
+fn routes() {
+    let sheet = sample("hall-a");
+    let mut table = ended(&sheet, 4);
+    let mut buffer = [PATTERN; 5];
+    assert_eq!(route(&sheet, &table, 3, &mut buffer[..2]), Answer::Refused(25));
+    assert_eq!(route(&sheet, &table, 4, &mut buffer), Answer::Refused(15));
+    assert_eq!(route(&sheet, &table, 0, &mut []), Answer::Route(0));
+    assert_eq!(buffer, [PATTERN; 5]);
+    assert_eq!(route(&sheet, &table, 3, &mut buffer), Answer::Route(3));
+    assert_eq!(buffer, [1, 2, 3, PATTERN, PATTERN]);
+    table[15] += 1;
+    assert_eq!(route(&sheet, &table, 3, &mut buffer), Answer::Refused(24));
+    table[0] -= 1;
+    assert_eq!(route(&sheet, &table, 3, &mut buffer), Answer::Refused(23));
+}
+
+#[test]
+fn no_route() {
+    let sheet = sample("unreached");
+    let nodes = u32::from_be_bytes([0, sheet[1], sheet[2], sheet[3]]) as usize;
+    let table = ended(&sheet, nodes);
+    let unreached = (0..nodes).find(|node| payload(table[9 + 2 * node]) == NONE).expect("an unreached node");
+    assert_eq!(route(&sheet, &table, unreached as u32, &mut []), Answer::NoRoute);
+}

@@ -1,0 +1,88 @@
+/* How much stack each call uses at most. A call is made in a thread whose stack was filled with a pattern; afterwards the lowest byte that differs from the
+ * pattern says how far down it went. The sheet is the deepest that there is: region 0 has height 15 and two chains of regions below it, and the leaf that
+ * is worked at the bottom of one chain, within 15 nested workings, updates the leaf of the other, from where the update climbs to region 0. */
+#define _XOPEN_SOURCE 700
+#include <pthread.h>
+#include <stdio.h>
+#include <string.h>
+
+#include "pigrozk.h"
+
+enum { ROOM = 1 << 19, PATTERN = 0xa5, HEIGHT = PIGROZK_MOST_SPANS, NODES = 3 };
+
+static uint8_t stack[ROOM] __attribute__((aligned(4096)));
+static uint8_t sheet[PIGROZK_MOST_BYTES];
+static size_t sheet_bytes = 0;
+static uint32_t table[PIGROZK_TABLE_WORDS(NODES)];
+static uint32_t buffer[NODES];
+static uint8_t *volatile start;
+static volatile uint32_t code;
+
+static void word(uint32_t w) {
+    for (int shift = 24; shift >= 0; shift -= 8) sheet[sheet_bytes++] = (uint8_t)(w >> shift);
+}
+
+/* Inner regions from `first` on, each in the one before, the first one in region 0, and at the bottom a leaf. */
+static void chain(uint32_t first, uint32_t arc) {
+    for (uint32_t i = 0; i + 1 < HEIGHT; i++) word(0x60000000 + (i == 0 ? 0 : first + i - 1));
+    word(0x70000000 + ((first + HEIGHT - 2) << 11) + arc);
+}
+
+static void write_sheet(void) {
+    word(0x10000000 + NODES);
+    word(0x20000000);
+    for (int i = 0; i < HEIGHT; i++) word(0x30000000 + PIGROZK_MOST_SPAN);
+    for (uint32_t arc = 0; arc < 2; arc++) {
+        word(0x40000000 + (arc << 10) + arc + 1);
+        word(0x50000001);
+    }
+    chain(1, 0);
+    chain(HEIGHT + 1, 1);
+}
+
+static uint32_t judge(void) { return pigrozk_judge(sheet, sheet_bytes); }
+static uint32_t run(void) { return pigrozk_run(sheet, sheet_bytes, table, PIGROZK_TABLE_WORDS(NODES)); }
+static uint32_t run_limited(void) { return pigrozk_run_limited(sheet, sheet_bytes, 1, table, PIGROZK_TABLE_WORDS(NODES)); }
+static uint32_t route(void) { return pigrozk_route(sheet, sheet_bytes, table, PIGROZK_TABLE_WORDS(NODES), 2, buffer, NODES); }
+
+struct Call {
+    const char *name;
+    uint32_t (*make)(void);
+    uint32_t answer;
+};
+
+static void *within(void *call) {
+    uint8_t here;
+    start = &here;
+    code = ((const struct Call *)call)->make();
+    return NULL;
+}
+
+/* The bytes used by one call, or 0 if the thread can't be had or the answer is another. */
+static size_t used(struct Call *call) {
+    pthread_attr_t attributes;
+    pthread_t thread;
+    memset(stack, PATTERN, ROOM);
+    if (pthread_attr_init(&attributes) || pthread_attr_setstack(&attributes, stack, ROOM)) return 0;
+    if (pthread_create(&thread, &attributes, within, call) || pthread_join(thread, NULL)) return 0;
+    pthread_attr_destroy(&attributes);
+    size_t lowest = 0;
+    while (stack[lowest] == PATTERN) lowest++;
+    return code == call->answer ? (size_t)(start - (stack + lowest)) : 0;
+}
+
+int main(void) {
+    struct Call calls[] = {{"pigrozk_judge", judge, PIGROZK_ACCEPTED},
+                           {"pigrozk_run", run, PIGROZK_ENDED},
+                           {"pigrozk_run_limited", run_limited, PIGROZK_ENDED},
+                           {"pigrozk_route", route, PIGROZK_ROUTE + 2}};
+    int failures = 0;
+    write_sheet();
+    for (size_t i = 0; i < sizeof calls / sizeof calls[0]; i++) {
+        size_t bytes = used(&calls[i]);
+        int good = bytes > 0 && bytes <= PIGROZK_STACK_BYTES;
+        printf("stack of %s: %zu bytes%s\n", calls[i].name, bytes, good ? "" : ", not within the limit");
+        failures += !good;
+    }
+    return failures != 0;
+}
