@@ -1,6 +1,6 @@
 /* Travel times by nested regions: the four calls, for C and C++.
  *
- * Link target/staticlib/libpigrozk.a, which `rt staticlib pigrozk` writes; it needs no other library. It is for x86-64.
+ * Link target/staticlib/libpigrozk.a, which `rt staticlib pigrozk` writes, for x86-64. Of other libraries it needs memcpy and memset alone.
  *
  * A sheet is bytes, each word of 32 bits with its most significant byte first. A table and a buffer are words in the machine's own order.
  * What is lent is a pointer and a length: of a sheet in bytes, of a table or a buffer in words. There is no other precondition than that
@@ -20,7 +20,8 @@
 extern "C" {
 #endif
 
-/* A stack of so many bytes has room for each call. No theorem speaks of a stack: this is measured (tests/c/stack.c), and rounded up. */
+/* A stack of so many bytes has room for each call. No theorem speaks of a stack: tests/c/stack.c measures it, on a sheet of height 15, as 150,151 bytes for
+ * a run, 18,743 for a route and 19,703 for a judgement. */
 #define PIGROZK_STACK_BYTES 163840
 
 /* The limits of a sheet that is accepted. */
