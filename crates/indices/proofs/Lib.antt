@@ -5,3 +5,4 @@ pub mod Tally
 pub mod Steps
 pub mod Pigeonhole
 pub mod Columns
+pub mod Entries

@@ -1,6 +1,2 @@
-mod Entries
-mod Rows
-mod Leaves
-mod Heights
 mod Represented
 pub mod Ready

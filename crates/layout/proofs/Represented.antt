@@ -26,8 +26,10 @@ use Rattle.rows.specs.Links.{Linkable, Linked}
 use Rattle.planning.proofs.Planning.{division-parents}
 use Rattle.rows.proofs.Links.{links-same}
 use Rattle.slices.specs.Tables.{ArcRows, RegionRows, tablesOf}
-use Rattle.layout.specs.Layout.{Laid, EndsEntered, LeavesApart, LeavesEntered, ArcsLaid, Nested, ParentsEntered, HeightsEntered, RegionsLaid}
-use Rattle.layout.proofs.Rows.{leaf-row, inner-row}
+use Rattle.arc_entries.specs.Arcs.{EndsEntered, LeavesApart, LeavesEntered}
+use Rattle.region_entries.specs.Regions.{Nested, ParentsEntered, HeightsEntered}
+use Rattle.layout.specs.Layout.{Laid, ArcsLaid, RegionsLaid}
+use Rattle.region_entries.proofs.Rows.{leaf-row, inner-row}
 
 module _ (b : List ℕ) (ok : Accepted b) where
   -- THE ARCS

@@ -3,9 +3,9 @@ use Prim.Native.Nat.{_-_}
 use mathlib.Core.Path.{sym, _∙_}
 use native.Mathlib.Omega.{arith}
 use Rattle.sheet.specs.Sections.{arcCount}
-use Rattle.layout.proofs.Rows.{EnteringEnds, ends-none, ends-more, ends-all}
-use Rattle.layout.proofs.enter_ends.Statement.{statement}
-use Rattle.layout.proofs.enter_ends.Tie as tie
+use Rattle.arc_entries.proofs.Ends.{EnteringEnds, ends-none, ends-more, ends-all}
+use Rattle.arc_entries.proofs.enter_ends.Statement.{statement}
+use Rattle.arc_entries.proofs.enter_ends.Tie as tie
 
 abbrev Inv-loop : tie.InvT-loop
 Inv-loop s at arcs₀ n a₀ arcs a = EnteringEnds s arcs a

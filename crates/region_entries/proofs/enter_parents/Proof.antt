@@ -3,9 +3,9 @@ use Prim.Native.Nat.{_-_}
 use mathlib.Core.Path.{sym, _∙_}
 use native.Mathlib.Omega.{arith}
 use Rattle.sheet.specs.Words.{words}
-use Rattle.layout.proofs.Rows.{EnteringParents, parents-none, parents-more, parents-all, parent-fits}
-use Rattle.layout.proofs.enter_parents.Statement.{statement}
-use Rattle.layout.proofs.enter_parents.Tie as tie
+use Rattle.region_entries.proofs.Rows.{EnteringParents, parents-none, parents-more, parents-all, parent-fits}
+use Rattle.region_entries.proofs.enter_parents.Statement.{statement}
+use Rattle.region_entries.proofs.enter_parents.Tie as tie
 
 abbrev Inv-loop : tie.InvT-loop
 Inv-loop d parents₀ n k₀ parents k = EnteringParents d parents k

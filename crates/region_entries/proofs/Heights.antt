@@ -16,7 +16,7 @@ use Rattle.sheet.specs.Words.{words}
 use Rattle.sheet.specs.Regions.{regionCount, isLeaf, parent, height}
 use Rattle.sheet.proofs.Highest.{Highest, highestFrom, highest-start, highest-turn, highest-le, height-highest}
 use Rattle.slices.specs.Tables.{arcEntry, heightEntry}
-use Rattle.layout.specs.Layout.{Nested, arcInRow, ArcsEntered, HeightsEntered}
+use Rattle.region_entries.specs.Regions.{Nested, arcInRow, ArcsEntered, HeightsEntered}
 
 -- the largest height of a child of q among the regions from i on
 abbrev highestOf : List ℕ → ℕ → ℕ → ℕ

@@ -2,9 +2,9 @@
 use Prim.Native.Nat.{_-_}
 use native.Mathlib.Omega.{arith}
 use Rattle.sheet.specs.Words.{words}
-use Rattle.layout.proofs.Leaves.{EnteringLeaves, leaves-none, leaves-ask, leaves-more, leaves-all}
-use Rattle.layout.proofs.enter_leaves.Statement.{statement}
-use Rattle.layout.proofs.enter_leaves.Tie as tie
+use Rattle.arc_entries.proofs.Leaves.{EnteringLeaves, leaves-none, leaves-ask, leaves-more, leaves-all}
+use Rattle.arc_entries.proofs.enter_leaves.Statement.{statement}
+use Rattle.arc_entries.proofs.enter_leaves.Tie as tie
 
 abbrev Inv-loop : tie.InvT-loop
 Inv-loop d arcs₀ n k₀ arcs k = EnteringLeaves d arcs₀ arcs k

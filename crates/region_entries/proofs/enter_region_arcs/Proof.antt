@@ -4,9 +4,9 @@ use mathlib.Core.Path.{sym, _∙_}
 use native.Mathlib.Omega.{arith}
 use lib.ListN.{length-set}
 use Rattle.sheet.specs.Regions.{regionCount}
-use Rattle.layout.proofs.Rows.{EnteringArcs, region-arcs-none, region-arcs-more, region-arcs-all}
-use Rattle.layout.proofs.enter_region_arcs.Statement.{statement}
-use Rattle.layout.proofs.enter_region_arcs.Tie as tie
+use Rattle.region_entries.proofs.Rows.{EnteringArcs, region-arcs-none, region-arcs-more, region-arcs-all}
+use Rattle.region_entries.proofs.enter_region_arcs.Statement.{statement}
+use Rattle.region_entries.proofs.enter_region_arcs.Tie as tie
 
 abbrev Inv-loop : tie.InvT-loop
 Inv-loop d regions₀ n r₀ regions r = EnteringArcs d regions r

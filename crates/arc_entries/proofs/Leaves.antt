@@ -11,7 +11,7 @@ use Rattle.indices.proofs.Steps.{set-elim}
 use Rattle.sheet.specs.Words.{words}
 use Rattle.sheet.specs.Regions.{regionCount, leafWord, arcWord, isLeaf, leafArc}
 use Rattle.rows.specs.Rows.{field, rowCount, rowLeaf}
-use Rattle.layout.specs.Layout.{LeavesApart, leafEntered, LeavesEntered}
+use Rattle.arc_entries.specs.Arcs.{LeavesApart, leafEntered, LeavesEntered}
 
 -- the words before word k are entered
 pub record EnteringLeaves (d arcs₀ arcs : List ℕ) (k : ℕ) : Type 0 where

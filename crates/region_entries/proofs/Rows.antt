@@ -1,4 +1,4 @@
--- Entries of the arcs' and the regions' rows, and the parents, stored row by row. Assumes nothing.
+-- The regions' parents, and the arcs of their rows, stored region by region. Assumes nothing.
 use Prim.Native.Nat.{ℕ, zero, suc, _+_, _-_, _*_, _≤_, _<_}
 use mathlib.Core.Bool.{true, false, true≢false}
 use mathlib.Core.Path.{_≡_, refl, sym, ap, _∙_}
@@ -7,38 +7,11 @@ use native.Mathlib.Omega.{arith}
 use lib.ListN.{length, set, length-set}
 use Rattle.indices.specs.Columns.{at}
 use Rattle.sheet.specs.Words.{words}
-use Rattle.sheet.specs.Sections.{arcCount}
-use Rattle.sheet.specs.Arcs.{tail, head}
 use Rattle.sheet.specs.Regions.{regionCount, arcWord, parentWord, isLeaf, leafArc}
 use Rattle.sheet.proofs.Regions.{parent-of-word}
 use Rattle.slices.specs.Tables.{noArc}
-use Rattle.layout.specs.Layout.{EndsEntered, Nested, ParentsEntered, arcInRow, ArcsEntered}
-use Rattle.layout.proofs.Entries.{Entered, entered-none, entered-kept, entered-more}
-
--- TAILS AND HEADS
-
--- the arcs below a have their tails and heads
-pub record EnteringEnds (b arcs : List ℕ) (a : ℕ) : Type 0 where
-  pub within : a ≤ arcCount b
-  pub all : length arcs ≡ 4 * arcCount b
-  pub tails : Entered (λ i. 4 * i + 0) (tail b) arcs a
-  pub heads : Entered (λ i. 4 * i + 1) (head b) arcs a
-
-pub ends-none : (b arcs : List ℕ) → length arcs ≡ 4 * arcCount b → EnteringEnds b arcs 0
-ends-none b arcs e = record { within = omega arith; all = e; tails = entered-none _ _ arcs; heads = entered-none _ _ arcs }
-
-pub ends-more : {b arcs : List ℕ} {a : ℕ} (t h : ℕ) → EnteringEnds b arcs a → a < arcCount b → t ≡ tail b a → h ≡ head b a
-    → EnteringEnds b (set (set arcs (4 * a + 0) t) (4 * a + 1) h) (a + 1)
-ends-more {b} {arcs} {a} t h E l et eh = record {
-  within = omega arith;
-  all = simp length-set (E .all);
-  tails = entered-kept (4 * a + 1) h (λ j k. omega arith) (entered-more t (λ j k. omega arith) (omega (arith, E .all)) et (E .tails));
-  heads =
-      entered-more h (λ j k. omega arith) (simp length-set (omega (arith, E .all))) eh (entered-kept (4 * a + 0) t (λ j k. omega arith) (E .heads));
-}
-
-pub ends-all : {b arcs : List ℕ} {a : ℕ} → EnteringEnds b arcs a → arcCount b ≤ a → EndsEntered b arcs
-ends-all E l = record { tails = λ i h. E .tails .entry i (omega arith); heads = λ i h. E .heads .entry i (omega arith) }
+use Rattle.region_entries.specs.Regions.{Nested, ParentsEntered, arcInRow, ArcsEntered}
+use Rattle.indices.proofs.Entries.{Entered, entered-none, entered-kept, entered-more}
 
 -- PARENTS
 

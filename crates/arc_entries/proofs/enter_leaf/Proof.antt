@@ -3,8 +3,8 @@ use mathlib.Core.Path.{sym, _∙_}
 use borrow.Author.Tests.{not-true, not-false}
 use borrow.Author.Needs.{needs}
 use native.Mathlib.Omega.{arith}
-use Rattle.layout.proofs.enter_leaf.Statement.{statement}
-use Rattle.layout.proofs.enter_leaf.Tie as tie
+use Rattle.arc_entries.proofs.enter_leaf.Statement.{statement}
+use Rattle.arc_entries.proofs.enter_leaf.Tie as tie
 
 leaf-word-requires : tie.Need-leaf-word-requires
 leaf-word-requires c κs = search needs

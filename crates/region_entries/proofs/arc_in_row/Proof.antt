@@ -3,9 +3,9 @@ use mathlib.Core.Path.{sym, _∙_}
 use borrow.Author.Tests.{not-true, not-false}
 use borrow.Author.Needs.{needs}
 use native.Mathlib.Omega.{arith}
-use Rattle.layout.proofs.Rows.{leaf-positive, leaf-row, inner-row}
-use Rattle.layout.proofs.arc_in_row.Statement.{statement}
-use Rattle.layout.proofs.arc_in_row.Tie as tie
+use Rattle.region_entries.proofs.Rows.{leaf-positive, leaf-row, inner-row}
+use Rattle.region_entries.proofs.arc_in_row.Statement.{statement}
+use Rattle.region_entries.proofs.arc_in_row.Tie as tie
 
 is-leaf-requires : tie.Need-is-leaf-requires
 is-leaf-requires c κs = search needs

@@ -3,10 +3,10 @@ use mathlib.Core.Path.{sym, _∙_}
 use borrow.Author.Needs.{needs}
 use native.Mathlib.Nat.{le-refl}
 use native.Mathlib.Omega.{arith}
-use Rattle.layout.proofs.Rows.{parent-lower}
-use Rattle.layout.proofs.Heights.{EnteringHeights, heights-none, heights-fit, heights-more, heights-all}
-use Rattle.layout.proofs.enter_heights.Statement.{statement}
-use Rattle.layout.proofs.enter_heights.Tie as tie
+use Rattle.region_entries.proofs.Rows.{parent-lower}
+use Rattle.region_entries.proofs.Heights.{EnteringHeights, heights-none, heights-fit, heights-more, heights-all}
+use Rattle.region_entries.proofs.enter_heights.Statement.{statement}
+use Rattle.region_entries.proofs.enter_heights.Tie as tie
 
 abbrev Inv-loop : tie.InvT-loop
 Inv-loop d parents regions₀ r₀ regions r = EnteringHeights d regions r

@@ -5,9 +5,9 @@ use native.Mathlib.Omega.{arith}
 use Rattle.sheet.specs.Sections.{arcCount}
 use Rattle.sheet.specs.Arcs.{arcLength}
 use Rattle.procedure.specs.OfSheet.{graphOf}
-use Rattle.layout.proofs.Entries.{Prefix, prefix-none, prefix-more, prefix-all}
-use Rattle.layout.proofs.enter_lengths.Statement.{statement}
-use Rattle.layout.proofs.enter_lengths.Tie as tie
+use Rattle.indices.proofs.Entries.{Prefix, prefix-none, prefix-more, prefix-all}
+use Rattle.arc_entries.proofs.enter_lengths.Statement.{statement}
+use Rattle.arc_entries.proofs.enter_lengths.Tie as tie
 
 abbrev Inv-loop : tie.InvT-loop
 Inv-loop s at lengths₀ n a₀ lengths a = Prefix (arcCount s) (arcLength s) lengths a
