@@ -3,13 +3,13 @@ ghost use mathlib.Core.Path.{_≡_};
 ghost use mathlib.Core.Bool.{false};
 ghost use Prim.Native.Nat.{_<_};
 ghost use Rattle.sheet.specs.Words.{words};
-ghost use Rattle.sheet.specs.Answer.{numbered, accepted, lowest};
+ghost use Rattle.sheet.specs.Sections.{Located};
+ghost use Rattle.sheet.specs.Answer.{numbered};
 ghost use Rattle.refusals.specs.Form.{wrongSize, outOfOrder, bitSet};
-ghost use Rattle.refusals.specs.Judgement.{formRefusals, judgement};
+ghost use Rattle.refusals.specs.Judgement.{judgement};
 ghost use Rattle.judge.specs.Said.{said};
-use division::WordTest;
-use fields::ArcTest;
 use sheet::Fault;
+use sheet::Sections;
 
 pub enum Judged {
     Accepted,
@@ -26,21 +26,39 @@ fn wrong_size(s: &[u8]) -> bool
     s.len() > sheet::MOST_BYTES
 }
 
-// Refusal 3, of a sheet whose kinds are in order: a bit set that must be zero.
-fn bit_set(s: &[u8]) -> bool
-    requires { ⌜ (words (now s) < 65536) × (outOfOrder (now s) ≡ false) ⌝ }
+// Refusal 3: a bit set that must be zero.
+fn bit_set(s: &[u8], at: Sections) -> bool
+    requires { ⌜ Located (now s) at × (words (now s) < 65536) ⌝ }
     ensures { λ r. ⌜ r ≡ bitSet (now (s .entry)) ⌝ }
 {
-    let at = sheet::find_sections(s);
-    if fields::some_arc_fails(s, at, ArcTest::Bits) {
+    if arcs::bit_set(s, at) {
         return true;
     }
-    division::some_word_fails(reader::region_words(s, at), WordTest::Bits)
+    leaves::bit_set(reader::region_words(s, at))
 }
 
-// Refusals 1 to 3: the number, or 0.
-fn form_refusal(s: &[u8]) -> u8
-    ensures { λ r. ⌜ numbered r ≡ lowest (formRefusals (now (s .entry))) accepted ⌝ }
+// Refusals 3 to 14, of a sheet to which neither 1 nor 2 applies: the number, or 0.
+fn later_refusal(s: &[u8], at: Sections) -> u8
+    requires { ⌜ Located (now s) at × (wrongSize (now s) ≡ false) × (outOfOrder (now s) ≡ false) ⌝ }
+    ensures { λ r. ⌜ numbered r ≡ judgement (now (s .entry)) ⌝ }
+{
+    if bit_set(s, at) {
+        return 3;
+    }
+    let count = limits::count_refusal(s, at);
+    if count != 0 {
+        return count;
+    }
+    let arc = arcs::arc_refusal(s, at);
+    if arc != 0 {
+        return arc;
+    }
+    division::division_refusal(reader::region_words(s, at), at.arcs as u16, at.spans)
+}
+
+// The lowest number of a refusal that applies to the sheet, or 0. The sections are found once, for all that is looked at after the order of kinds.
+fn lowest_refusal(s: &[u8]) -> u8
+    ensures { λ r. ⌜ numbered r ≡ judgement (now (s .entry)) ⌝ }
 {
     if wrong_size(s) {
         return 1;
@@ -48,38 +66,7 @@ fn form_refusal(s: &[u8]) -> u8
     if order::out_of_order(s) {
         return 2;
     }
-    if bit_set(s) {
-        return 3;
-    }
-    0
-}
-
-// Refusals 4 to 14, of a sheet to which none of 1 to 3 applies: the number, or 0.
-fn later_refusal(s: &[u8]) -> u8
-    requires { ⌜ lowest (formRefusals (now s)) accepted ≡ accepted ⌝ }
-    ensures { λ r. ⌜ numbered r ≡ judgement (now (s .entry)) ⌝ }
-{
-    let at = sheet::find_sections(s);
-    let count = fields::count_refusal(s, at);
-    if count != 0 {
-        return count;
-    }
-    let arc = fields::arc_refusal(s, at);
-    if arc != 0 {
-        return arc;
-    }
-    division::division_refusal(reader::region_words(s, at), at.arcs as u16, at.spans)
-}
-
-// The lowest number of a refusal that applies to the sheet, or 0.
-fn lowest_refusal(s: &[u8]) -> u8
-    ensures { λ r. ⌜ numbered r ≡ judgement (now (s .entry)) ⌝ }
-{
-    let form = form_refusal(s);
-    if form != 0 {
-        return form;
-    }
-    later_refusal(s)
+    later_refusal(s, sheet::find_sections(s))
 }
 
 // The answer for the number of a refusal, or for 0.

@@ -5,13 +5,11 @@ ghost use Rattle.order.specs.Kinds.{regionKind, arcOrRegion, mayFollow, 
 use sheet::Cursor;
 use sheet::Step;
 
+// Whether the kind is 6 or 7: one test, whichever of the two it is.
 fn region_kind(kind: u32) -> bool
     ensures { λ r. ⌜ r ≡ regionKind kind ⌝ }
 {
-    if kind == 6 {
-        return true;
-    }
-    kind == 7
+    kind / 2 == 3
 }
 
 fn arc_or_region(kind: u32) -> bool

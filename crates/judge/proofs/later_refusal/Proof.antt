@@ -1,40 +1,54 @@
 -- `later_refusal` meets its contract: each stage where none before it refuses. Assumes nothing.
 use Prim.Native.Nat.{_≤_}
-use mathlib.Core.Path.{sym, ap, _∙_}
+use mathlib.Core.Path.{_≡_, sym, ap, _∙_}
 use borrow.Author.Needs.{needs}
 use native.Mathlib.Omega.{arith}
 use Rattle.sheet.specs.Limits.{mostRegionWords}
 use Rattle.sheet.specs.Words.{words}
-use Rattle.sheet.specs.Answer.{numbered}
-use Rattle.sheet.proofs.Bounds.{region-words}
-use Rattle.judge.proofs.Stages.{form-front, count-nodes, count-arcs, count-region-words, count-stops, arc-stops, division-decides}
+use Rattle.sheet.specs.Answer.{accepted, lowest, numbered}
+use Rattle.refusals.specs.Judgement.{formRefusals, countRefusals, refusals, judgement}
+use Rattle.refusals.proofs.Clear.{few-words}
+use Rattle.judge.proofs.Stages.{form-clear, count-nodes, count-arcs, count-region-words, count-stops, arc-stops, division-decides}
 use Rattle.judge.proofs.later_refusal.Statement.{statement}
 use Rattle.judge.proofs.later_refusal.Tie as tie
 
-find-sections-requires : tie.Need-find-sections-requires
-find-sections-requires c κs = form-front _ (c .before .pre)
+bit-set-requires : tie.Need-bit-set-requires
+bit-set-requires c κs = (c .before .pre .0, omega (arith, few-words (c .before .args .s .now) (c .before .pre .1)))
+
+returns : tie.Need-returns
+unfolding judgement refusals formRefusals
+returns c =
+    let pre = c .before .before .before .pre in
+    rw (pre .1, pre .2, sym (c .before .bit-set .ensures) ∙ c .if1 .taken)
+
+-- where the call began, seen from after the first test and from after the second
+abbrev begin : tie.Else1 → tie.Start
+begin c = c .before .before .before
+
+abbrev begun : tie.Else2 → tie.Start
+begun c = begin (c .before .before)
+
+-- none of 1 to 3 applies
+form : (c : tie.Else1) → lowest (formRefusals (begin c .args .s .now)) accepted ≡ accepted
+form c = form-clear _ (begin c .pre .1) (begin c .pre .2) (sym (c .before .bit-set .ensures) ∙ c .if1 .left)
 
 count-refusal-requires : tie.Need-count-refusal-requires
 count-refusal-requires c κs = search needs
 
-returns : tie.Need-returns
-returns c =
-    let pre = c .before .before .before .before .pre in
-    count-stops _ pre _ (c .if1 .taken) (c .before .count-refusal .ensures)
+returns-2 : tie.Need-returns-2
+returns-2 c = count-stops _ (form (c .before .before)) _ (c .if2 .taken) (c .before .count-refusal .ensures)
+
+-- none of 4 to 7 applies
+counted : (c : tie.Else2) → lowest (countRefusals (begun c .args .s .now)) accepted ≡ accepted
+counted c = sym (c .before .count-refusal .ensures) ∙ ap numbered (c .if2 .left)
 
 arc-refusal-requires : tie.Need-arc-refusal-requires
-arc-refusal-requires c κs = (
-  c .before .before .find-sections .ensures,
-  count-arcs _ (sym (c .before .count-refusal .ensures) ∙ ap numbered (c .if1 .left)),
-  count-nodes _ (sym (c .before .count-refusal .ensures) ∙ ap numbered (c .if1 .left)),
-)
+arc-refusal-requires c κs = (begun c .pre .0, count-arcs _ (counted c), count-nodes _ (counted c))
 
-returns-2 : tie.Need-returns-2
-returns-2 c =
+returns-3 : tie.Need-returns-3
+returns-3 c =
     let earlier = c .before .before .before .before in
-    let pre = earlier .before .before .pre in
-    let count-refusal = c .before .before .before .count-refusal in
-    arc-stops _ pre (sym (count-refusal .ensures) ∙ ap numbered (c .before .before .if1 .left)) _ (c .if2 .taken) (c .before .arc-refusal .ensures)
+    arc-stops _ (form earlier) (counted (c .before .before)) _ (c .if3 .taken) (c .before .arc-refusal .ensures)
 
 region-words-requires : tie.Need-region-words-requires
 region-words-requires c κs = search needs
@@ -42,49 +56,37 @@ region-words-requires c κs = search needs
 cast-division-refusal : tie.Need-cast-division-refusal
 cast-division-refusal c =
     let earlier = c .before .before .before .before in
-    let find-sections = earlier .before .before .find-sections in
-    let args = earlier .before .before .before .before .args in
-    let count-refusal = earlier .before .count-refusal in
-    let if1 = earlier .if1 in
-    omega (arith, find-sections .ensures .arcs-all, count-arcs (args .s .now) (sym (count-refusal .ensures) ∙ ap numbered (if1 .left)))
+    let start = begun earlier in
+    omega (arith, start .pre .0 .arcs-all, count-arcs (start .args .s .now) (counted earlier))
 
 division-refusal-requires : tie.Need-division-refusal-requires
 division-refusal-requires c κs =
     let earlier = c .before .before .before .before in
-    let args = earlier .before .before .before .before .args in
-    let count-refusal = earlier .before .count-refusal in
-    let if1 = earlier .if1 in
-    let find-sections = earlier .before .before .find-sections in
-    let d : words (c .before .region-words .result .now) ≤ mostRegionWords = rw (c .before .region-words .ensures)
-    (count-region-words (args .s .now) (sym (count-refusal .ensures) ∙ ap numbered (if1 .left))) in
-    (d, omega (arith, find-sections .ensures .arcs-all, count-arcs (args .s .now) (sym (count-refusal .ensures) ∙ ap numbered (if1 .left))))
+    let start = begun earlier in
+    let d : words (c .before .region-words .result .now) ≤ mostRegionWords = rw (c .before .region-words .ensures) (count-region-words _ (counted earlier)) in
+    (d, omega (arith, start .pre .0 .arcs-all, count-arcs (start .args .s .now) (counted earlier)))
 
-returns-3 : tie.Need-returns-3
-returns-3 c =
-    let earlier = c .before .before .before .before in
-    let early = earlier .before .before .before .before in
-    let find-sections = earlier .before .before .before .find-sections in
-    let args = early .before .args in
-    let pre = early .before .pre in
-    let count-refusal = earlier .before .before .count-refusal in
-    let if1 = earlier .before .if1 in
-    let arc-refusal = earlier .arc-refusal in
-    let if2 = c .before .before .before .if2 in
-    let at = find-sections .ensures in
-    let d = c .before .before .region-words .ensures in
-    c .division-refusal .ensures ∙ rw (d, at .arcs-all, at .spans-all)
-    (division-decides (args .s .now) pre (sym (count-refusal .ensures) ∙ ap numbered (if1 .left)) (sym (arc-refusal .ensures) ∙ ap numbered (if2 .left)))
+returns-4 : tie.Need-returns-4
+returns-4 c =
+    let arc = c .before .before .before .before in
+    let if3 = c .before .before .before .if3 in
+    let earlier = arc .before in
+    let at = begun earlier .pre .0 in
+    c .division-refusal .ensures
+    ∙ division-decides _ (form (earlier .before .before)) (counted earlier) (sym (arc .arc-refusal .ensures) ∙ ap numbered (if3 .left)) _ _ _
+    (c .before .before .region-words .ensures) (at .arcs-all) (at .spans-all)
 
 pub later-refusal-spec : {M : Type 1} → statement M
 later-refusal-spec =
     tie.close
     (tie.spec
-    find-sections-requires
-    count-refusal-requires
+    bit-set-requires
     returns
-    arc-refusal-requires
+    count-refusal-requires
     returns-2
+    arc-refusal-requires
+    returns-3
     region-words-requires
     cast-division-refusal
     division-refusal-requires
-    returns-3)
+    returns-4)

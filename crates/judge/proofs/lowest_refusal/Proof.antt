@@ -1,23 +1,47 @@
--- `lowest_refusal` meets its contract: the first stage, and then the others. Assumes nothing.
-use mathlib.Core.Path.{sym, ap, _∙_}
+-- `lowest_refusal` meets its contract: the first two tests, and then the others. Assumes nothing.
+use mathlib.Core.Path.{sym, _∙_}
 use borrow.Author.Needs.{needs}
-use Rattle.sheet.specs.Answer.{numbered}
-use Rattle.judge.proofs.Stages.{form-stops}
+use Rattle.refusals.specs.Judgement.{formRefusals, refusals, judgement}
+use Rattle.refusals.proofs.Clear.{front-there}
 use Rattle.judge.proofs.lowest_refusal.Statement.{statement}
 use Rattle.judge.proofs.lowest_refusal.Tie as tie
 
-form-refusal-requires : tie.Need-form-refusal-requires
-form-refusal-requires c κs = search needs
+wrong-size-requires : tie.Need-wrong-size-requires
+wrong-size-requires c κs = search needs
 
 returns : tie.Need-returns
-returns c = form-stops _ _ (c .if1 .taken) (c .before .form-refusal .ensures)
+unfolding judgement refusals formRefusals
+returns c = rw (sym (c .before .wrong-size .ensures) ∙ c .if1 .taken)
 
-later-refusal-requires : tie.Need-later-refusal-requires
-later-refusal-requires c κs = sym (c .before .form-refusal .ensures) ∙ ap numbered (c .if1 .left)
+out-of-order-requires : tie.Need-out-of-order-requires
+out-of-order-requires c κs = search needs
 
 returns-2 : tie.Need-returns-2
-returns-2 c = search needs
+unfolding judgement refusals formRefusals
+returns-2 c =
+    let wrong-size = c .before .before .before .wrong-size in
+    rw (sym (wrong-size .ensures) ∙ c .before .before .if1 .left, sym (c .before .out-of-order .ensures) ∙ c .if2 .taken)
+
+find-sections-requires : tie.Need-find-sections-requires
+find-sections-requires c κs = front-there _ (sym (c .before .out-of-order .ensures) ∙ c .if2 .left)
+
+later-refusal-requires : tie.Need-later-refusal-requires
+later-refusal-requires c κs =
+    let earlier = c .before .before .before .before in
+    let if1 = c .before .before .before .if1 in
+    (c .find-sections .ensures, sym (earlier .wrong-size .ensures) ∙ if1 .left, sym (c .before .before .out-of-order .ensures) ∙ c .before .if2 .left)
+
+returns-3 : tie.Need-returns-3
+returns-3 c = search needs
 
 pub lowest-refusal-spec : {M : Type 1} → statement M
 lowest-refusal-spec =
-    tie.close (tie.spec form-refusal-requires returns later-refusal-requires returns-2)
+    tie.close
+    (tie.spec
+    wrong-size-requires
+    returns
+    out-of-order-requires
+    returns-2
+    find-sections-requires
+    later-refusal-requires
+    returns-3)

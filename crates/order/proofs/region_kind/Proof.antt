@@ -1,16 +1,26 @@
--- `region_kind` meets its contract: the two kinds in turn. Assumes nothing.
-use borrow.Author.Tests.{eq-eqb, ne-eqb}
+-- `region_kind` meets its contract: the half of 6 and of 7 is 3, and of no other kind. Assumes nothing.
+use Prim.Native.Nat.{ℕ, _/_}
+use mathlib.Core.Logic.{_≢_, ⊎-elim}
+use mathlib.Core.Path.{_≡_}
+use borrow.Author.Tests.{ne-eqb}
+use native.Mathlib.Omega.{arith}
+use lib.Dec.{eqb}
+use Rattle.indices.proofs.Steps.{eq-or-ne}
 use Rattle.order.specs.Kinds.{regionKind}
 use Rattle.order.proofs.region_kind.Statement.{statement}
 use Rattle.order.proofs.region_kind.Tie as tie
 
-returns : tie.Need-returns
+half-is-three : (k : ℕ) → eqb (k / 2) 3 ≡ regionKind k
 unfolding regionKind
-returns c = rw (eq-eqb _ _ (c .if1 .taken))
+half-is-three k =
+    ⊎-elim (λ (six : k ≡ 6). rw six)
+    (λ (no-six : k ≢ 6). ⊎-elim (λ (seven : k ≡ 7). rw seven)
+    (λ (no-seven : k ≢ 7). rw (ne-eqb k 6 no-six, ne-eqb k 7 no-seven) (ne-eqb (k / 2) 3 (λ e. omega arith)))
+    (eq-or-ne k 7))
+    (eq-or-ne k 6)
 
-returns-2 : tie.Need-returns-2
-unfolding regionKind
-returns-2 c = rw (ne-eqb _ _ (c .if1 .left))
+returns : tie.Need-returns
+returns c = half-is-three _
 
 pub region-kind-spec : {M : Type 1} → statement M
-region-kind-spec = tie.close (tie.spec returns returns-2)
+region-kind-spec = tie.close (tie.spec returns)

@@ -1,0 +1,55 @@
+-- What the counters say of the arcs at each node: a third one, or none. Assumes nothing.
+use Prim.Native.Nat.{ℕ, _+_, _<_, _≤_}
+use mathlib.Core.Bool.{Bool, true, false, or-true}
+use mathlib.Core.List.{List}
+use mathlib.Core.Path.{_≡_, sym, _∙_}
+use borrow.Author.Tests.{eq-eqb, ne-eqb, lt-ltb, le-ltb}
+use native.Mathlib.Omega.{arith}
+use lib.ListN.{length, getD, set}
+use Rattle.indices.specs.Tests.{count}
+use Rattle.indices.specs.Tally.{Tally}
+use Rattle.indices.proofs.Tests.{any-hit, any-false, count-in, count-mono}
+use Rattle.indices.proofs.Tally.{tally-in}
+use Rattle.sheet.specs.Limits.{mostArcsEachWay}
+use Rattle.sheet.specs.Sections.{nodeCount, arcCount}
+use Rattle.sheet.specs.Arcs.{endOf}
+use Rattle.refusals.specs.Fields.{endsOutside, endsAt, crowded, crowdedNodes, tooManyAtNode}
+use Rattle.refusals.proofs.Clear.{end-in}
+
+module _ (b : List ℕ) where
+  -- one way is enough
+  one-way : (heads : Bool) → crowdedNodes heads b ≡ true → tooManyAtNode b ≡ true
+  unfolding tooManyAtNode
+  one-way true e = rw (e, or-true)
+  one-way false e = rw e
+
+  -- arc a is one more than a node may have: v, its end, whose counter is x
+  pub one-too-many : (heads : Bool) (seen : List ℕ) (a v x : ℕ) → endsOutside b ≡ false → a < arcCount b → v ≡ endOf heads b a → v < length seen
+      → Tally (endsAt heads b) mostArcsEachWay seen a → x ≡ getD seen v 0 → mostArcsEachWay ≤ x → tooManyAtNode b ≡ true
+  unfolding crowdedNodes
+  one-too-many heads seen a v x ok l e inside t ex full =
+      let here : count (endsAt heads b v) (a + 1) ≡ count (endsAt heads b v) a + 1 = count-in (endsAt heads b v) a (eq-eqb (endOf heads b a) v (sym e)) in
+      one-way heads (any-hit (crowded heads b) v (nodeCount b) (omega (arith, end-in b ok heads a l))
+      (lt-ltb mostArcsEachWay (count (endsAt heads b v) (arcCount b))
+      (omega (arith, t .counts v inside, count-mono (endsAt heads b v) (a + 1) (arcCount b) (omega arith)))))
+
+  -- one arc more at node v, which has room for it
+  pub one-more : (heads : Bool) (seen : List ℕ) (a v : ℕ) → v ≡ endOf heads b a → v < length seen → getD seen v 0 < mostArcsEachWay
+      → Tally (endsAt heads b) mostArcsEachWay seen a → Tally (endsAt heads b) mostArcsEachWay (set seen v (getD seen v 0 + 1)) (a + 1)
+  one-more heads seen a v e inside room t =
+      tally-in (endsAt heads b) mostArcsEachWay seen a t v inside (eq-eqb (endOf heads b a) v (sym e))
+      (λ w ne. ne-eqb (endOf heads b a) w (λ h. ne (sym h ∙ sym e))) room
+
+  -- no node has one too many, either way
+  uncrowded : (heads : Bool) (seen : List ℕ) → nodeCount b ≤ length seen → Tally (endsAt heads b) mostArcsEachWay seen (arcCount b)
+      → crowdedNodes heads b ≡ false
+  unfolding crowdedNodes
+  uncrowded heads seen fits t =
+      any-false (crowded heads b) (nodeCount b)
+      (λ v l. le-ltb mostArcsEachWay (count (endsAt heads b v) (arcCount b)) (omega (arith, t .counts v (omega arith), t .below v (omega arith))))
+
+  pub none-too-many : (tails heads : List ℕ) (a : ℕ) → a ≡ arcCount b → nodeCount b ≤ length tails → nodeCount b ≤ length heads
+      → Tally (endsAt false b) mostArcsEachWay tails a → Tally (endsAt true b) mostArcsEachWay heads a → tooManyAtNode b ≡ false
+  unfolding tooManyAtNode
+  none-too-many tails heads a e fit-tails fit-heads out into =
+      rw (uncrowded false tails fit-tails (rw e at out)) (uncrowded true heads fit-heads (rw e at into))

@@ -1,0 +1,130 @@
+-- `crowded_nodes` meets its contract: the counters say how many of the arcs passed each node has, each way. Assumes nothing.
+use Prim.Native.Nat.{_-_, _≤_}
+use mathlib.Core.Bool.{true, false}
+use mathlib.Core.Path.{_≡_, refl, sym}
+use native.Mathlib.Omega.{arith}
+use lib.ListN.{length, length-set}
+use Rattle.indices.specs.Tally.{Tally}
+use Rattle.indices.proofs.Tally.{tally-none}
+use Rattle.sheet.specs.Limits.{mostArcsEachWay}
+use Rattle.sheet.specs.Sections.{arcCount}
+use Rattle.refusals.specs.Fields.{endsAt}
+use Rattle.arcs.proofs.Degrees.{one-too-many, one-more, none-too-many}
+use Rattle.arcs.proofs.crowded_nodes.Statement.{statement}
+use Rattle.arcs.proofs.crowded_nodes.Tie as tie
+
+abbrev Inv-loop : tie.InvT-loop
+Inv-loop s at tails₀ heads₀ arcs a₀ tails heads a =
+    (a ≤ arcCount s) × (length tails ≡ 1024) × (length heads ≡ 1024)
+    × Tally (endsAt false s) mostArcsEachWay tails a × Tally (endsAt true s) mostArcsEachWay heads a
+
+abbrev μ-loop : tie.MeasureT-loop
+μ-loop s at tails₀ heads₀ arcs a₀ tails heads a = arcCount s - a
+
+cast-arcs : tie.Need-cast-arcs Inv-loop μ-loop
+cast-arcs c = omega arith
+
+loop-holds : tie.Need-loop-holds Inv-loop μ-loop
+loop-holds c = (omega arith, refl, refl, tally-none _ mostArcsEachWay 1024, tally-none _ mostArcsEachWay 1024)
+
+end-at-requires : tie.Need-end-at-requires Inv-loop μ-loop
+end-at-requires c κs =
+    let pre = c .before .before .before .before .pre in
+    (pre .0, omega arith)
+
+end-at-requires-2 : tie.Need-end-at-requires-2 Inv-loop μ-loop
+end-at-requires-2 c κs =
+    let start = c .before .before .before .before in
+    (start .before .pre .0, omega arith)
+
+cast-v : tie.Need-cast-v Inv-loop μ-loop
+cast-v c = omega arith
+
+cast-w : tie.Need-cast-w Inv-loop μ-loop
+cast-w c = omega arith
+
+array-read-x : tie.Need-array-read-x Inv-loop μ-loop
+array-read-x c = omega arith
+
+array-read-y : tie.Need-array-read-y Inv-loop μ-loop
+array-read-y c = omega arith
+
+returns : tie.Need-returns Inv-loop μ-loop
+returns c =
+    let earlier = c .before .before .before .before in
+    let loop = earlier .before .before .loop in
+    let entry = earlier .before .before .before .before in
+    let pre = entry .before .pre in
+    sym (one-too-many _ false (loop .tails) (loop .a) (earlier .end-at .result .0) _ (pre .3) (omega arith) (earlier .end-at .ensures .0) (omega arith)
+    (loop .inv .3) refl (c .if1 .taken))
+
+returns-2 : tie.Need-returns-2 Inv-loop μ-loop
+returns-2 c =
+    let earlier = c .before .before .before .before in
+    let loop = earlier .before .before .before .loop in
+    let entry = earlier .before .before .before .before in
+    let pre = entry .before .before .pre in
+    sym (one-too-many _ true (loop .heads) (loop .a) (earlier .end-at2 .result .0) _ (pre .3) (omega arith) (earlier .end-at2 .ensures .0) (omega arith)
+    (loop .inv .4) refl (c .if2 .taken))
+
+add-tails : tie.Need-add-tails Inv-loop μ-loop
+add-tails c = omega arith
+
+array-write-tails : tie.Need-array-write-tails Inv-loop μ-loop
+array-write-tails c = omega arith
+
+add-heads : tie.Need-add-heads Inv-loop μ-loop
+add-heads c = omega arith
+
+array-write-heads : tie.Need-array-write-heads Inv-loop μ-loop
+array-write-heads c = omega arith
+
+add-a : tie.Need-add-a Inv-loop μ-loop
+add-a c = omega arith
+
+loop-less : tie.Need-loop-less Inv-loop μ-loop
+loop-less c = omega arith
+
+loop-again : tie.Need-loop-again Inv-loop μ-loop
+loop-again c =
+    let earlier = c .before .before .before .before in
+    let loop = earlier .before .before .before .loop in
+    let end-at = earlier .before .end-at in (
+      omega arith,
+      simp length-set (loop .inv .1),
+      simp length-set (loop .inv .2),
+      one-more _ false (loop .tails) (loop .a) (end-at .result .0) (end-at .ensures .0) (omega arith) (c .before .if1 .left) (loop .inv .3),
+      one-more _ true (loop .heads) (loop .a) (earlier .end-at2 .result .0) (earlier .end-at2 .ensures .0) (omega arith) (c .if2 .left) (loop .inv .4),
+    )
+
+returns-3 : tie.Need-returns-3 Inv-loop μ-loop
+returns-3 c =
+    let start = c .before .before .before .before in
+    let loop = c .before .loop in
+    let done = start .pre .0 .arcs-all in
+    sym (none-too-many _ (loop .tails) (loop .heads) (loop .a) (omega (arith, done)) (omega arith) (omega arith) (loop .inv .3) (loop .inv .4))
+
+pub crowded-nodes-spec : {M : Type 1} → statement M
+crowded-nodes-spec =
+    tie.close
+    (tie.spec
+    Inv-loop
+    μ-loop
+    cast-arcs
+    loop-holds
+    end-at-requires
+    end-at-requires-2
+    cast-v
+    cast-w
+    array-read-x
+    array-read-y
+    returns
+    returns-2
+    add-tails
+    array-write-tails
+    add-heads
+    array-write-heads
+    add-a
+    loop-less
+    loop-again
+    returns-3)

@@ -1,0 +1,116 @@
+// The refusals of a sheet's arcs: 8 to 10, and of refusal 3 what it asks of an arc's words.
+ghost use mathlib.Core.Path.{_≡_};
+ghost use mathlib.Core.Bool.{false};
+ghost use lib.Dec.{leb};
+ghost use Prim.Native.Nat.{_≤_, _<_};
+ghost use Rattle.indices.specs.Tests.{any};
+ghost use Rattle.sheet.specs.Limits.{mostNodes, mostArcs};
+ghost use Rattle.sheet.specs.Sections.{Located, nodeCount, arcCount};
+ghost use Rattle.sheet.specs.Arcs.{endOf};
+ghost use Rattle.sheet.specs.Answer.{numbered, accepted, lowest};
+ghost use Rattle.refusals.specs.Form.{arcBits};
+ghost use Rattle.refusals.specs.Fields.{endOutside, endsOutside, tooManyAtNode};
+ghost use Rattle.refusals.specs.Judgement.{arcRefusals};
+ghost use Rattle.arcs.specs.Fields.{fieldRefusals};
+use sheet::Arc;
+use sheet::Sections;
+
+// Refusal 3, of the arcs: a bit set that must be zero.
+pub fn bit_set(s: &[u8], at: Sections) -> bool
+    requires { ⌜ Located (now s) at × (arcCount (now s) < 65536) ⌝ }
+    ensures { λ r. ⌜ r ≡ any (arcBits (now (s .entry))) (arcCount (now (s .entry))) ⌝ }
+{
+    let arcs = at.arcs as u16;
+    let mut a: u16 = 0;
+    while a < arcs {
+        if sheet::ends_at(s, at, Arc(a)) >= 1048576 {
+            return true;
+        }
+        a += 1;
+    }
+    false
+}
+
+// Whether one end of an arc is no node.
+fn end_outside(s: &[u8], at: Sections, a: Arc, head: bool) -> bool
+    requires { ⌜ Located (now s) at × (a .0 < arcCount (now s)) ⌝ }
+    ensures { λ r. ⌜ r ≡ leb (nodeCount (now (s .entry))) (endOf head (now (s .entry)) (a .0)) ⌝ }
+{
+    let v = sheet::end_at(s, at, a, head);
+    sheet::node_count(s) <= v.0 as u32
+}
+
+// Whether an end of an arc is no node.
+fn ends_outside(s: &[u8], at: Sections, a: Arc) -> bool
+    requires { ⌜ Located (now s) at × (a .0 < arcCount (now s)) ⌝ }
+    ensures { λ r. ⌜ r ≡ endOutside (now (s .entry)) (a .0) ⌝ }
+{
+    if end_outside(s, at, a, false) {
+        return true;
+    }
+    end_outside(s, at, a, true)
+}
+
+// Refusals 8 and 9 in one pass: the number, or 0. An end outside decides at once, a length above its limit only after the last arc.
+fn field_refusal(s: &[u8], at: Sections) -> u8
+    requires { ⌜ Located (now s) at × (arcCount (now s) ≤ mostArcs) ⌝ }
+    ensures { λ r. ⌜ numbered r ≡ lowest (fieldRefusals (now (s .entry))) accepted ⌝ }
+{
+    let arcs = at.arcs as u16;
+    let mut found: u8 = 0;
+    let mut a: u16 = 0;
+    while a < arcs {
+        if ends_outside(s, at, Arc(a)) {
+            return 8;
+        }
+        if sheet::length_at(s, at, Arc(a)) > sheet::MOST_LENGTH {
+            found = 9;
+        }
+        a += 1;
+    }
+    found
+}
+
+// Refusal 10: some node is the tail of more arcs than it may be, or the head.
+fn crowded_nodes(s: &[u8], at: Sections) -> bool
+    requires { ⌜ Located (now s) at × (arcCount (now s) ≤ mostArcs) × (nodeCount (now s) ≤ mostNodes) × (endsOutside (now s) ≡ false) ⌝ }
+    ensures { λ r. ⌜ r ≡ tooManyAtNode (now (s .entry)) ⌝ }
+{
+    let mut tails = [0u8; 1024];
+    let mut heads = [0u8; 1024];
+    let arcs = at.arcs as u16;
+    let mut a: u16 = 0;
+    while a < arcs {
+        let tail = sheet::end_at(s, at, Arc(a), false);
+        let head = sheet::end_at(s, at, Arc(a), true);
+        let v = tail.0 as usize;
+        let w = head.0 as usize;
+        let x = tails[v];
+        let y = heads[w];
+        if x >= sheet::MOST_ARCS_EACH_WAY {
+            return true;
+        }
+        if y >= sheet::MOST_ARCS_EACH_WAY {
+            return true;
+        }
+        tails[v] = x + 1;
+        heads[w] = y + 1;
+        a += 1;
+    }
+    false
+}
+
+// Refusals 8 to 10: the number, or 0.
+pub fn arc_refusal(s: &[u8], at: Sections) -> u8
+    requires { ⌜ Located (now s) at × (arcCount (now s) ≤ mostArcs) × (nodeCount (now s) ≤ mostNodes) ⌝ }
+    ensures { λ r. ⌜ numbered r ≡ lowest (arcRefusals (now (s .entry))) accepted ⌝ }
+{
+    let field = field_refusal(s, at);
+    if field != 0 {
+        return field;
+    }
+    if crowded_nodes(s, at) {
+        return 10;
+    }
+    0
+}

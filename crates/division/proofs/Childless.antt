@@ -1,0 +1,105 @@
+-- Regions to which nothing is handed up have no child: what the pass from the last region back finds of refusals 13 and 14. Assumes nothing.
+use Prim.Native.Nat.{ℕ, zero, suc, max, _+_, _-_, _<_, _≤_}
+use mathlib.Core.Bool.{Bool, true, false, not, _&&_, true≢false}
+use mathlib.Core.List.{List}
+use mathlib.Core.Logic.{_≢_, ⊎-elim}
+use mathlib.Core.Path.{_≡_, refl, sym, ap, _∙_}
+use borrow.Author.Tests.{le-leb, eq-eqb, ne-eqb}
+use native.Mathlib.Omega.{arith}
+use lib.ListN.{length, getD, set, replicate}
+use lib.Dec.{eqb, leb}
+use Rattle.indices.specs.Tests.{count}
+use Rattle.indices.proofs.Most.{most-ge, most-le}
+use Rattle.indices.proofs.Steps.{eq-or-ne}
+use Rattle.indices.proofs.Tests.{any-hit, any-false, count-hit, count-out-all}
+use Rattle.sheet.specs.Limits.{mostRegionWords}
+use Rattle.sheet.specs.Words.{words}
+use Rattle.sheet.specs.Heights.{Nesting}
+use Rattle.sheet.specs.Regions.{regionCount, leafWord, isLeaf, parent, height}
+use Rattle.sheet.proofs.Heights.{child-after}
+use Rattle.refusals.specs.Nesting.{wrongParents, childOf, childless, childlessRegions}
+use Rattle.refusals.proofs.Parents.{nesting}
+use Rattle.division.proofs.Handed.{hand, handedFrom, Handed, none-passes, handed-start, handed-turn, inner-high}
+
+-- after the turns of the regions above r: what each region holds, and that each of those is a leaf or has a child
+pub record Passed (d best : List ℕ) (r : ℕ) : Type 0 where
+  pub handed : Handed (isLeaf d) (parent d) (regionCount d) best r
+  pub with-child : (k : ℕ) → r ≤ k → k < words d → childless d k ≡ false
+
+pub passed-start : (d : List ℕ) (size r : ℕ) → r ≡ words d → Passed d (replicate size 0) r
+passed-start d size r e = record {
+  handed = handed-start (isLeaf d) (parent d) (regionCount d) size r (omega arith);
+  with-child = λ k l m. absurd (omega arith);
+}
+
+module _ (d : List ℕ) (ok : wrongParents d ≡ false) (few : words d ≤ mostRegionWords) where
+  nests : Nesting (isLeaf d) (parent d) (regionCount d)
+  nests = nesting d ok few
+
+  -- what the regions above r hand to r
+  abbrev handedTo : ℕ → ℕ
+  handedTo r = handedFrom (isLeaf d) (parent d) (regionCount d) (suc r) r
+
+  abbrev handOf : ℕ → ℕ → ℕ
+  handOf k c = hand (isLeaf d) (parent d) (regionCount d) (suc (suc k)) (suc k) c
+
+  -- a child hands up more than 0
+  child-hands : (k j : ℕ) → k < words d → j < words d → childOf d (suc k) j ≡ true → 0 < handedTo (suc k)
+  unfolding handedFrom
+  child-hands k j lk lj e =
+      let after : suc k < suc j = child-after (isLeaf d) (parent d) (regionCount d) nests (suc k) (suc j) (omega arith) (omega arith) e in
+      let mine : handOf k (suc j) ≡ suc (height d (suc j)) = rw (le-leb (suc (suc k)) (suc j) (omega arith), e) in
+      omega (arith, most-ge (handOf k) (regionCount d) (suc j) (omega arith))
+
+  -- where no word names region k + 1 as its parent, nothing is handed to it
+  none-hands : (k : ℕ) → k < words d → count (childOf d (suc k)) (words d) ≡ 0 → handedTo (suc k) ≡ 0
+  unfolding handedFrom
+  none-hands k lk none = omega (arith, most-le (handOf k) (regionCount d) 0 each)
+    where
+      no-child : (j : ℕ) → j < words d → (b : Bool) → childOf d (suc k) j ≡ b → childOf d (suc k) j ≡ false
+      no-child j lj true e = absurd (omega (arith, count-hit (childOf d (suc k)) j (words d) lj e))
+      no-child j lj false e = e
+
+      each : (c : ℕ) → c < regionCount d → handOf k c ≤ 0
+      each zero lc = rw (ne-eqb (parent d 0) (suc k) (λ e. omega (arith, nests .alone))) (none-passes (leb (suc (suc k)) 0) _)
+      each (suc j) lc = rw (no-child j (omega arith) (childOf d (suc k) j) refl) (none-passes (leb (suc (suc k)) (suc j)) _)
+
+  -- an inner region that holds 0 when its turn comes
+  pub found-childless : (best : List ℕ) (r : ℕ) → 0 < r → r ≤ words d → r < length best → Passed d best r → getD best r 0 ≡ 0 → isLeaf d r ≡ false
+      → childlessRegions d ≡ true
+  unfolding childlessRegions
+  found-childless best zero pos l lr t z inner = absurd (omega arith)
+  found-childless best (suc k) pos l lr t z inner =
+      any-hit (childless d) k (words d) (omega arith)
+      (rw (inner, eq-eqb (count (childOf d (suc k)) (words d)) 0 (count-out-all (childOf d (suc k)) (words d) (λ j lj. at j lj (childOf d (suc k) j) refl))))
+    where
+      at : (j : ℕ) → j < words d → (b : Bool) → childOf d (suc k) j ≡ b → childOf d (suc k) j ≡ false
+      at j lj true e = absurd (omega (arith, child-hands k j (omega arith) lj e, t .handed .entry (suc k) lr))
+      at j lj false e = e
+
+  -- a region that is a leaf if it holds 0 is not childless
+  has-child : (k : ℕ) → k < words d → (handedTo (suc k) ≡ 0 → leafWord d k ≡ true) → childless d k ≡ false
+  has-child k l settled = at (leafWord d k) refl
+    where
+      at : (b : Bool) → leafWord d k ≡ b → not b && eqb (count (childOf d (suc k)) (words d)) 0 ≡ false
+      at true leaf = refl
+      at false inner = ne-eqb (count (childOf d (suc k)) (words d)) 0 (λ e. true≢false (sym (settled (none-hands k l e)) ∙ inner))
+
+  -- region r hands up to its parent p
+  pub passed-turn : (best : List ℕ) (r p x : ℕ) → 0 < r → r ≤ words d → r < length best → p < length best → p ≡ parent d r
+      → (getD best r 0 ≡ 0 → isLeaf d r ≡ true) → x ≡ max (getD best p 0) (getD best r 0 + 1) → Passed d best r → Passed d (set best p x) (r - 1)
+  passed-turn best zero p x pos l lr lp ep settled ex t = absurd (omega arith)
+  passed-turn best (suc k) p x pos l lr lp ep settled ex t = record {
+    handed = handed-turn (isLeaf d) (parent d) (regionCount d) nests best (suc k) p x pos (omega arith) lr lp ep settled ex (t .handed);
+    with-child = λ j lj mj. ⊎-elim (λ (e : j ≡ k). rw e (has-child k (omega arith) (λ z. settled (t .handed .entry (suc k) lr ∙ z))))
+        (λ (ne : j ≢ k). t .with-child j (omega arith) mj) (eq-or-ne j k);
+  }
+
+  -- after the last turn: refusal 13 does not apply, and what region 0 holds is its height, or 0 where it has no child
+  pub all-passed : (best : List ℕ) → Passed d best 0 → childlessRegions d ≡ false
+  unfolding childlessRegions
+  all-passed best t = any-false (childless d) (words d) (λ k l. t .with-child k (omega arith) l)
+
+  pub root-height : (best : List ℕ) → 0 < length best → Passed d best 0 → max 1 (getD best 0 0) ≡ height d 0
+  root-height best l t =
+      ap (max 1) (t .handed .entry 0 l) ∙ sym (inner-high (isLeaf d) (parent d) (regionCount d) nests 1 0 (omega arith) (omega arith) refl)

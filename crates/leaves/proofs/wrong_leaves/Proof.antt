@@ -1,0 +1,74 @@
+-- `wrong_leaves` meets its contract: the numbers passed have as many leaves as they should. Assumes nothing.
+use Prim.Native.Nat.{_-_, _≤_}
+use mathlib.Core.Path.{_≡_, sym, _∙_}
+use mathlib.Core.Bool.{false}
+use native.Mathlib.Omega.{arith}
+use Rattle.indices.specs.Tests.{any}
+use Rattle.indices.proofs.Tests.{any-none, any-more, any-end}
+use Rattle.leaves.proofs.Leaves.{wrongCount, right-count, one-wrong, none-wrong}
+use Rattle.leaves.proofs.wrong_leaves.Statement.{statement}
+use Rattle.leaves.proofs.wrong_leaves.Tie as tie
+
+abbrev Inv-loop : tie.InvT-loop
+Inv-loop d arcs seen a₀ a = (a ≤ 2048) × (any (wrongCount d arcs) a ≡ false)
+
+abbrev μ-loop : tie.MeasureT-loop
+μ-loop d arcs seen a₀ a = 2048 - a
+
+count-leaves-requires : tie.Need-count-leaves-requires Inv-loop μ-loop
+count-leaves-requires c κs = c .before .pre .0
+
+loop-holds : tie.Need-loop-holds Inv-loop μ-loop
+loop-holds c = (omega arith, any-none _)
+
+cast-i : tie.Need-cast-i Inv-loop μ-loop
+cast-i c = omega arith
+
+mul-if1 : tie.Need-mul-if1 Inv-loop μ-loop
+mul-if1 c = omega arith
+
+array-read-if1 : tie.Need-array-read-if1 Inv-loop μ-loop
+array-read-if1 c = omega arith
+
+cast-if1 : tie.Need-cast-if1 Inv-loop μ-loop
+cast-if1 c = tt
+
+returns : tie.Need-returns Inv-loop μ-loop
+returns c =
+    let loop = c .before .before .loop in
+    let leaves = c .before .before .before .before .count-leaves .ensures in
+    sym (one-wrong _ _ (loop .a) (λ e. c .if1 .taken (leaves .1 .counts (loop .a) (omega (arith, leaves .0)) ∙ e)))
+
+add-a : tie.Need-add-a Inv-loop μ-loop
+add-a c = omega arith
+
+loop-less : tie.Need-loop-less Inv-loop μ-loop
+loop-less c = omega arith
+
+loop-again : tie.Need-loop-again Inv-loop μ-loop
+loop-again c =
+    let loop = c .before .before .loop in
+    let leaves = c .before .before .before .before .count-leaves .ensures in
+    let right = right-count _ _ (loop .a) (sym (leaves .1 .counts (loop .a) (omega (arith, leaves .0))) ∙ c .if1 .left) in
+    (omega arith, any-more _ (loop .a) (loop .inv .1) right)
+
+returns-2 : tie.Need-returns-2 Inv-loop μ-loop
+returns-2 c = sym (none-wrong _ _ (any-end _ _ _ (omega arith) (c .before .loop .inv .1)) (omega arith))
+
+pub wrong-leaves-spec : {M : Type 1} → statement M
+wrong-leaves-spec =
+    tie.close
+    (tie.spec
+    Inv-loop
+    μ-loop
+    count-leaves-requires
+    loop-holds
+    cast-i
+    mul-if1
+    array-read-if1
+    cast-if1
+    returns
+    add-a
+    loop-less
+    loop-again
+    returns-2)

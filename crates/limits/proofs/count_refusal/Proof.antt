@@ -1,0 +1,87 @@
+-- `count_refusal` meets its contract: the tests in turn, each where none before it applies. Assumes nothing.
+use mathlib.Core.Path.{sym, _∙_}
+use borrow.Author.Needs.{needs}
+use Rattle.refusals.specs.Judgement.{countRefusals}
+use Rattle.limits.proofs.count_refusal.Statement.{statement}
+use Rattle.limits.proofs.count_refusal.Tie as tie
+
+nodes-outside-requires : tie.Need-nodes-outside-requires
+nodes-outside-requires c κs = search needs
+
+returns : tie.Need-returns
+unfolding countRefusals
+returns c = rw (sym (c .before .nodes-outside .ensures) ∙ c .if1 .taken)
+
+source-outside-requires : tie.Need-source-outside-requires
+source-outside-requires c κs = search needs
+
+returns-2 : tie.Need-returns-2
+unfolding countRefusals
+returns-2 c =
+    let nodes-outside = c .before .before .before .nodes-outside in
+    rw (sym (nodes-outside .ensures) ∙ c .before .before .if1 .left, sym (c .before .source-outside .ensures) ∙ c .if2 .taken)
+
+spans-outside-requires : tie.Need-spans-outside-requires
+spans-outside-requires c κs = search needs
+
+returns-3 : tie.Need-returns-3
+unfolding countRefusals
+returns-3 c =
+    let earlier = c .before .before .before .before in
+    let nodes-outside = earlier .before .nodes-outside in
+    let if1 = earlier .if1 in
+    let source-outside = c .before .before .before .source-outside in
+    rw (
+      sym (nodes-outside .ensures) ∙ if1 .left,
+      sym (source-outside .ensures) ∙ c .before .before .if2 .left,
+      sym (c .before .spans-outside .ensures) ∙ c .if3 .taken,
+    )
+
+too-many-requires : tie.Need-too-many-requires
+too-many-requires c κs = search needs
+
+returns-4 : tie.Need-returns-4
+unfolding countRefusals
+returns-4 c =
+    let earlier = c .before .before .before .before in
+    let nodes-outside = earlier .before .before .before .nodes-outside in
+    let if1 = earlier .before .before .if1 in
+    let source-outside = earlier .before .source-outside in
+    let if2 = earlier .if2 in
+    let spans-outside = c .before .before .before .spans-outside in
+    rw (
+      sym (nodes-outside .ensures) ∙ if1 .left,
+      sym (source-outside .ensures) ∙ if2 .left,
+      sym (spans-outside .ensures) ∙ c .before .before .if3 .left,
+      sym (c .before .too-many .ensures) ∙ c .if4 .taken,
+    )
+
+returns-5 : tie.Need-returns-5
+unfolding countRefusals
+returns-5 c =
+    let earlier = c .before .before .before .before in
+    let nodes-outside = earlier .before .before .before .nodes-outside in
+    let if1 = earlier .before .before .if1 in
+    let source-outside = earlier .before .source-outside in
+    let if2 = earlier .if2 in
+    let spans-outside = c .before .before .before .spans-outside in
+    rw (
+      sym (nodes-outside .ensures) ∙ if1 .left,
+      sym (source-outside .ensures) ∙ if2 .left,
+      sym (spans-outside .ensures) ∙ c .before .before .if3 .left,
+      sym (c .before .too-many .ensures) ∙ c .if4 .left,
+    )
+
+pub count-refusal-spec : {M : Type 1} → statement M
+count-refusal-spec =
+    tie.close
+    (tie.spec
+    nodes-outside-requires
+    returns
+    source-outside-requires
+    returns-2
+    spans-outside-requires
+    returns-3
+    too-many-requires
+    returns-4
+    returns-5)
