@@ -1,8 +1,8 @@
 // The division checker: refusals 11 to 14, over the part of the sheet after the last arc. Word k of that part is region k + 1. Every check is linear
 // in the words.
 ghost use mathlib.Core.Path.{_≡_};
-ghost use mathlib.Core.Bool.{false, cond};
-ghost use Prim.Native.Nat.{suc, max, _≤_, _<_};
+ghost use mathlib.Core.Bool.{false};
+ghost use Prim.Native.Nat.{max, _≤_};
 ghost use Rattle.sheet.specs.Limits.{mostArcs, mostRegionWords};
 ghost use Rattle.sheet.specs.Words.{words};
 ghost use Rattle.sheet.specs.Answer.{numbered, accepted, lowest};
@@ -19,17 +19,6 @@ pub fn larger(a: u16, b: u16) -> u16
         return b;
     }
     a
-}
-
-// The height of a leaf, or of a region whose highest child has the given height.
-pub fn above(leaf: bool, highest: u16) -> u16
-    requires { ⌜ highest < 65535 ⌝ }
-    ensures { λ r. ⌜ r ≡ cond leaf 0 (suc highest) ⌝ }
-{
-    if leaf {
-        return 0;
-    }
-    highest + 1
 }
 
 // Refusals 13 and 14 in one pass from the last region back, where refusal 11 does not apply: the number, or 0. Each region hands its height and one more

@@ -1,6 +1,7 @@
 // The regions of a sheet, their parents, arcs and heights, entered into slices. Every pass is linear in the region words.
 ghost use mathlib.Core.Path.{_≡_};
-ghost use Prim.Native.Nat.{_+_, _*_, _≤_, _<_};
+ghost use mathlib.Core.Bool.{cond};
+ghost use Prim.Native.Nat.{suc, _+_, _*_, _≤_, _<_};
 ghost use lib.ListN.{length, set};
 ghost use Rattle.sheet.specs.Limits.{mostRegionWords};
 ghost use Rattle.sheet.specs.Words.{words};
@@ -66,6 +67,17 @@ pub fn enter_region_arcs(d: &[u8], regions: &mut [u16])
     }
 }
 
+// The height of a leaf, or of a region whose highest child has the given height.
+fn above(leaf: bool, highest: u16) -> u16
+    requires { ⌜ highest < 65535 ⌝ }
+    ensures { λ r. ⌜ r ≡ cond leaf 0 (suc highest) ⌝ }
+{
+    if leaf {
+        return 0;
+    }
+    highest + 1
+}
+
 // Each region's height, into its row, from the last region back: a row holds the largest height that a child has handed up, until the region's turn comes.
 pub fn enter_heights(d: &[u8], parents: &[u16], regions: &mut [u16])
     requires { ⌜ Nested (now d) × ParentsEntered (now d) (now parents) × ArcsEntered (now d) (now regions) ⌝ }
@@ -73,7 +85,7 @@ pub fn enter_heights(d: &[u8], parents: &[u16], regions: &mut [u16])
 {
     let mut r = (d.len() / 4) as u16;
     while 0 < r {
-        let height = division::above(sheet::is_leaf(d, Region(r)), height_in(regions, Region(r)));
+        let height = above(sheet::is_leaf(d, Region(r)), height_in(regions, Region(r)));
         set_height(regions, Region(r), height);
         let i = r as usize;
         let parent = Region(parents[i]);
@@ -81,6 +93,6 @@ pub fn enter_heights(d: &[u8], parents: &[u16], regions: &mut [u16])
         set_height(regions, parent, highest);
         r -= 1;
     }
-    let height = division::above(false, height_in(regions, Region(0)));
+    let height = above(false, height_in(regions, Region(0)));
     set_height(regions, Region(0), height);
 }
