@@ -149,9 +149,9 @@ returns c =
     let lower = c .before .before in
     let pass = turn lower in
     let other = lower .before .before .sibling in
+    let big : 1 < pass .before .loop .place = omega (arith, pass .loop-test .taken) in
     λ d keys Q inside.
-    repair-done (now (pass .before) d keys (Q, inside)) _ (row (pass .before)) _ _ (pass .loop-test .taken) (other .ensures) (lower .lower .ensures)
-    (c .if1 .taken)
+    repair-done (now (pass .before) d keys (Q, inside)) _ (row (pass .before)) _ _ big (other .ensures) (lower .lower .ensures) (c .if1 .taken)
 
 add-winners-2 : tie.Need-add-winners-2 Inv-loop μ-loop
 add-winners-2 c = omega (arith, above (turn (c .before .before) .before) .fits)
@@ -169,9 +169,10 @@ loop-again : tie.Need-loop-again Inv-loop μ-loop
 loop-again c =
     let lower = c .before .before in
     let pass = turn lower in
-    let other = lower .before .before .sibling in (
+    let other = lower .before .before .sibling in
+    let big : 1 < pass .before .loop .place = omega (arith, pass .loop-test .taken) in (
       simp length-set (long (pass .before)),
-      λ d keys r row R. repair-step (pass .before .loop .inv .1 d keys r row R) _ row _ _ (pass .loop-test .taken) (other .ensures) (lower .lower .ensures),
+      λ d keys r row R. repair-step (pass .before .loop .inv .1 d keys r row R) _ row _ _ big (other .ensures) (lower .lower .ensures),
     )
 
 same-length-2 : tie.Need-same-length-2 Inv-loop μ-loop
