@@ -9,11 +9,11 @@ use Rattle.sheet.specs.Regions.{regionCount}
 use Rattle.procedure.specs.Graph.{Graph}
 use Rattle.procedure.specs.Division.{Division}
 use Rattle.procedure.specs.OfSheet.{graphOf, divisionOf, spansOf}
-use Rattle.queue.specs.Trees.{LaidOut}
+use Rattle.queue.specs.Trees.{Planned}
 use Rattle.slices.specs.Tables.{Tables, ArcRows, ArcLinks, RegionRows, Tabled}
 
 -- What is lent: each slice has as many entries as are used.
-pub record Sized (b parents rows arcRows firsts lengths spans regionRows winners : List ℕ) : Type 0 where
+pub record Sized (b parents rows arcRows firsts lengths spans regionRows : List ℕ) : Type 0 where
   pub parents-all : length parents ≡ regionCount (regionWords b)
   pub rows-all : length rows ≡ 4 * regionCount (regionWords b)
   pub arcs-all : length arcRows ≡ 4 * arcCount b
@@ -21,12 +21,11 @@ pub record Sized (b parents rows arcRows firsts lengths spans regionRows winners
   pub lengths-all : length lengths ≡ arcCount b
   pub spans-all : length spans ≡ spanCount b
   pub regions-all : length regionRows ≡ 2 * regionCount (regionWords b)
-  pub winners-all : length winners ≡ 2 * regionCount (regionWords b)
 
--- The tables represent the graph, the division and the spans of the sheet, and the trees of the queues are laid out.
-pub record Laid (b : List ℕ) (t : Tables) (winners : List ℕ) : Type 0 where
+-- The tables represent the graph, the division and the spans of the sheet, and the trees of the queues are planned.
+pub record Laid (b : List ℕ) (t : Tables) : Type 0 where
   pub tabled : Tabled (graphOf b) (divisionOf b) t
-  pub trees : LaidOut (divisionOf b) (t .rows) winners
+  pub planned : Planned (divisionOf b) (t .rows)
   pub spans : t .spans ≡ spansOf b
 
 -- the rows represent the arcs, and link those of each tail
@@ -34,7 +33,7 @@ pub record ArcsLaid (g : Graph) (d : Division) (arcRows firsts : List ℕ) : Typ
   pub arc-rows : ArcRows g d arcRows
   pub links : ArcLinks g arcRows firsts
 
--- the rows represent the regions, and the trees are laid out
-pub record RegionsLaid (d : Division) (rows regionRows winners : List ℕ) : Type 0 where
+-- the rows represent the regions, and the trees are planned
+pub record RegionsLaid (d : Division) (rows regionRows : List ℕ) : Type 0 where
   pub region-rows : RegionRows d regionRows
-  pub trees : LaidOut d rows winners
+  pub planned : Planned d rows
