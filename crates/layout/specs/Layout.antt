@@ -1,10 +1,9 @@
--- The slices of a run, laid out from an accepted sheet b or from its region words d. Definitions; assumes nothing.
+-- The slices of a run, laid out from an accepted sheet b. Definitions; assumes nothing.
 use Prim.Native.Nat.{ℕ, _*_}
 use mathlib.Core.Path.{_≡_}
 use mathlib.Core.List.{List}
 use lib.ListN.{length}
 use Rattle.sheet.specs.Sections.{nodeCount, spanCount, arcCount, regionWords}
-use Rattle.sheet.specs.Arcs.{tail}
 use Rattle.sheet.specs.Regions.{regionCount}
 use Rattle.procedure.specs.Graph.{Graph}
 use Rattle.procedure.specs.Division.{Division}
