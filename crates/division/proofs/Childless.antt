@@ -6,6 +6,7 @@ use mathlib.Core.Logic.{_≢_, ⊎-elim}
 use mathlib.Core.Path.{_≡_, refl, sym, ap, _∙_}
 use borrow.Author.Tests.{le-leb, eq-eqb, ne-eqb}
 use native.Mathlib.Omega.{arith}
+use mir.Val.{boolByte}
 use lib.ListN.{length, getD, set, replicate}
 use lib.Dec.{eqb, leb}
 use Rattle.indices.specs.Tests.{count}
@@ -20,6 +21,15 @@ use Rattle.sheet.proofs.Heights.{child-after}
 use Rattle.refusals.specs.Nesting.{wrongParents, childOf, childless, childlessRegions}
 use Rattle.refusals.proofs.Parents.{nesting}
 use Rattle.division.proofs.Handed.{hand, handedFrom, Handed, none-passes, handed-start, handed-turn, inner-high}
+
+-- the test at a region's turn: an inner one must hold 1 at least
+pub holds-none : (own : ℕ) (leaf : Bool) → own < boolByte (not leaf) → (own ≡ 0) × (leaf ≡ false)
+holds-none own true l = absurd (omega arith)
+holds-none own false l = (omega arith, refl)
+
+pub none-held : (own : ℕ) (leaf : Bool) → boolByte (not leaf) ≤ own → own ≡ 0 → leaf ≡ true
+none-held own true l z = refl
+none-held own false l z = absurd (omega arith)
 
 -- after the turns of the regions above r: what each region holds, and that each of those is a leaf or has a child
 pub record Passed (d best : List ℕ) (r : ℕ) : Type 0 where

@@ -22,7 +22,8 @@ pub fn larger(a: u16, b: u16) -> u16
 }
 
 // Refusals 13 and 14 in one pass from the last region back, where refusal 11 does not apply: the number, or 0. Each region hands its height and one more
-// to its parent, which keeps the largest, so that a region whose turn comes with 0 has no child.
+// to its parent, which keeps the largest, so that a region whose turn comes with 0 has no child: an inner one must hold
+// 1 at least.
 fn nesting_refusal(d: &[u8], spans: usize) -> u8
     requires { ⌜ (words (now d) ≤ mostRegionWords) × (wrongParents (now d) ≡ false) ⌝ }
     ensures { λ r. ⌜ numbered r ≡ lowest (nestingRefusals (now (d .entry)) spans) accepted ⌝ }
@@ -34,10 +35,9 @@ fn nesting_refusal(d: &[u8], spans: usize) -> u8
         let up = parents::parent_of(d, Region(r));
         let p = up.0 as usize;
         let own = best[i];
-        if own == 0 {
-            if !sheet::is_leaf(d, Region(r)) {
-                return 13;
-            }
+        let least = !sheet::is_leaf(d, Region(r)) as u16;
+        if own < least {
+            return 13;
         }
         best[p] = larger(best[p], own + 1);
         r -= 1;

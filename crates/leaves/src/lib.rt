@@ -19,10 +19,10 @@ fn leaf_bits(d: &[u8], k: usize) -> bool
     requires { ⌜ k < words (now d) ⌝ }
     ensures { λ r. ⌜ r ≡ leafBits (now (d .entry)) k ⌝ }
 {
-    if !sheet::leaf_word(d, k) {
+    if sheet::payload_at(d, k) < 8388608 {
         return false;
     }
-    sheet::payload_at(d, k) >= 8388608
+    sheet::leaf_word(d, k)
 }
 
 // Refusal 3, of the leaves: a bit set that must be zero.
@@ -40,7 +40,7 @@ pub fn bit_set(d: &[u8]) -> bool
     false
 }
 
-// How many leaves each arc has.
+// How many leaves each arc has. A word that is no leaf adds 0 instead of being passed over: no branch hangs on it.
 fn count_leaves(d: &[u8]) -> Counters
     requires { ⌜ words (now d) ≤ mostRegionWords ⌝ }
     ensures { λ r. ⌜ (length (r .n) ≡ 2048) × Tally (leafOfArc (now (d .entry))) mostRegionWords (r .n) (words (now (d .entry))) ⌝ }
@@ -49,12 +49,10 @@ fn count_leaves(d: &[u8]) -> Counters
     let n = d.len() / 4;
     let mut k = 0;
     while k < n {
-        if sheet::leaf_word(d, k) {
-            let arc = sheet::arc_word(d, k);
-            let at = arc.0 as usize;
-            let x = seen[at];
-            seen[at] = x + 1;
-        }
+        let arc = sheet::arc_word(d, k);
+        let at = arc.0 as usize;
+        let x = seen[at];
+        seen[at] = x + sheet::leaf_word(d, k) as u16;
         k += 1;
     }
     Counters { n: seen }

@@ -1,16 +1,15 @@
 -- `nesting_refusal` meets its contract: the regions passed have handed up their heights, and none of them is childless. Assumes nothing.
 use Prim.Native.Nat.{suc, _≤_}
 use mathlib.Core.Bool.{true}
-use mathlib.Core.Logic.{⊎-elim}
 use mathlib.Core.Path.{_≡_, refl, sym, _∙_}
-use borrow.Author.Tests.{eq-eqb, ne-eqb, not-true, not-false}
+use borrow.Author.Tests.{eq-eqb, ne-eqb}
 use native.Mathlib.Omega.{arith}
 use lib.ListN.{length, getD, length-set}
 use Rattle.sheet.specs.Words.{words}
 use Rattle.sheet.specs.Regions.{isLeaf, parent, regionCount}
 use Rattle.refusals.specs.Nesting.{spansDiffer}
 use Rattle.division.proofs.Handed.{handed-le}
-use Rattle.division.proofs.Childless.{Passed, passed-start, passed-turn, found-childless, all-passed, root-height}
+use Rattle.division.proofs.Childless.{Passed, holds-none, none-held, passed-start, passed-turn, found-childless, all-passed, root-height}
 use Rattle.division.proofs.nesting_refusal.Statement.{statement}
 use Rattle.division.proofs.nesting_refusal.Tie as tie
 
@@ -49,11 +48,14 @@ is-leaf-requires c κs = omega arith
 returns : tie.Need-returns Inv-loop μ-loop
 returns c =
     let earlier = c .before .before .before .before in
-    let loop = earlier .before .before .loop in
-    let start = earlier .before .before .before .before in
-    let inner = sym (c .before .is-leaf .ensures) ∙ not-true _ (c .if2 .taken) in
+    let loop = earlier .before .loop in
+    let start = earlier .before .before .before in
+    let none = holds-none (getD (loop .best) (loop .r) 0) (c .before .is-leaf .result) (c .if1 .taken) in
     rw (found-childless (start .args .d .now) (start .pre .1) (start .pre .0) (loop .best) (loop .r) (omega arith) (omega arith) (omega arith)
-    (loop .inv .2) (c .before .before .if1 .taken) inner)
+    (loop .inv .2) (none .0) (sym (c .before .is-leaf .ensures) ∙ none .1))
+
+cast-least : tie.Need-cast-least Inv-loop μ-loop
+cast-least c = tt
 
 mul-larger : tie.Need-mul-larger Inv-loop μ-loop
 mul-larger c = omega arith
@@ -64,8 +66,8 @@ array-read-larger c = omega arith
 add-larger : tie.Need-add-larger Inv-loop μ-loop
 add-larger c =
     let earlier = c .before .before .before .before in
-    let loop = earlier .loop in
-    let d = earlier .before .before .args .d .now in
+    let loop = earlier .before .loop in
+    let d = earlier .before .before .before .args .d .now in
     omega (arith, loop .inv .2 .handed .entry (loop .r) (omega arith), handed-le (isLeaf d) (parent d) (regionCount d) (suc (loop .r)) (loop .r))
 
 larger-requires : tie.Need-larger-requires Inv-loop μ-loop
@@ -86,12 +88,13 @@ loop-less c = omega arith
 loop-again : tie.Need-loop-again Inv-loop μ-loop
 loop-again c =
     let earlier = c .before .before .before .before in
-    let loop = earlier .before .loop in
-    let start = earlier .before .before .before in
-    let parent-of = c .before .before .before .parent-of in
+    let parent-of = earlier .parent-of in
+    let loop = earlier .before .before .loop in
+    let start = earlier .before .before .before .before in
     let d = start .args .d .now in
+    let is-leaf = c .before .before .is-leaf in
     let settled : getD (loop .best) (loop .r) 0 ≡ 0 → isLeaf d (loop .r) ≡ true =
-    λ z. ⊎-elim {C = isLeaf d (loop .r) ≡ true} (λ w. sym (w .1 .ensures) ∙ not-false _ (w .2 .left)) (λ w. absurd (w .left z)) (c .before .if1 .came) in (
+    λ z. sym (is-leaf .ensures) ∙ none-held (getD (loop .best) (loop .r) 0) (is-leaf .result) (c .before .if1 .left) z in (
       omega arith,
       simp length-set (loop .inv .1),
       passed-turn _ (start .pre .1) (start .pre .0) (loop .best) (loop .r) (parent-of .result .0) _ (omega arith) (omega arith) (omega arith) (omega arith)
@@ -104,8 +107,8 @@ array-read-larger-2 c = omega arith
 larger-requires-2 : tie.Need-larger-requires-2 Inv-loop μ-loop
 larger-requires-2 c κs = omega arith
 
-cast-if3 : tie.Need-cast-if3 Inv-loop μ-loop
-cast-if3 c = omega arith
+cast-if2 : tie.Need-cast-if2 Inv-loop μ-loop
+cast-if2 c = omega arith
 
 returns-2 : tie.Need-returns-2 Inv-loop μ-loop
 unfolding spansDiffer
@@ -117,7 +120,7 @@ returns-2 c =
     let d = start .args .d .now in
     let t : Passed d (loop .best) 0 = rw done at (loop .inv .2) in
     let height = c .before .larger2 .ensures ∙ root-height d (start .pre .1) (start .pre .0) (loop .best) (omega arith) t in
-    rw (all-passed d (start .pre .1) (start .pre .0) (loop .best) t, ← height, ne-eqb _ _ (c .if3 .taken))
+    rw (all-passed d (start .pre .1) (start .pre .0) (loop .best) t, ← height, ne-eqb _ _ (c .if2 .taken))
 
 returns-3 : tie.Need-returns-3 Inv-loop μ-loop
 unfolding spansDiffer
@@ -129,7 +132,7 @@ returns-3 c =
     let d = start .args .d .now in
     let t : Passed d (loop .best) 0 = rw done at (loop .inv .2) in
     let height = c .before .larger2 .ensures ∙ root-height d (start .pre .1) (start .pre .0) (loop .best) (omega arith) t in
-    rw (all-passed d (start .pre .1) (start .pre .0) (loop .best) t, ← height, eq-eqb _ _ (c .if3 .left))
+    rw (all-passed d (start .pre .1) (start .pre .0) (loop .best) t, ← height, eq-eqb _ _ (c .if2 .left))
 
 pub nesting-refusal-spec : {M : Type 1} → statement M
 nesting-refusal-spec =
@@ -145,6 +148,7 @@ nesting-refusal-spec =
     mul-own
     array-read-own
     is-leaf-requires
+    cast-least
     returns
     mul-larger
     array-read-larger
@@ -157,6 +161,6 @@ nesting-refusal-spec =
     loop-again
     array-read-larger-2
     larger-requires-2
-    cast-if3
+    cast-if2
     returns-2
     returns-3)

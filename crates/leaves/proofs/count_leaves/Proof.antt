@@ -1,17 +1,16 @@
 -- `count_leaves` meets its contract: the counters say how many of the words passed are a leaf of each arc. Assumes nothing.
 use Prim.Native.Nat.{_-_, _≤_, _<_}
-use mathlib.Core.Path.{_≡_, refl, sym, _∙_}
-use mathlib.Core.Logic.{⊎-elim}
+use mathlib.Core.Path.{_≡_, refl}
 use borrow.Author.Needs.{needs}
 use native.Mathlib.Omega.{arith}
 use lib.ListN.{length, getD, length-set}
 use Rattle.indices.specs.Tally.{Tally}
 use Rattle.indices.proofs.Tests.{count-le}
-use Rattle.indices.proofs.Tally.{tally-none, tally-in, tally-out}
+use Rattle.indices.proofs.Tally.{tally-none}
 use Rattle.sheet.specs.Limits.{mostRegionWords}
 use Rattle.sheet.specs.Words.{words}
 use Rattle.refusals.specs.Nesting.{leafOfArc}
-use Rattle.leaves.proofs.Leaves.{leaf-counts, counts-for-one, counts-for-none}
+use Rattle.leaves.proofs.Leaves.{a-bit, word-counted}
 use Rattle.leaves.proofs.count_leaves.Statement.{statement}
 use Rattle.leaves.proofs.count_leaves.Tie as tie
 
@@ -23,9 +22,6 @@ abbrev μ-loop : tie.MeasureT-loop
 
 loop-holds : tie.Need-loop-holds Inv-loop μ-loop
 loop-holds c = (search needs, refl, tally-none _ mostRegionWords 2048)
-
-leaf-word-requires : tie.Need-leaf-word-requires Inv-loop μ-loop
-leaf-word-requires c κs = omega arith
 
 arc-word-requires : tie.Need-arc-word-requires Inv-loop μ-loop
 arc-word-requires c κs = omega arith
@@ -39,11 +35,16 @@ mul-x c = omega arith
 array-read-x : tie.Need-array-read-x Inv-loop μ-loop
 array-read-x c = omega arith
 
+leaf-word-requires : tie.Need-leaf-word-requires Inv-loop μ-loop
+leaf-word-requires c κs = omega arith
+
+cast-seen : tie.Need-cast-seen Inv-loop μ-loop
+cast-seen c = tt
+
 add-seen : tie.Need-add-seen Inv-loop μ-loop
 add-seen c =
-    let earlier = c .before .before .before .before in
-    let loop = earlier .before .loop in
-    omega (arith, loop .inv .2 .below (c .before .arc-word .result .0) (omega arith))
+    let loop = c .before .before .before .before .loop in
+    omega (arith, loop .inv .2 .below (c .before .before .arc-word .result .0) (omega arith), a-bit (c .leaf-word .result))
 
 mul-seen : tie.Need-mul-seen Inv-loop μ-loop
 mul-seen c = omega arith
@@ -59,27 +60,17 @@ loop-less c = omega arith
 
 loop-again : tie.Need-loop-again Inv-loop μ-loop
 loop-again c =
-    let earlier = c .before .before .before in
+    let earlier = c .before .before .before .before in
     let loop = earlier .loop in
     let d = earlier .before .before .args .d .now in
-    let k = loop .k in
-    let t = loop .inv .2 in
-    ⊎-elim
-    (λ w.
-    let i = w .1 .result .0 in
-    let room : getD (loop .seen) i 0 < mostRegionWords = omega (arith, t .counts i (omega (arith, w .1 .ensures .1)), count-le (leafOfArc d i) k) in
-    rw (w .3) (
+    let arc-word = c .before .before .arc-word in
+    let i = arc-word .result .0 in
+    let room : getD (loop .seen) i 0 < mostRegionWords = omega (arith, loop .inv .2 .counts i (omega arith), count-le (leafOfArc d i) (loop .k)) in (
       omega arith,
       simp length-set (loop .inv .1),
-      tally-in _ mostRegionWords (loop .seen) k t i (omega (arith, w .1 .ensures .1)) (leaf-counts d k i (sym (c .before .leaf-word .ensures) ∙ w .0 .taken)
-          (w .1 .ensures .0)) (λ v. counts-for-one d k i v (w .1 .ensures .0)) room,
-    ))
-    (λ w. rw (w .1) (
-      omega arith,
-      loop .inv .1,
-      tally-out _ mostRegionWords (loop .seen) k t (λ v. counts-for-none d k v (sym (c .before .leaf-word .ensures) ∙ w .0 .left)),
-    ))
-    (c .if1 .came)
+      word-counted d mostRegionWords (loop .seen) (loop .k) i (c .leaf-word .result) (arc-word .ensures .0) (c .leaf-word .ensures) (omega arith) room
+          (loop .inv .2),
+    )
 
 returns : tie.Need-returns Inv-loop μ-loop
 returns c =
@@ -94,11 +85,12 @@ count-leaves-spec =
     Inv-loop
     μ-loop
     loop-holds
-    leaf-word-requires
     arc-word-requires
     cast-at
     mul-x
     array-read-x
+    leaf-word-requires
+    cast-seen
     add-seen
     mul-seen
     array-write-seen
