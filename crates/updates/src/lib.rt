@@ -1,4 +1,4 @@
-// Updates, from a leaf up, and the working of a leaf, over slices that the caller lends. Each function computes its definition.
+// Updates, from a leaf up, and the working of a leaf, over slices and arrays that the caller lends. Each function computes its definition.
 ghost use mathlib.Core.Path.{_≡_};
 ghost use mathlib.Core.Bool.{true};
 ghost use mathlib.Core.List.{List};
@@ -8,7 +8,7 @@ ghost use Rattle.procedure.specs.Division.{Division, isLeaf};
 ghost use Rattle.procedure.specs.Queues.{update, updateArc, updateOutgoing};
 ghost use Rattle.procedure.specs.Procedure.{processLeaf};
 ghost use Rattle.slices.specs.Tables.{tablesOf};
-ghost use Rattle.slices.specs.States.{queuesOf, stateOf};
+ghost use Rattle.slices.specs.States.{queuesOf, queuesIn, stateIn};
 ghost use Rattle.slices.specs.States.{Updating, UpdatingArc, UpdatingOutgoing, Queued, Processing, Computed};
 use counts::Counts;
 use queue::NONE;
@@ -62,18 +62,18 @@ fn update(
 fn update_arc(
     rows: &[u16],
     arcs: &[u16],
-    own: &mut [u32],
+    own: &mut [u32; 2048],
     keys: &mut [u32],
     winners: &mut [u16],
     a: Arc,
     key: u32,
     count: u64,
 ) -> u64
-    requires { ⌜ (let q = queuesOf (now own) (now keys) count in
-        (g : Graph) × (d : Division) × UpdatingArc g d (now rows) (now arcs) q (now winners) (a .0) key) ⌝ }
-    ensures { λ n. ⌜ (let q = queuesOf (now (own .entry)) (now (keys .entry)) count in
-        (g : Graph) (d : Division) → UpdatingArc g d (now (rows .entry)) (now (arcs .entry)) q (now (winners .entry)) (a .0) key
-        → Queued d (now (rows .entry)) (updateArc d (a .0) key q) (queuesOf (now (own .exit)) (now (keys .exit)) n) (now (winners .exit))) ⌝ }
+    requires { ⌜ ((g : Graph) × (d : Division)
+        × UpdatingArc g d (now rows) (now arcs) (queuesIn g (now own) (now keys) count) (now winners) (a .0) key) ⌝ }
+    ensures { λ n. ⌜ ((g : Graph) (d : Division) → let q = queuesIn g (now (own .entry)) (now (keys .entry)) count in
+        UpdatingArc g d (now (rows .entry)) (now (arcs .entry)) q (now (winners .entry)) (a .0) key
+        → Queued d (now (rows .entry)) (updateArc d (a .0) key q) (queuesIn g (now (own .exit)) (now (keys .exit)) n) (now (winners .exit))) ⌝ }
 {
     let i = a.0 as usize;
     let old = own[i];
@@ -97,21 +97,21 @@ fn update_arc(
 pub fn update_outgoing(
     rows: &[u16],
     arcs: &[u16],
-    firsts: &[u16],
-    own: &mut [u32],
+    firsts: &[u16; 1024],
+    own: &mut [u32; 2048],
     keys: &mut [u32],
     winners: &mut [u16],
     v: Node,
     key: u32,
     count: u64,
 ) -> u64
-    requires { ⌜ (let q = queuesOf (now own) (now keys) count in
-        (g : Graph) × (d : Division) × UpdatingOutgoing g d (now rows) (now arcs) (now firsts) q (now winners) (v .0) key) ⌝ }
-    ensures { λ n. ⌜ (let q = queuesOf (now (own .entry)) (now (keys .entry)) count in
-        (g : Graph) (d : Division) → UpdatingOutgoing g d (now (rows .entry)) (now (arcs .entry)) (now (firsts .entry)) q (now (winners .entry)) (v .0) key
-        → Queued d (now (rows .entry)) (updateOutgoing d (g .tails) (v .0) key q) (queuesOf (now (own .exit)) (now (keys .exit)) n) (now (winners .exit))) ⌝ }
+    requires { ⌜ ((g : Graph) × (d : Division)
+        × UpdatingOutgoing g d (now rows) (now arcs) (now firsts) (queuesIn g (now own) (now keys) count) (now winners) (v .0) key) ⌝ }
+    ensures { λ n. ⌜ ((g : Graph) (d : Division) → let q = queuesIn g (now (own .entry)) (now (keys .entry)) count in
+        UpdatingOutgoing g d (now (rows .entry)) (now (arcs .entry)) (now (firsts .entry)) q (now (winners .entry)) (v .0) key
+        → Queued d (now (rows .entry)) (updateOutgoing d (g .tails) (v .0) key q) (queuesIn g (now (own .exit)) (now (keys .exit)) n) (now (winners .exit))) ⌝ }
 {
-    let none = own.len() as u16;
+    let none = (arcs.len() / 4) as u16;
     let mut a = rows::first_of(firsts, v);
     let mut n = count;
     while a.0 < none {
@@ -125,26 +125,26 @@ pub fn update_outgoing(
 pub fn process_leaf(
     rows: &[u16],
     arcs: &[u16],
-    firsts: &[u16],
-    lengths: &[u32],
-    regions: &[u16],
-    labels: &mut [u32],
-    predecessors: &mut [u32],
-    own: &mut [u32],
+    firsts: &[u16; 1024],
+    lengths: &[u32; 2048],
+    regions: &[u16; 8190],
+    labels: &mut [u32; 1024],
+    predecessors: &mut [u32; 1024],
+    own: &mut [u32; 2048],
     keys: &mut [u32],
     winners: &mut [u16],
     r: Region,
     c: Counts,
 ) -> Counts
-    requires { ⌜ (let s = stateOf (now labels) (now predecessors) (now own) (now keys) c in
-        (g : Graph) × (d : Division) × (spans : List ℕ) × Processing g d (tablesOf (now rows) (now arcs) (now firsts) (now lengths) spans (now regions)) s
-        (now winners) (r .0) (processLeaf g d (r .0) s) × isLeaf d (r .0) ≡ true) ⌝ }
-    ensures { λ n. ⌜ (let s = stateOf (now (labels .entry)) (now (predecessors .entry)) (now (own .entry)) (now (keys .entry)) c in
-        let s′ = stateOf (now (labels .exit)) (now (predecessors .exit)) (now (own .exit)) (now (keys .exit)) n in
-        (g : Graph) (d : Division) (spans : List ℕ) → Processing g d (tablesOf (now (rows .entry)) (now (arcs .entry)) (now (firsts .entry))
-        (now (lengths .entry)) spans (now (regions .entry))) s (now (winners .entry)) (r .0) (processLeaf g d (r .0) s) → isLeaf d (r .0) ≡ true
-        → Computed g d (tablesOf (now (rows .entry)) (now (arcs .entry)) (now (firsts .entry)) (now (lengths .entry)) spans (now (regions .entry)))
-        (processLeaf g d (r .0) s) s′ (now (winners .exit))) ⌝ }
+    requires { ⌜ ((g : Graph) × (d : Division) × (spans : List ℕ) × let t = tablesOf (now rows) (now arcs) (now firsts) (now lengths) spans (now regions) in
+        let s = stateIn g (now labels) (now predecessors) (now own) (now keys) c in
+        Processing g d t s (now winners) (r .0) (processLeaf g d (r .0) s) × isLeaf d (r .0) ≡ true) ⌝ }
+    ensures { λ n. ⌜ ((g : Graph) (d : Division) (spans : List ℕ)
+        → let t = tablesOf (now (rows .entry)) (now (arcs .entry)) (now (firsts .entry)) (now (lengths .entry)) spans (now (regions .entry)) in
+        let s = stateIn g (now (labels .entry)) (now (predecessors .entry)) (now (own .entry)) (now (keys .entry)) c in
+        Processing g d t s (now (winners .entry)) (r .0) (processLeaf g d (r .0) s) → isLeaf d (r .0) ≡ true
+        → Computed g d t (processLeaf g d (r .0) s)
+        (stateIn g (now (labels .exit)) (now (predecessors .exit)) (now (own .exit)) (now (keys .exit)) n) (now (winners .exit))) ⌝ }
 {
     let a = slices::arc_of(regions, r);
     let i = a.0 as usize;

@@ -20,13 +20,13 @@ abbrev μ-loop : tie.MeasureT-loop
 cast-none : tie.Need-cast-none Inv-loop μ-loop
 cast-none c =
     let earlier = c .before .before .before .before in
-    let pre = earlier .before .before .pre in
-    omega (arith, pre .2 .updatable .owned, pre .2 .updatable .graph .few-arcs)
+    let pre = earlier .pre in
+    omega (arith, pre .2 .updatable .arc-rows .all, pre .2 .updatable .graph .few-arcs)
 
 first-of-requires : tie.Need-first-of-requires Inv-loop μ-loop
 first-of-requires c κs =
     let earlier = c .before .before .before .before in
-    let pre = earlier .before .before .pre in
+    let pre = earlier .before .pre in
     omega (arith, pre .2 .in-range, pre .2 .links .all)
 
 loop-holds : tie.Need-loop-holds Inv-loop μ-loop
@@ -40,39 +40,43 @@ update-arc-requires c κs =
     let if1 = c .before .before .before .if1 in
     let loop = earlier .before .loop in
     let first-of = earlier .before .before .first-of in
-    let pre = prior .before .pre in
-    let args = prior .before .args in (
+    let args = prior .args in
+    let pre = prior .pre in (
       pre .0,
       pre .1,
       spread-asks (loop .inv (pre .0) (pre .1) (args .v .0) _ (spread-start (pre .2) (first-of .ensures)))
-          (omega (arith, if1 .taken, pre .2 .updatable .owned)),
+          (omega (arith, if1 .taken, pre .2 .updatable .arc-rows .all)),
     )
 
 next-of-requires : tie.Need-next-of-requires Inv-loop μ-loop
 next-of-requires c κs =
-    let earlier = c .before .before .before .before .before .before .before .before in
-    let early = earlier .before .before .before .before .before .before .before .before in
-    let if1 = earlier .before .before .if1 in
-    let loop = earlier .before .before .before .before .loop in
-    let first-of = earlier .before .before .before .before .before .first-of in
-    let pre = early .before .before .before .before .pre in
-    let args = early .before .before .before .before .args in
-    spread-row-in (loop .inv (pre .0) (pre .1) (args .v .0) _ (spread-start (pre .2) (first-of .ensures))) (omega (arith, if1 .taken, pre .2 .updatable .owned))
+    let earlier = c .before .before .before .before in
+    let early = earlier .before .before .before .before in
+    let prior = early .before .before .before .before in
+    let first = prior .before .before .before .before in
+    let if1 = early .if1 in
+    let loop = early .before .before .loop in
+    let first-of = early .before .before .before .first-of in
+    let args = first .before .args in
+    let pre = first .before .pre in
+    spread-row-in (loop .inv (pre .0) (pre .1) (args .v .0) _ (spread-start (pre .2) (first-of .ensures))) (omega (arith, if1 .taken, pre .2 .updatable .arc-rows .all))
 
 loop-less : tie.Need-loop-less Inv-loop μ-loop
 loop-less c =
-    let earlier = c .before .before .before .before .before .before .before .before in
-    let early = earlier .before .before .before .before .before .before .before .before in
-    let if1 = earlier .before .before .before .if1 in
-    let loop = earlier .before .before .before .before .before .loop in
-    let first-of = earlier .before .before .before .before .before .before .first-of in
-    let pre = early .before .before .before .before .before .pre in
-    let args = early .before .before .before .before .before .args in
-    let here : loop .a .0 < arcs (pre .0) = omega (arith, if1 .taken, pre .2 .updatable .owned) in
+    let earlier = c .before .before .before .before in
+    let early = earlier .before .before .before .before in
+    let prior = early .before .before .before .before in
+    let first = prior .before .before .before .before in
+    let if1 = early .before .if1 in
+    let loop = early .before .before .before .loop in
+    let first-of = prior .first-of in
+    let args = first .before .before .args in
+    let pre = first .before .before .pre in
+    let here : loop .a .0 < arcs (pre .0) = omega (arith, if1 .taken, pre .2 .updatable .arc-rows .all) in
     omega (
       arith,
       if1 .taken,
-      pre .2 .updatable .owned,
+      pre .2 .updatable .arc-rows .all,
       spread-falls (loop .inv (pre .0) (pre .1) (args .v .0) _ (spread-start (pre .2) (first-of .ensures)))
           here (c .next-of .ensures),
     )
@@ -81,42 +85,31 @@ loop-again : tie.Need-loop-again Inv-loop μ-loop
 loop-again c =
     let earlier = c .before .before .before .before in
     let early = earlier .before .before .before .before in
-    let prior = early .before .before .before .before in
-    let update-arc = earlier .before .before .before .update-arc in
-    let if1 = early .before .before .before .if1 in
-    let loop = prior .before .loop in
+    let update-arc = earlier .before .update-arc in
+    let if1 = early .before .if1 in
+    let loop = early .before .before .before .loop in
     λ g d v q S.
     let W = loop .inv g d v q S in
-    let here : loop .a .0 < arcs g = omega (arith, if1 .taken, S .updatable .owned) in
-    spread-step W here (c .next-of .ensures) (update-arc .ensures g d (spread-asks W here)) (update-arc .kept .1 .1 .0)
+    let here : loop .a .0 < arcs g = omega (arith, if1 .taken, S .updatable .arc-rows .all) in
+    spread-step W here (c .next-of .ensures) (update-arc .ensures g d (spread-asks W here))
 
 same-length : tie.Need-same-length Inv-loop μ-loop
 same-length c =
     let earlier = c .before .before .before .before in
     let early = earlier .before .before .before .before in
     let first-of = c .before .before .before .first-of in
-    let pre = early .before .before .pre in
-    let args = early .before .before .args in
-    (c .before .before .loop .inv (pre .0) (pre .1) (args .v .0) _ (spread-start (pre .2) (first-of .ensures))) .updatable .owned ∙ sym
-    (pre .2 .updatable .owned)
+    let args = early .before .args in
+    let pre = early .before .pre in
+    (c .before .before .loop .inv (pre .0) (pre .1) (args .v .0) _ (spread-start (pre .2) (first-of .ensures))) .updatable .queues .keyed ∙ sym
+    (pre .2 .updatable .queues .keyed)
 
 same-length-2 : tie.Need-same-length-2 Inv-loop μ-loop
 same-length-2 c =
     let earlier = c .before .before .before .before in
     let early = earlier .before .before .before .before in
     let first-of = c .before .before .before .first-of in
-    let pre = early .before .before .pre in
-    let args = early .before .before .args in
-    (c .before .before .loop .inv (pre .0) (pre .1) (args .v .0) _ (spread-start (pre .2) (first-of .ensures))) .updatable .queues .keyed ∙ sym
-    (pre .2 .updatable .queues .keyed)
-
-same-length-3 : tie.Need-same-length-3 Inv-loop μ-loop
-same-length-3 c =
-    let earlier = c .before .before .before .before in
-    let early = earlier .before .before .before .before in
-    let first-of = c .before .before .before .first-of in
-    let pre = early .before .before .pre in
-    let args = early .before .before .args in
+    let args = early .before .args in
+    let pre = early .before .pre in
     (c .before .before .loop .inv (pre .0) (pre .1) (args .v .0) _ (spread-start (pre .2) (first-of .ensures))) .updatable .queues .laid .seated .all ∙ sym
     (pre .2 .updatable .queues .laid .seated .all)
 
@@ -125,10 +118,10 @@ returns c =
     let earlier = c .before .before .before .before in
     let early = earlier .before .before .before .before in
     let first-of = c .before .before .before .first-of in
-    let args = early .before .before .args in
+    let args = early .before .args in
     λ g d U.
     let W = c .before .before .loop .inv g d (args .v .0) _ (spread-start U (first-of .ensures)) in
-    spread-end W (omega (arith, c .if1 .left, U .updatable .owned))
+    spread-end W (omega (arith, c .if1 .left, U .updatable .arc-rows .all))
 
 pub update-outgoing-spec : {M : Type 1} → statement M
 update-outgoing-spec =
@@ -145,5 +138,4 @@ update-outgoing-spec =
     loop-again
     same-length
     same-length-2
-    same-length-3
     returns)
