@@ -6,7 +6,7 @@ use native.Mathlib.Omega.{arith}
 use Rattle.procedure.specs.Graph.{Graph, arcs}
 use Rattle.procedure.specs.Division.{Division}
 use Rattle.slices.specs.Tables.{tablesOf, heightEntry}
-use Rattle.slices.specs.States.{stateOf}
+use Rattle.slices.specs.States.{stateIn}
 use Rattle.engine.proofs.Loops.{
   Looping,
   turn,
@@ -90,10 +90,10 @@ process-region-below t =
 
 abbrev process-inner-Inv-loop : process-inner-lts.InvT-loop
 process-inner-Inv-loop rows arcs firsts lengths spans regions labels₀ predecessors₀ own₀ keys₀ winners₀ r left₀ n₀ labels predecessors own keys winners left n =
-    (g : Graph) (d : Division) → Framed g d (tablesOf rows arcs firsts lengths spans regions) (r .0) left₀ (stateOf labels₀ predecessors₀ own₀ keys₀ n₀)
+    (g : Graph) (d : Division) → Framed g d (tablesOf rows arcs firsts lengths spans regions) (r .0) left₀ (stateIn g labels₀ predecessors₀ own₀ keys₀ n₀)
     winners₀
     → Looping g d (tablesOf rows arcs firsts lengths spans regions) (alive g d (r .0)) (turn g d (tablesOf rows arcs firsts lengths spans regions) (r .0)) left₀
-    (stateOf labels₀ predecessors₀ own₀ keys₀ n₀) left (stateOf labels predecessors own keys n) winners
+    (stateIn g labels₀ predecessors₀ own₀ keys₀ n₀) left (stateIn g labels predecessors own keys n) winners
 
 abbrev process-inner-μ-loop : process-inner-lts.MeasureT-loop
 process-inner-μ-loop rows arcs firsts lengths spans regions labels₀ predecessors₀ own₀ keys₀ winners₀ r left₀ n₀ labels predecessors own keys winners left n =
@@ -131,17 +131,15 @@ process-inner-span-of-requires : (t : ℕ) → process-inner-lts.Need-span-of-re
     process-inner.Post process-inner-Inv-loop process-inner-μ-loop
 process-inner-span-of-requires t c κs =
     let earlier = c .before .before .before .before in
-    let early = earlier .before .before .before .before in
-    let pre = early .before .before .before .pre in
-    span-asks (pre .1 .2) (pre .1 .3)
+    let pre = earlier .before .before .pre in
+    span-asks (pre .1 .2 .0) (pre .1 .2 .1)
 
 process-inner-count-inner-requires : (t : ℕ) → process-inner-lts.Need-count-inner-requires (process-inner-heard t) (process-inner-at t)
     process-inner.Post process-inner-Inv-loop process-inner-μ-loop
 process-inner-count-inner-requires t c κs =
     let earlier = c .before .before .before .before in
-    let early = earlier .before .before .before .before in
-    let pre = early .before .before .before .before .pre in
-    inner-count-fits (pre .1 .2) (pre .1 .3)
+    let pre = earlier .before .before .before .pre in
+    inner-count-fits (pre .1 .2 .0) (pre .1 .2 .1)
 
 process-inner-loop-holds : (t : ℕ) → process-inner-lts.Need-loop-holds (process-inner-heard t) (process-inner-at t)
     process-inner.Post process-inner-Inv-loop process-inner-μ-loop
@@ -150,77 +148,44 @@ process-inner-loop-holds t c = λ g d F. framed-first F
 process-inner-min-key-requires : (t : ℕ) → process-inner-lts.Need-min-key-requires (process-inner-heard t) (process-inner-at t)
     process-inner.Post process-inner-Inv-loop process-inner-μ-loop
 process-inner-min-key-requires t c κs =
-    let earlier = c .before .before .before .before .before .before .before .before in
-    let early = earlier .before .before .before .before .before .before .before .before in
+    let earlier = c .before .before .before .before in
+    let early = earlier .before .before .before .before in
+    let prior = early .before .before .before .before in
     let loop = c .before .before .before .loop in
-    let count-inner = c .before .before .before .before .count-inner in
-    let span-of = c .before .before .before .before .before .span-of in
-    let pre = early .before .pre in
+    let count-inner = earlier .count-inner in
+    let span-of = earlier .before .span-of in
+    let pre = prior .pre in
     let G = pre .1 .0 in
     let D = pre .1 .1 in
-    let F = framed (pre .1 .2) (pre .1 .3) (span-of .ensures) (count-inner .ensures) in
+    let F = framed (pre .1 .2 .0) (pre .1 .2 .1) (span-of .ensures) (count-inner .ensures) in
     let L = loop .inv G D F in
     (D, L .represents .queues, F .in-range)
 
 process-inner-same-length : (t : ℕ) → process-inner-lts.Need-same-length (process-inner-heard t) (process-inner-at t)
     process-inner.Post process-inner-Inv-loop process-inner-μ-loop
 process-inner-same-length t c =
-    let earlier = c .before .before .before .before .before .before .before .before in
-    let early = earlier .before .before .before .before .before .before .before .before in
-    let loop = c .before .before .before .before .before .loop in
-    let count-inner = c .before .before .before .before .before .before .count-inner in
-    let span-of = c .before .before .before .before .before .before .before .span-of in
-    let pre = early .before .before .before .pre in
-    loop .inv (pre .1 .0) (pre .1 .1) (framed (pre .1 .2) (pre .1 .3) (span-of .ensures) (count-inner .ensures)) .represents .labelled ∙ sym
-    (pre .1 .2 .represents .labelled)
+    let earlier = c .before .before .before .before in
+    let early = earlier .before .before .before .before in
+    let prior = early .before .before .before .before in
+    let loop = earlier .before .loop in
+    let count-inner = earlier .before .before .count-inner in
+    let span-of = earlier .before .before .before .span-of in
+    let pre = prior .before .before .pre in
+    loop .inv (pre .1 .0) (pre .1 .1) (framed (pre .1 .2 .0) (pre .1 .2 .1) (span-of .ensures) (count-inner .ensures)) .represents .queues .keyed ∙ sym
+    (pre .1 .2 .0 .represents .queues .keyed)
 
 process-inner-same-length-2 : (t : ℕ) → process-inner-lts.Need-same-length-2 (process-inner-heard t) (process-inner-at t)
     process-inner.Post process-inner-Inv-loop process-inner-μ-loop
 process-inner-same-length-2 t c =
-    let earlier = c .before .before .before .before .before .before .before .before in
-    let early = earlier .before .before .before .before .before .before .before .before in
-    let loop = c .before .before .before .before .before .loop in
-    let count-inner = c .before .before .before .before .before .before .count-inner in
-    let span-of = c .before .before .before .before .before .before .before .span-of in
-    let pre = early .before .before .before .pre in
-    loop .inv (pre .1 .0) (pre .1 .1) (framed (pre .1 .2) (pre .1 .3) (span-of .ensures) (count-inner .ensures)) .represents .fed ∙ sym
-    (pre .1 .2 .represents .fed)
-
-process-inner-same-length-3 : (t : ℕ) → process-inner-lts.Need-same-length-3 (process-inner-heard t) (process-inner-at t)
-    process-inner.Post process-inner-Inv-loop process-inner-μ-loop
-process-inner-same-length-3 t c =
-    let earlier = c .before .before .before .before .before .before .before .before in
-    let early = earlier .before .before .before .before .before .before .before .before in
-    let loop = c .before .before .before .before .before .loop in
-    let count-inner = c .before .before .before .before .before .before .count-inner in
-    let span-of = c .before .before .before .before .before .before .before .span-of in
-    let pre = early .before .before .before .pre in
-    loop .inv (pre .1 .0) (pre .1 .1) (framed (pre .1 .2) (pre .1 .3) (span-of .ensures) (count-inner .ensures)) .represents .owned ∙ sym
-    (pre .1 .2 .represents .owned)
-
-process-inner-same-length-4 : (t : ℕ) → process-inner-lts.Need-same-length-4 (process-inner-heard t) (process-inner-at t)
-    process-inner.Post process-inner-Inv-loop process-inner-μ-loop
-process-inner-same-length-4 t c =
-    let earlier = c .before .before .before .before .before .before .before .before in
-    let early = earlier .before .before .before .before .before .before .before .before in
-    let loop = c .before .before .before .before .before .loop in
-    let count-inner = c .before .before .before .before .before .before .count-inner in
-    let span-of = c .before .before .before .before .before .before .before .span-of in
-    let pre = early .before .before .before .pre in
-    loop .inv (pre .1 .0) (pre .1 .1) (framed (pre .1 .2) (pre .1 .3) (span-of .ensures) (count-inner .ensures)) .represents .queues .keyed ∙ sym
-    (pre .1 .2 .represents .queues .keyed)
-
-process-inner-same-length-5 : (t : ℕ) → process-inner-lts.Need-same-length-5 (process-inner-heard t) (process-inner-at t)
-    process-inner.Post process-inner-Inv-loop process-inner-μ-loop
-process-inner-same-length-5 t c =
-    let earlier = c .before .before .before .before .before .before .before .before in
-    let early = earlier .before .before .before .before .before .before .before .before in
-    let loop = c .before .before .before .before .before .loop in
-    let count-inner = c .before .before .before .before .before .before .count-inner in
-    let span-of = c .before .before .before .before .before .before .before .span-of in
-    let pre = early .before .before .before .pre in
-    loop .inv (pre .1 .0) (pre .1 .1) (framed (pre .1 .2) (pre .1 .3) (span-of .ensures) (count-inner .ensures)) .represents .queues .laid .seated .all ∙ sym
-    (pre .1 .2 .represents .queues .laid .seated .all)
+    let earlier = c .before .before .before .before in
+    let early = earlier .before .before .before .before in
+    let prior = early .before .before .before .before in
+    let loop = earlier .before .loop in
+    let count-inner = earlier .before .before .count-inner in
+    let span-of = earlier .before .before .before .span-of in
+    let pre = prior .before .before .pre in
+    loop .inv (pre .1 .0) (pre .1 .1) (framed (pre .1 .2 .0) (pre .1 .2 .1) (span-of .ensures) (count-inner .ensures)) .represents .queues .laid .seated .all ∙ sym
+    (pre .1 .2 .0 .represents .queues .laid .seated .all)
 
 process-inner-returns : (t : ℕ) → process-inner-lts.Need-returns (process-inner-heard t) (process-inner-at t)
     process-inner.Post process-inner-Inv-loop process-inner-μ-loop
@@ -239,15 +204,16 @@ process-inner-returns t c =
 process-inner-min-item-requires : (t : ℕ) → process-inner-lts.Need-min-item-requires (process-inner-heard t) (process-inner-at t)
     process-inner.Post process-inner-Inv-loop process-inner-μ-loop
 process-inner-min-item-requires t c κs =
-    let earlier = c .before .before .before .before .before .before .before .before in
-    let early = earlier .before .before .before .before .before .before .before .before in
-    let loop = c .before .before .before .before .before .before .loop in
-    let count-inner = c .before .before .before .before .before .before .before .count-inner in
-    let span-of = earlier .span-of in
-    let pre = early .before .before .before .before .pre in
+    let earlier = c .before .before .before .before in
+    let early = earlier .before .before .before .before in
+    let prior = early .before .before .before .before in
+    let loop = earlier .before .before .loop in
+    let count-inner = earlier .before .before .before .count-inner in
+    let span-of = early .span-of in
+    let pre = prior .before .before .before .pre in
     let G = pre .1 .0 in
     let D = pre .1 .1 in
-    let F = framed (pre .1 .2) (pre .1 .3) (span-of .ensures) (count-inner .ensures) in
+    let F = framed (pre .1 .2 .0) (pre .1 .2 .1) (span-of .ensures) (count-inner .ensures) in
     let L = loop .inv G D F in
     (D, _, L .represents .queues, F .in-range)
 
@@ -255,20 +221,22 @@ process-inner-process-region-requires : (t : ℕ) → process-inner-lts.Need-pro
     process-inner.Post process-inner-Inv-loop process-inner-μ-loop
 unfolding top
 process-inner-process-region-requires t c κs =
-    let earlier = c .before .before .before .before .before .before .before .before in
-    let early = earlier .before .before .before .before .before .before .before .before in
-    let prior = early .before .before .before .before .before .before .before .before in
-    let min-item = c .before .before .before .before .before .min-item in
-    let if1 = c .before .before .before .before .before .before .before .if1 in
-    let min-key = earlier .min-key in
-    let loop-test = earlier .before .before .before .loop-test in
-    let loop = earlier .before .before .before .before .loop in
-    let count-inner = earlier .before .before .before .before .before .count-inner in
-    let span-of = earlier .before .before .before .before .before .before .span-of in
-    let pre = prior .before .before .pre in
+    let earlier = c .before .before .before .before in
+    let early = earlier .before .before .before .before in
+    let prior = early .before .before .before .before in
+    let first = prior .before .before .before .before in
+    let opening = first .before .before .before .before in
+    let min-item = earlier .before .min-item in
+    let if1 = earlier .before .before .before .if1 in
+    let min-key = early .min-key in
+    let loop-test = early .before .before .before .loop-test in
+    let loop = prior .loop in
+    let count-inner = prior .before .count-inner in
+    let span-of = prior .before .before .span-of in
+    let pre = opening .before .pre in
     let G = pre .1 .0 in
     let D = pre .1 .1 in
-    let F = framed (pre .1 .2) (pre .1 .3) (span-of .ensures) (count-inner .ensures) in
+    let F = framed (pre .1 .2 .0) (pre .1 .2 .1) (span-of .ensures) (count-inner .ensures) in
     let L = loop .inv G D F in
     let key = min-key .ensures D (L .represents .queues) (F .inner) _ _ in
     let item = min-item .ensures D _ (L .represents .queues) in (
@@ -283,19 +251,18 @@ process-inner-key-of-requires t c κs =
     let earlier = c .before .before .before .before .before .before .before .before in
     let early = earlier .before .before .before .before .before .before .before .before in
     let prior = early .before .before .before .before .before .before .before .before in
-    let first = prior .before .before .before .before .before .before .before .before in
-    let process-region = earlier .before .before .before .before .before .process-region in
-    let min-item = early .before .before .before .min-item in
-    let if1 = early .before .before .before .before .before .if1 in
-    let min-key = early .before .before .before .before .before .before .min-key in
-    let loop-test = prior .before .loop-test in
-    let loop = prior .before .before .loop in
-    let count-inner = prior .before .before .before .count-inner in
-    let span-of = prior .before .before .before .before .span-of in
-    let pre = first .before .before .before .before .before .before .before .before .pre in
+    let process-region = c .before .before .before .before .before .before .before .process-region in
+    let min-item = earlier .before .before .before .before .before .min-item in
+    let if1 = earlier .before .before .before .before .before .before .before .if1 in
+    let min-key = early .min-key in
+    let loop-test = early .before .before .before .loop-test in
+    let loop = early .before .before .before .before .loop in
+    let count-inner = early .before .before .before .before .before .count-inner in
+    let span-of = early .before .before .before .before .before .before .span-of in
+    let pre = prior .before .before .before .before .before .pre in
     let G = pre .1 .0 in
     let D = pre .1 .1 in
-    let F = framed (pre .1 .2) (pre .1 .3) (span-of .ensures) (count-inner .ensures) in
+    let F = framed (pre .1 .2 .0) (pre .1 .2 .1) (span-of .ensures) (count-inner .ensures) in
     let L = loop .inv G D F in
     let key = min-key .ensures D (L .represents .queues) (F .inner) _ _ in
     let item = min-item .ensures D _ (L .represents .queues) in
@@ -311,19 +278,18 @@ process-inner-write-requires t c κs =
     let early = earlier .before .before .before .before .before .before .before .before in
     let prior = early .before .before .before .before .before .before .before .before in
     let first = prior .before .before .before .before .before .before .before .before in
-    let initial = first .before .before .before .before .before .before .before .before in
-    let process-region = early .process-region in
-    let min-item = early .before .before .before .before .before .before .min-item in
-    let if1 = prior .if1 in
-    let min-key = prior .before .min-key in
-    let loop-test = prior .before .before .before .before .loop-test in
-    let loop = prior .before .before .before .before .before .loop in
-    let count-inner = prior .before .before .before .before .before .before .count-inner in
-    let span-of = prior .before .before .before .before .before .before .before .span-of in
-    let pre = initial .before .before .before .pre in
+    let process-region = earlier .before .before .process-region in
+    let min-item = early .min-item in
+    let if1 = early .before .before .if1 in
+    let min-key = early .before .before .before .min-key in
+    let loop-test = early .before .before .before .before .before .before .loop-test in
+    let loop = early .before .before .before .before .before .before .before .loop in
+    let count-inner = prior .count-inner in
+    let span-of = prior .before .span-of in
+    let pre = first .pre in
     let G = pre .1 .0 in
     let D = pre .1 .1 in
-    let F = framed (pre .1 .2) (pre .1 .3) (span-of .ensures) (count-inner .ensures) in
+    let F = framed (pre .1 .2 .0) (pre .1 .2 .1) (span-of .ensures) (count-inner .ensures) in
     let L = loop .inv G D F in
     let key = min-key .ensures D (L .represents .queues) (F .inner) _ _ in
     let item = min-item .ensures D _ (L .represents .queues) in
@@ -337,8 +303,7 @@ process-inner-sub-left t c =
     let earlier = c .before .before .before .before .before .before .before .before in
     let early = earlier .before .before .before .before .before .before .before .before in
     let prior = early .before .before .before .before .before .before .before .before in
-    let first = prior .before .before .before .before .before .before .before .before in
-    let loop-test = first .before .loop-test in
+    let loop-test = prior .before .before .before .loop-test in
     omega (arith, loop-test .taken)
 
 process-inner-loop-less : (t : ℕ) → process-inner-lts.Need-loop-less (process-inner-heard t) (process-inner-at t)
@@ -347,8 +312,7 @@ process-inner-loop-less t c =
     let earlier = c .before .before .before .before .before .before .before .before in
     let early = earlier .before .before .before .before .before .before .before .before in
     let prior = early .before .before .before .before .before .before .before .before in
-    let first = prior .before .before .before .before .before .before .before .before in
-    let loop-test = first .before .loop-test in
+    let loop-test = prior .before .before .before .loop-test in
     omega (arith, loop-test .taken)
 
 process-inner-loop-again : (t : ℕ) → process-inner-lts.Need-loop-again (process-inner-heard t) (process-inner-at t)
@@ -358,15 +322,14 @@ process-inner-loop-again t c =
     let earlier = c .before .before .before .before .before .before .before .before in
     let early = earlier .before .before .before .before .before .before .before .before in
     let prior = early .before .before .before .before .before .before .before .before in
-    let first = prior .before .before .before .before .before .before .before .before in
     let write = c .before .before .before .before .write in
     let key-of = c .before .before .before .before .before .before .before .key-of in
-    let process-region = early .before .before .before .before .before .process-region in
-    let min-item = prior .before .before .before .min-item in
-    let if1 = prior .before .before .before .before .before .if1 in
-    let min-key = prior .before .before .before .before .before .before .min-key in
-    let loop-test = first .before .loop-test in
-    let loop = first .before .before .loop in
+    let process-region = earlier .before .before .before .before .before .before .before .process-region in
+    let min-item = early .before .before .before .before .before .min-item in
+    let if1 = early .before .before .before .before .before .before .before .if1 in
+    let min-key = prior .min-key in
+    let loop-test = prior .before .before .before .loop-test in
+    let loop = prior .before .before .before .before .loop in
     λ g d F.
     let L = loop .inv g d F in
     let key = min-key .ensures d (L .represents .queues) (F .inner) _ _ in
@@ -375,205 +338,113 @@ process-inner-loop-again t c =
     let new = key-of .ensures (arcs g) d _ (key-asks F L key (loop-test .taken) (if1 .left) item W) in
     turned F L key (loop-test .taken) (if1 .left) item W new (write .ensures)
 
-process-inner-same-length-6 : (t : ℕ) → process-inner-lts.Need-same-length-6 (process-inner-heard t) (process-inner-at t)
+process-inner-same-length-3 : (t : ℕ) → process-inner-lts.Need-same-length-3 (process-inner-heard t) (process-inner-at t)
     process-inner.Post process-inner-Inv-loop process-inner-μ-loop
-process-inner-same-length-6 t c =
+process-inner-same-length-3 t c =
     let earlier = c .before .before .before .before in
     let early = earlier .before .before .before .before in
-    let prior = early .before .before .before .before in
     let span-of = c .before .before .before .span-of in
-    let pre = prior .before .before .before .pre in
-    c .before .loop .inv (pre .1 .0) (pre .1 .1) (framed (pre .1 .2) (pre .1 .3) (span-of .ensures)
-    (c .before .before .count-inner .ensures)) .represents .labelled ∙ sym (pre .1 .2 .represents .labelled)
+    let pre = early .before .before .pre in
+    c .before .loop .inv (pre .1 .0) (pre .1 .1) (framed (pre .1 .2 .0) (pre .1 .2 .1) (span-of .ensures)
+    (c .before .before .count-inner .ensures)) .represents .queues .keyed ∙ sym (pre .1 .2 .0 .represents .queues .keyed)
 
-process-inner-same-length-7 : (t : ℕ) → process-inner-lts.Need-same-length-7 (process-inner-heard t) (process-inner-at t)
+process-inner-same-length-4 : (t : ℕ) → process-inner-lts.Need-same-length-4 (process-inner-heard t) (process-inner-at t)
     process-inner.Post process-inner-Inv-loop process-inner-μ-loop
-process-inner-same-length-7 t c =
+process-inner-same-length-4 t c =
     let earlier = c .before .before .before .before in
     let early = earlier .before .before .before .before in
-    let prior = early .before .before .before .before in
     let span-of = c .before .before .before .span-of in
-    let pre = prior .before .before .before .pre in
-    c .before .loop .inv (pre .1 .0) (pre .1 .1) (framed (pre .1 .2) (pre .1 .3) (span-of .ensures)
-    (c .before .before .count-inner .ensures)) .represents .fed ∙ sym (pre .1 .2 .represents .fed)
-
-process-inner-same-length-8 : (t : ℕ) → process-inner-lts.Need-same-length-8 (process-inner-heard t) (process-inner-at t)
-    process-inner.Post process-inner-Inv-loop process-inner-μ-loop
-process-inner-same-length-8 t c =
-    let earlier = c .before .before .before .before in
-    let early = earlier .before .before .before .before in
-    let prior = early .before .before .before .before in
-    let span-of = c .before .before .before .span-of in
-    let pre = prior .before .before .before .pre in
-    c .before .loop .inv (pre .1 .0) (pre .1 .1) (framed (pre .1 .2) (pre .1 .3) (span-of .ensures)
-    (c .before .before .count-inner .ensures)) .represents .owned ∙ sym (pre .1 .2 .represents .owned)
-
-process-inner-same-length-9 : (t : ℕ) → process-inner-lts.Need-same-length-9 (process-inner-heard t) (process-inner-at t)
-    process-inner.Post process-inner-Inv-loop process-inner-μ-loop
-process-inner-same-length-9 t c =
-    let earlier = c .before .before .before .before in
-    let early = earlier .before .before .before .before in
-    let prior = early .before .before .before .before in
-    let span-of = c .before .before .before .span-of in
-    let pre = prior .before .before .before .pre in
-    c .before .loop .inv (pre .1 .0) (pre .1 .1) (framed (pre .1 .2) (pre .1 .3) (span-of .ensures)
-    (c .before .before .count-inner .ensures)) .represents .queues .keyed ∙ sym (pre .1 .2 .represents .queues .keyed)
-
-process-inner-same-length-10 : (t : ℕ) → process-inner-lts.Need-same-length-10 (process-inner-heard t) (process-inner-at t)
-    process-inner.Post process-inner-Inv-loop process-inner-μ-loop
-process-inner-same-length-10 t c =
-    let earlier = c .before .before .before .before in
-    let early = earlier .before .before .before .before in
-    let prior = early .before .before .before .before in
-    let span-of = c .before .before .before .span-of in
-    let pre = prior .before .before .before .pre in
-    c .before .loop .inv (pre .1 .0) (pre .1 .1) (framed (pre .1 .2) (pre .1 .3) (span-of .ensures)
-    (c .before .before .count-inner .ensures)) .represents .queues .laid .seated .all ∙ sym (pre .1 .2 .represents .queues .laid .seated .all)
+    let pre = early .before .before .pre in
+    c .before .loop .inv (pre .1 .0) (pre .1 .1) (framed (pre .1 .2 .0) (pre .1 .2 .1) (span-of .ensures)
+    (c .before .before .count-inner .ensures)) .represents .queues .laid .seated .all ∙ sym (pre .1 .2 .0 .represents .queues .laid .seated .all)
 
 process-inner-returns-2 : (t : ℕ) → process-inner-lts.Need-returns-2 (process-inner-heard t) (process-inner-at t)
     process-inner.Post process-inner-Inv-loop process-inner-μ-loop
 process-inner-returns-2 t c =
+    let count-inner = c .before .before .count-inner in
     let span-of = c .before .before .before .span-of in
     λ g d P inner.
-    turns-worked P inner (span-of .ensures) (c .before .before .count-inner .ensures)
-    (loop-spent (c .before .loop .inv g d (framed P inner (span-of .ensures) (c .before .before .count-inner .ensures))) (c .loop-test .left))
+    turns-worked P inner (span-of .ensures) (count-inner .ensures)
+    (loop-spent (c .before .loop .inv g d (framed P inner (span-of .ensures) (count-inner .ensures))) (c .loop-test .left))
 
 process-region-arc-of-requires : (t : ℕ) → process-region-lts.Need-arc-of-requires (process-region-heard t) (process-region-at t) process-region.Post
 process-region-arc-of-requires t c κs =
     let earlier = c .before .before .before .before in
-    let early = earlier .before .before .before .before in
-    let pre = early .before .before .before .pre in
+    let pre = earlier .before .before .pre in
     omega (arith, pre .1 .2 .in-range, pre .1 .2 .represents .tabled .region-rows .all)
 
 process-region-process-inner-requires : (t : ℕ) → process-region-lts.Need-process-inner-requires (process-region-heard t) (process-region-at t)
     process-region.Post
 process-region-process-inner-requires t c κs =
-    let earlier = c .before .before .before .before .before .before .before .before in
-    let early = earlier .before .before .before .before .before .before .before .before in
-    let if1 = c .before .before .before .before .before .if1 in
-    let arc-of = c .before .before .before .before .before .before .before .arc-of in
-    let pre = early .before .before .before .pre in
-    (omega (arith, pre .0), (pre .1 .0, pre .1 .1, pre .1 .2, region-inner (pre .1 .2) (arc-of .ensures) (if1 .taken)))
+    let earlier = c .before .before .before .before in
+    let early = earlier .before .before .before .before in
+    let prior = early .before .before .before .before in
+    let if1 = earlier .before .if1 in
+    let arc-of = earlier .before .before .before .arc-of in
+    let pre = prior .before .before .pre in
+    (omega (arith, pre .0), (pre .1 .0, pre .1 .1, (pre .1 .2, region-inner (pre .1 .2) (arc-of .ensures) (if1 .taken))))
 
 process-region-same-length : (t : ℕ) → process-region-lts.Need-same-length (process-region-heard t) (process-region-at t) process-region.Post
 process-region-same-length t c =
     let earlier = c .before .before .before .before in
-    let early = earlier .before .before .before .before in
-    let process-inner = early .before .before .process-inner in
-    process-inner .kept .1 .1 .1 .1 .1 .1 .0
+    let process-inner = earlier .process-inner in
+    process-inner .kept .1 .1 .1 .1 .1 .1 .1 .1 .1 .0
 
 process-region-same-length-2 : (t : ℕ) → process-region-lts.Need-same-length-2 (process-region-heard t) (process-region-at t) process-region.Post
 process-region-same-length-2 t c =
     let earlier = c .before .before .before .before in
-    let early = earlier .before .before .before .before in
-    let process-inner = early .before .before .process-inner in
-    process-inner .kept .1 .1 .1 .1 .1 .1 .1 .0
-
-process-region-same-length-3 : (t : ℕ) → process-region-lts.Need-same-length-3 (process-region-heard t) (process-region-at t) process-region.Post
-process-region-same-length-3 t c =
-    let earlier = c .before .before .before .before in
-    let early = earlier .before .before .before .before in
-    let process-inner = early .before .before .process-inner in
-    process-inner .kept .1 .1 .1 .1 .1 .1 .1 .1 .0
-
-process-region-same-length-4 : (t : ℕ) → process-region-lts.Need-same-length-4 (process-region-heard t) (process-region-at t) process-region.Post
-process-region-same-length-4 t c =
-    let earlier = c .before .before .before .before in
-    let early = earlier .before .before .before .before in
-    let process-inner = early .before .before .process-inner in
-    process-inner .kept .1 .1 .1 .1 .1 .1 .1 .1 .1 .0
-
-process-region-same-length-5 : (t : ℕ) → process-region-lts.Need-same-length-5 (process-region-heard t) (process-region-at t) process-region.Post
-process-region-same-length-5 t c =
-    let earlier = c .before .before .before .before in
-    let early = earlier .before .before .before .before in
-    let process-inner = early .before .before .process-inner in
+    let process-inner = earlier .process-inner in
     process-inner .kept .1 .1 .1 .1 .1 .1 .1 .1 .1 .1 .0
 
 process-region-returns : (t : ℕ) → process-region-lts.Need-returns (process-region-heard t) (process-region-at t) process-region.Post
 process-region-returns t c =
-    let earlier = c .before .before .before .before .before .before .before .before in
-    let early = earlier .before .before .before .before .before .before .before .before in
-    let process-inner = earlier .before .before .process-inner in
-    let if1 = early .if1 in
-    let arc-of = early .before .before .arc-of in
+    let earlier = c .before .before .before .before in
+    let early = earlier .before .before .before .before in
+    let prior = early .before .before .before .before in
+    let process-inner = earlier .process-inner in
+    let if1 = early .before .before .if1 in
+    let arc-of = prior .arc-of in
     λ g d P. process-inner .ensures g d P (region-inner P (arc-of .ensures) (if1 .taken))
 
 process-region-process-leaf-requires : (t : ℕ) → process-region-lts.Need-process-leaf-requires (process-region-heard t) (process-region-at t)
     process-region.Post
 process-region-process-leaf-requires t c κs =
-    let earlier = c .before .before .before .before .before .before .before .before in
-    let early = earlier .before .before .before .before .before .before .before .before in
-    let if1 = c .before .before .before .before .before .if1 in
-    let arc-of = c .before .before .before .before .before .before .before .arc-of in
-    let pre = early .before .before .before .pre in
+    let earlier = c .before .before .before .before in
+    let early = earlier .before .before .before .before in
+    let prior = early .before .before .before .before in
+    let if1 = earlier .before .if1 in
+    let arc-of = earlier .before .before .before .arc-of in
+    let pre = prior .before .before .pre in
     let P = pre .1 .2 in
-    (pre .1 .0, pre .1 .1, _, leaf-asks P (arc-of .ensures) (if1 .left), region-leaf P (arc-of .ensures) (if1 .left))
+    (pre .1 .0, pre .1 .1, _, (leaf-asks P (arc-of .ensures) (if1 .left), region-leaf P (arc-of .ensures) (if1 .left)))
 
-process-region-same-length-6 : (t : ℕ) → process-region-lts.Need-same-length-6 (process-region-heard t) (process-region-at t) process-region.Post
-process-region-same-length-6 t c =
+process-region-same-length-3 : (t : ℕ) → process-region-lts.Need-same-length-3 (process-region-heard t) (process-region-at t) process-region.Post
+process-region-same-length-3 t c =
     let earlier = c .before .before .before .before in
-    let early = earlier .before .before .before .before in
-    let process-leaf = early .before .before .process-leaf in
-    process-leaf .kept .1 .1 .1 .1 .1 .0
-
-process-region-same-length-7 : (t : ℕ) → process-region-lts.Need-same-length-7 (process-region-heard t) (process-region-at t) process-region.Post
-process-region-same-length-7 t c =
-    let earlier = c .before .before .before .before in
-    let early = earlier .before .before .before .before in
-    let process-leaf = early .before .before .process-leaf in
-    process-leaf .kept .1 .1 .1 .1 .1 .1 .0
-
-process-region-same-length-8 : (t : ℕ) → process-region-lts.Need-same-length-8 (process-region-heard t) (process-region-at t) process-region.Post
-process-region-same-length-8 t c =
-    let earlier = c .before .before .before .before in
-    let early = earlier .before .before .before .before in
-    let process-leaf = early .before .before .process-leaf in
-    process-leaf .kept .1 .1 .1 .1 .1 .1 .1 .0
-
-process-region-same-length-9 : (t : ℕ) → process-region-lts.Need-same-length-9 (process-region-heard t) (process-region-at t) process-region.Post
-process-region-same-length-9 t c =
-    let earlier = c .before .before .before .before in
-    let early = earlier .before .before .before .before in
-    let process-leaf = early .before .before .process-leaf in
+    let process-leaf = earlier .process-leaf in
     process-leaf .kept .1 .1 .1 .1 .1 .1 .1 .1 .0
 
-process-region-same-length-10 : (t : ℕ) → process-region-lts.Need-same-length-10 (process-region-heard t) (process-region-at t) process-region.Post
-process-region-same-length-10 t c =
+process-region-same-length-4 : (t : ℕ) → process-region-lts.Need-same-length-4 (process-region-heard t) (process-region-at t) process-region.Post
+process-region-same-length-4 t c =
     let earlier = c .before .before .before .before in
-    let early = earlier .before .before .before .before in
-    let process-leaf = early .before .before .process-leaf in
+    let process-leaf = earlier .process-leaf in
     process-leaf .kept .1 .1 .1 .1 .1 .1 .1 .1 .1 .0
 
 process-region-returns-2 : (t : ℕ) → process-region-lts.Need-returns-2 (process-region-heard t) (process-region-at t) process-region.Post
 process-region-returns-2 t c =
-    let earlier = c .before .before .before .before .before .before .before .before in
-    let early = earlier .before .before .before .before .before .before .before .before in
-    let process-leaf = earlier .before .before .process-leaf in
-    let if1 = early .if1 in
-    let arc-of = early .before .before .arc-of in
+    let earlier = c .before .before .before .before in
+    let early = earlier .before .before .before .before in
+    let prior = early .before .before .before .before in
+    let process-leaf = earlier .process-leaf in
+    let if1 = early .before .before .if1 in
+    let arc-of = prior .arc-of in
     λ g d P.
     leaf-worked P (arc-of .ensures) (if1 .left)
     (process-leaf .ensures g d _ (leaf-asks P (arc-of .ensures) (if1 .left)) (region-leaf P (arc-of .ensures) (if1 .left)))
 
 pub +process-inner+process-region-spec : {M : Type 1} → statement M
 +process-inner+process-region-spec =
-    close μ-process-inner μ-process-region (λ t. process-inner-lts.spec (
-      span-of-reads.Asked,
-      span-of-reads.Learnt,
-      count-inner-reads.Asked,
-      count-inner-reads.Learnt,
-      min-key-reads.Asked,
-      min-key-reads.Learnt,
-      min-item-reads.Asked,
-      min-item-reads.Learnt,
-      process-region-below t,
-      process-region.Post,
-      key-of-reads.Asked,
-      key-of-reads.Learnt,
-      write-reads.Asked,
-      write-reads.Learnt,
-    )
+    close μ-process-inner μ-process-region (λ t. process-inner-lts.spec (process-inner-heard t)
     (process-inner-at t)
     process-inner.Post
     process-inner-Inv-loop
@@ -584,9 +455,6 @@ pub +process-inner+process-region-spec : {M : Type 1} → statement M
     (process-inner-min-key-requires t)
     (process-inner-same-length t)
     (process-inner-same-length-2 t)
-    (process-inner-same-length-3 t)
-    (process-inner-same-length-4 t)
-    (process-inner-same-length-5 t)
     (process-inner-returns t)
     (process-inner-min-item-requires t)
     (process-inner-process-region-requires t)
@@ -595,34 +463,18 @@ pub +process-inner+process-region-spec : {M : Type 1} → statement M
     (process-inner-sub-left t)
     (process-inner-loop-less t)
     (process-inner-loop-again t)
-    (process-inner-same-length-6 t)
-    (process-inner-same-length-7 t)
-    (process-inner-same-length-8 t)
-    (process-inner-same-length-9 t)
-    (process-inner-same-length-10 t)
+    (process-inner-same-length-3 t)
+    (process-inner-same-length-4 t)
     (process-inner-returns-2 t))
-    λ t. process-region-lts.spec (
-      arc-of-reads.Asked,
-      arc-of-reads.Learnt,
-      process-inner-below t,
-      process-inner.Post,
-      process-leaf-reads.Asked,
-      process-leaf-reads.Learnt,
-    )
+    λ t. process-region-lts.spec (process-region-heard t)
     (process-region-at t)
     process-region.Post
     (process-region-arc-of-requires t)
     (process-region-process-inner-requires t)
     (process-region-same-length t)
     (process-region-same-length-2 t)
-    (process-region-same-length-3 t)
-    (process-region-same-length-4 t)
-    (process-region-same-length-5 t)
     (process-region-returns t)
     (process-region-process-leaf-requires t)
-    (process-region-same-length-6 t)
-    (process-region-same-length-7 t)
-    (process-region-same-length-8 t)
-    (process-region-same-length-9 t)
-    (process-region-same-length-10 t)
+    (process-region-same-length-3 t)
+    (process-region-same-length-4 t)
     (process-region-returns-2 t)
