@@ -1,24 +1,20 @@
--- The comparison of two items by one number each, key * 65536 + region: it is the order among items. Assumes nothing.
-use Prim.Native.Nat.{ℕ, _+_, _*_, _≤_, _<_}
-use mathlib.Core.Bool.{true, false}
+-- The comparison of two items by their entries, key * 65536 + region: it is the order among items. Assumes nothing.
+use Prim.Native.Nat.{ℕ, _≤_, _<_}
+use mathlib.Core.Bool.{false}
 use mathlib.Core.Path.{_≡_, _∙_}
 use mathlib.Core.Logic.{_≢_, ⊎-elim}
 use mathlib.Core.List.{List}
 use native.Mathlib.Omega.{arith}
-use borrow.Author.Tests.{lt-ltb, le-ltb}
+use borrow.Author.Tests.{le-ltb}
 use Rattle.indices.specs.Columns.{at}
 use Rattle.indices.proofs.Steps.{eq-or-ne}
 use Rattle.procedure.specs.Division.{Division}
 use Rattle.procedure.specs.Queues.{before}
-use Rattle.theory.proofs.Order.{before-lower, before-tie, before-higher}
+use Rattle.theory.proofs.Order.{before-tie, before-higher}
+use Rattle.queue.specs.Trees.{entry}
 
-module _ (d : Division) (keys : List ℕ) (a b : ℕ) (la : a < 65536) (lb : b < 65536) where
-  pub rank-before : at keys a * 65536 + a < at keys b * 65536 + b → before d keys a b ≡ true
-  rank-before l =
-      ⊎-elim (λ (e : at keys a ≡ at keys b). before-tie d keys a b e ∙ lt-ltb a b (omega arith))
-      (λ (n : at keys a ≢ at keys b). before-lower d keys a b (omega arith)) (eq-or-ne (at keys a) (at keys b))
-
-  pub rank-behind : at keys b * 65536 + b ≤ at keys a * 65536 + a → before d keys a b ≡ false
-  rank-behind l =
-      ⊎-elim (λ (e : at keys a ≡ at keys b). before-tie d keys a b e ∙ le-ltb a b (omega arith))
-      (λ (n : at keys a ≢ at keys b). before-higher d keys a b (omega arith)) (eq-or-ne (at keys a) (at keys b))
+-- an item whose entry is no lower is not chosen before
+pub entry-behind : (d : Division) (keys : List ℕ) (a b : ℕ) → a < 65536 → b < 65536 → entry keys b ≤ entry keys a → before d keys a b ≡ false
+entry-behind d keys a b la lb l =
+    ⊎-elim (λ (e : at keys a ≡ at keys b). before-tie d keys a b e ∙ le-ltb a b (omega arith))
+    (λ (n : at keys a ≢ at keys b). before-higher d keys a b (omega arith)) (eq-or-ne (at keys a) (at keys b))

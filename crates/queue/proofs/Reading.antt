@@ -1,18 +1,17 @@
 -- What the code reads out of valid queues: the first-chosen child and the smallest key. Assumes nothing.
-use Prim.Native.Nat.{ℕ, _+_, _<_}
-use mathlib.Core.Bool.{false}
-use mathlib.Core.Path.{_≡_, sym, ap, _∙_}
+use Prim.Native.Nat.{ℕ, _+_, _/_, _%_, _<_}
+use mathlib.Core.Path.{_≡_, sym, _∙_}
 use mathlib.Core.Logic.{_≢_}
 use mathlib.Core.List.{List}
 use native.Mathlib.Omega.{arith}
 use lib.ListN.{length}
 use Rattle.indices.specs.Columns.{at}
 use Rattle.sheet.specs.Words.{top}
-use Rattle.procedure.specs.Division.{Division, regions, isLeaf}
-use Rattle.procedure.specs.Queues.{minItem, minKey}
-use Rattle.theory.proofs.Chosen.{minItem-first, minKey-item, minKey-none}
+use Rattle.procedure.specs.Division.{Division, regions}
+use Rattle.procedure.specs.Queues.{minItem}
+use Rattle.theory.proofs.Chosen.{Child, minKey-item, minKey-none}
 use Rattle.rows.specs.Rows.{field, rowCount}
-use Rattle.queue.specs.Trees.{childCount, Counted, QueuesOk}
+use Rattle.queue.specs.Trees.{entry, childCount, IsMinKey, Counted, QueuesOk}
 use Rattle.queue.proofs.Seats.{tree-room}
 use Rattle.queue.proofs.Trees.{minItem-place, minItem-childless}
 
@@ -22,8 +21,11 @@ row-in r C l = omega (arith, C .all)
 
 module _ {d : Division} {rows keys winners : List ℕ} (Q : QueuesOk d rows keys winners) (r : ℕ) (inside : r < regions d) where
   -- its row says that r has no child
-  pub first-none : field rows r 1 ≡ 0 → minItem d keys r ≡ 0
-  first-none e = minItem-childless Q r (sym (Q .laid .planned .counted .counts r inside) ∙ e)
+  pub item-none : field rows r 1 ≡ 0 → minItem d keys r ≡ 0
+  item-none e = minItem-childless Q r (sym (Q .laid .planned .counted .counts r inside) ∙ e)
+
+  pub key-none : field rows r 1 ≡ 0 → IsMinKey d keys r top
+  key-none e = λ inner own updates. sym (minKey-none d (record { own = own; keys = keys; updates = updates }) r inner (item-none e))
 
   module _ (some : field rows r 1 ≢ 0) where
     count-some : 0 < childCount d r
@@ -31,19 +33,22 @@ module _ {d : Division} {rows keys winners : List ℕ} (Q : QueuesOk d rows keys
 
     -- it stands at the first place of r's tree
     pub first-in : field rows r 2 + 1 < length winners
-    first-in = omega (arith, Q .laid .planned .starts r inside, count-some, tree-room d r, Q .laid .seated .all)
+    first-in = omega (arith, Q .laid .planned .starts r inside, count-some, tree-room d r, Q .laid .room)
 
-    pub first-some : minItem d keys r ≡ at winners (field rows r 2 + 1)
-    first-some = rw (Q .laid .planned .starts r inside) (minItem-place Q r count-some)
+    child : Child d r (minItem d keys r)
+    child = minItem-place Q r count-some .0
 
--- c is the first-chosen child of r
-module _ (d : Division) (own keys : List ℕ) (updates r c : ℕ) (first : c ≡ minItem d keys r) where
-  pub item-in : length keys ≡ regions d → c ≢ 0 → c < length keys
-  item-in e n = omega (arith, minItem-first d keys r .child (omega arith) .0)
+    held : at winners (field rows r 2 + 1) ≡ entry keys (minItem d keys r)
+    held = rw (Q .laid .planned .starts r inside) (minItem-place Q r count-some .1)
 
-  pub key-none : isLeaf d r ≡ false → c ≡ 0 → minKey d (record { own = own; keys = keys; updates = updates }) r ≡ top
-  key-none inner e = minKey-none d (record { own = own; keys = keys; updates = updates }) r inner (sym first ∙ e)
+    pub item-some : at winners (field rows r 2 + 1) % 65536 ≡ minItem d keys r
+    item-some = omega (arith, held, child .in-range, Q .laid .planned .counted .numbered .few)
 
-  pub key-some : isLeaf d r ≡ false → c ≢ 0 → minKey d (record { own = own; keys = keys; updates = updates }) r ≡ at keys c
-  key-some inner n =
-      sym (minKey-item d (record { own = own; keys = keys; updates = updates }) r inner (omega arith)) ∙ ap (at keys) (sym first)
+    key-is : at winners (field rows r 2 + 1) / 65536 ≡ at keys (minItem d keys r)
+    key-is = omega (arith, held, child .in-range, Q .laid .planned .counted .numbered .few)
+
+    pub key-fits : at winners (field rows r 2 + 1) / 65536 < 4294967296
+    key-fits = omega (arith, key-is, Q .fit (minItem d keys r))
+
+    pub key-some : IsMinKey d keys r (at winners (field rows r 2 + 1) / 65536)
+    key-some = λ inner own updates. key-is ∙ minKey-item d (record { own = own; keys = keys; updates = updates }) r inner (child .positive)

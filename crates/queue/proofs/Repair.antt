@@ -1,80 +1,163 @@
--- The loops over a tree's places, which are decided one by one: a repair from a place up, a tree built from its last place down. Assumes nothing.
-use Prim.Native.Nat.{ℕ, _+_, _*_, _/_, _-_, _≤_, _<_}
+-- The loops over the trees: a repair from a place up, the children entered one by one, a tree built from its last place down. Assumes nothing.
+use Prim.Native.Nat.{ℕ, min, _+_, _*_, _/_, _-_, _≤_, _<_}
 use mathlib.Core.Path.{_≡_, refl, ap, _∙_}
 use mathlib.Core.Logic.{_≢_, _⊎_, inl, inr, ⊎-elim}
 use mathlib.Core.List.{List}
 use native.Mathlib.Omega.{arith}
-use lib.ListN.{length, set}
+use lib.ListN.{length, set, replicate, length-replicate, getD-replicate, List·getD-eq-default}
 use Rattle.indices.specs.Columns.{at}
 use Rattle.indices.proofs.Steps.{eq-or-ne, lt-or-le}
+use Rattle.sheet.specs.Words.{top}
 use Rattle.procedure.specs.Division.{Division, regions, parent}
-use Rattle.theory.proofs.Chosen.{Child}
-use Rattle.rows.specs.Rows.{field}
-use Rattle.queue.specs.Trees.{childCount, treeStart, Decided, Counted, LaidOut, QueuesOk, ValidBelow}
+use Rattle.theory.proofs.Chosen.{parent-child}
+use Rattle.rows.specs.Rows.{field, rowCount}
+use Rattle.queue.specs.Trees.{entry, Siblings, childCount, treeStart, seat, place, Decided, Planned, LaidOut, QueuesOk, Entered, ValidBelow}
 use Rattle.queue.proofs.Seats.{tree-room, seat-low, seat-high, parent-in}
-use Rattle.queue.proofs.Trees.{here, above-le, above-cases, OpenAbove, ValidBut, valid-all, decided, written}
+use Rattle.queue.proofs.Trees.{place-in, place-same, seat-elim, ValidBut, valid, valid-all, laid-set, decided, written}
+use Rattle.queue.proofs.Reading.{row-in}
 
--- rows are for one number of regions
-pub same-regions : {d d′ : Division} {rows : List ℕ} → Counted d rows → Counted d′ rows → regions d ≡ regions d′
-same-regions A B = omega (arith, A .all, B .all)
+-- c's row and that of its parent `up`
+module _ {d : Division} {rows : List ℕ} (P : Planned d rows) (c up : ℕ) (pos : 0 < c) (inside : c < regions d) (over : up ≡ parent d c) where
+  up-in : up < regions d
+  up-in = omega (arith, over, P .counted .numbered .lower c pos inside)
 
--- what deciding place p of the tree that begins at `start` asks for
-pub record PlaceBounds (keys winners : List ℕ) (start p : ℕ) : Type 0 where
-  pub second : start + (2 * p + 1) < length winners
-  pub named : (i : ℕ) → i < length winners → at winners i < length keys
+  pub up-row : up < rowCount rows
+  up-row = row-in up (P .counted) up-in
 
--- deciding a place of r's tree, whose row says where the tree begins
-module _ {d : Division} {rows keys winners : List ℕ} {Open : ℕ → ℕ → Type 0} (B : ValidBut d rows keys winners Open)
-    (r start p : ℕ) (row : start ≡ field rows r 2) (pos : 0 < p) (hp : p < childCount d r) where
-  begins : start ≡ treeStart d r
-  begins = row ∙ B .laid .planned .starts r (parent-in d (B .laid .planned .counted .numbered .lower) r (omega arith))
+  -- they say where c's place lies
+  module _ (start p : ℕ) (row : start ≡ field rows up 2) (own : p ≡ field rows c 3) where
+    seat-at : start + p ≡ treeStart d (parent d c) + seat d c
+    seat-at = omega (arith, row, own, P .starts up up-in, ap (treeStart d) over, P .seats c pos inside)
 
-  pub place-bounds : PlaceBounds keys winners start p
-  place-bounds = record {
-    second = omega (arith, begins, B .laid .seated .all, tree-room d r);
-    named = λ i l. omega (arith, B .laid .seated .named i l, B .keyed);
-  }
+    pub seat-inside : {winners : List ℕ} → LaidOut d rows winners → start + p < length winners
+    seat-inside {winners} L = rw seat-at (place-in d winners (L .room) (parent d c) (seat d c) 0 (seat-high d (parent-child d c pos inside)))
 
-  pub decided-from : (Open′ : ℕ → ℕ → Type 0) (winners′ : List ℕ) → Decided d keys start p winners winners′
-      → ((r′ q : ℕ) → Open r′ q → Open′ r′ q ⊎ ((r′ ≡ r) × (q ≡ p))) → (0 < p / 2 → Open′ r (p / 2)) → ValidBut d rows keys winners′ Open′
-  decided-from Open′ winners′ e f above = rw (e, begins) (decided B r p pos hp Open′ f above)
+-- where r's tree begins, by its row, if r has a child
+begins : {d : Division} {rows : List ℕ} (r start : ℕ) → Planned d rows → start ≡ field rows r 2 → 0 < childCount d r → start ≡ treeStart d r
+begins {d} r start P row some = row ∙ P .starts r (parent-in d (P .counted .numbered .lower) r some)
 
 -- A REPAIR
 
--- the repair has come to place a of r's tree
-pub record Repairing (d : Division) (r : ℕ) (rows keys winners : List ℕ) (a : ℕ) : Type 0 where
-  pub valid : ValidBut d rows keys winners (OpenAbove r a)
+-- what reading place q of the tree that begins at `start` asks for
+pub record PlaceBounds (winners : List ℕ) (start q : ℕ) : Type 0 where
+  pub inside : start + q < length winners
+  pub fits : start + q < 65536
+
+-- the repair has come to place a of r's tree, which holds `best`: the place above it is open
+pub record Repairing (d : Division) (r : ℕ) (rows keys winners : List ℕ) (a best : ℕ) : Type 0 where
+  pub valid : ValidBut d rows keys winners (λ r′ q. (r′ ≡ r) × (q ≡ a / 2))
   pub low : 0 < a
   pub high : a < 2 * childCount d r
+  pub held : place d winners r a ≡ best
 
--- it begins at the place of c, whose key was written
-pub repair-start : {d : Division} {rows keys winners : List ℕ} (c k up place : ℕ) → QueuesOk d rows keys winners → 0 < c → c < regions d
-    → up ≡ parent d c → place ≡ field rows c 3 → Repairing d up rows (set keys c k) winners place
-repair-start {d} c k up place Q pos inside e f =
-    let h : Child d (parent d c) c = record { in-range = inside; positive = pos; under = refl } in
-    rw (e, f ∙ Q .laid .planned .seats c pos inside) (record {
-      valid = written Q c k pos inside;
+-- it begins at the place of c, where its key was written
+pub repair-start : {d : Division} {rows keys winners : List ℕ} (c k up start p best : ℕ) → QueuesOk d rows keys winners → 0 < c → c < regions d
+    → k < 4294967296 → up ≡ parent d c → start ≡ field rows up 2 → p ≡ field rows c 3 → best ≡ k * 65536 + c
+    → Repairing d up rows (set keys c k) (set winners (start + p) best) p best
+repair-start {d} {rows} {keys} {winners} c k up start p best Q pos inside small over row own is =
+    let h = parent-child d c pos inside in
+    let P = Q .laid .planned in
+    rw (seat-at P c up pos inside over start p row own, is, over, own ∙ P .seats c pos inside) (record {
+      valid = written c k Q pos inside small;
       low = omega (arith, seat-low d h, seat-high d h);
       high = seat-high d h;
+      held = seat-elim d winners (Q .laid .room) c (k * 65536 + c) pos inside (λ y. y ≡ k * 65536 + c) c pos inside (λ _. refl) (λ n. absurd (n refl));
     })
 
-module _ {d : Division} {r : ℕ} {rows keys winners : List ℕ} {a : ℕ} (R : Repairing d r rows keys winners a)
-    (start : ℕ) (row : start ≡ field rows r 2) (big : 1 < a) where
-  pub repair-bounds : PlaceBounds keys winners start (a / 2)
-  repair-bounds = place-bounds (R .valid) r start (a / 2) row (omega arith) (omega (arith, R .high))
+module _ {d : Division} {r : ℕ} {rows keys winners : List ℕ} {a best : ℕ} (R : Repairing d r rows keys winners a best)
+    (start : ℕ) (row : start ≡ field rows r 2) where
+  from : start ≡ treeStart d r
+  from = begins r start (R .valid .entered .laid .planned) row (omega (arith, R .high))
 
-  pub repair-step : (winners′ : List ℕ) → Decided d keys start (a / 2) winners winners′ → Repairing d r rows keys winners′ (a / 2)
-  repair-step winners′ e = record {
-    valid =
-        decided-from (R .valid) r start (a / 2) row (omega arith) (omega (arith, R .high)) (OpenAbove r (a / 2)) winners′ e
-        (λ r′ q o. ⊎-elim (λ s. inr (o .0, s)) (λ u. inl (o .0, u)) (above-cases (o .1))) (λ _. (refl, here));
-    low = omega arith;
-    high = omega (arith, R .high);
+  pub repair-small : a < 65536
+  repair-small = omega (arith, R .high, tree-room d r, R .valid .entered .laid .planned .counted .numbered .few)
+
+  -- the places beside this one and above it
+  pub repair-bounds : (q : ℕ) → q / 2 ≤ a / 2 → PlaceBounds winners start q
+  repair-bounds q l = record {
+    inside = omega (arith, from, R .high, tree-room d r, R .valid .entered .laid .room);
+    fits = omega (arith, from, R .high, tree-room d r, R .valid .entered .laid .planned .counted .numbered .few);
   }
 
+  -- x is the lower of this place and its sibling
+  module _ (s x : ℕ) (big : 1 < a) (beside : Siblings a s) (lowest : x ≡ min best (at winners (start + s))) where
+    above-lowest : x ≡ min (place d winners r (2 * (a / 2))) (place d winners r (2 * (a / 2) + 1))
+    above-lowest =
+        let seen : at winners (start + s) ≡ place d winners r s = rw from in
+        ⊎-elim
+        (λ (e : a ≡ 2 * (a / 2)).
+        let f : s ≡ 2 * (a / 2) + 1 = omega (arith, beside .above, beside .other) in
+        omega (arith, lowest, seen, R .held, ap (place d winners r) e, ap (place d winners r) f))
+        (λ (n : a ≢ 2 * (a / 2)).
+        let e : a ≡ 2 * (a / 2) + 1 = omega arith in
+        let f : s ≡ 2 * (a / 2) = omega (arith, beside .above, beside .other) in
+        omega (arith, lowest, seen, R .held, ap (place d winners r) e, ap (place d winners r) f))
+        (eq-or-ne a (2 * (a / 2)))
+
+    -- the place above holds it already: the queues are valid
+    pub repair-done : at winners (start + a / 2) ≡ x → QueuesOk d rows keys winners
+    repair-done e = valid-all (R .valid) (λ r′ q pos l o. rw (o .0, o .1) ((rw from at e) ∙ above-lowest))
+
+    -- it is stored there
+    pub repair-step : Repairing d r rows keys (set winners (start + a / 2) x) (a / 2) x
+    repair-step = rw from (record {
+      valid =
+          decided (R .valid) r (a / 2) x (omega arith) (omega (arith, R .high)) above-lowest (λ r′ q. (r′ ≡ r) × (q ≡ a / 2 / 2)) (λ r′ q o. inr o)
+          (λ _. (refl, refl));
+      low = omega arith;
+      high = omega (arith, R .high);
+      held = place-same d winners (R .valid .entered .laid .room) r (a / 2) x (omega (arith, R .high));
+    })
+
 -- and ends with valid queues
-pub repair-end : {d : Division} {r : ℕ} {rows keys winners : List ℕ} {a : ℕ} → Repairing d r rows keys winners a → a ≤ 1 → QueuesOk d rows keys winners
-repair-end R l = valid-all (R .valid) (λ r′ q pos m o. let u = above-le (o .1) in omega arith)
+pub repair-end : {d : Division} {r : ℕ} {rows keys winners : List ℕ} {a best : ℕ} → Repairing d r rows keys winners a best → a ≤ 1
+    → QueuesOk d rows keys winners
+repair-end R l = valid-all (R .valid) (λ r′ q pos m o. absurd (omega arith))
+
+-- CHILDREN ENTERED
+
+none-fits : (n c : ℕ) → at (replicate n top) c < 4294967296
+unfolding top
+none-fits n c =
+    ⊎-elim (λ (l : c < n). omega (arith, getD-replicate n c top 0 l))
+    (λ (l : n ≤ c). let e : length (replicate n top) ≤ c = rw (length-replicate n top) l in omega (arith, List·getD-eq-default (replicate n top) 0 e))
+    (lt-or-le c n)
+
+-- the regions below c stand at their places with key none
+pub record Entering (d : Division) (rows winners : List ℕ) (c : ℕ) : Type 0 where
+  pub above : 0 < c
+  pub within : c ≤ regions d
+  pub laid : LaidOut d rows winners
+  pub stands : (b : ℕ) → 0 < b → b < c → place d winners (parent d b) (seat d b) ≡ entry (replicate (regions d) top) b
+
+pub entering-start : {d : Division} {rows winners : List ℕ} → LaidOut d rows winners → Entering d rows winners 1
+entering-start L = record { above = omega arith; within = L .planned .counted .numbered .root; laid = L; stands = λ b pos m. absurd (omega arith) }
+
+module _ {d : Division} {rows winners : List ℕ} {c : ℕ} (E : Entering d rows winners c) (l : c < regions d) (up start p : ℕ) (over : up ≡ parent d c)
+    (row : start ≡ field rows up 2) (own : p ≡ field rows c 3) where
+  lies : start + p ≡ treeStart d (parent d c) + seat d c
+  lies = seat-at (E .laid .planned) c up (E .above) l over start p row own
+
+  pub entering-step : (x : ℕ) → x ≡ 268435455 * 65536 + c → Entering d rows (set winners (start + p) x) (c + 1)
+  unfolding top
+  entering-step x is = rw lies (record {
+    above = omega arith;
+    within = omega arith;
+    laid = laid-set (treeStart d (parent d c) + seat d c) x (E .laid);
+    stands =
+        λ b pos m.
+        seat-elim d winners (E .laid .room) c x (E .above) l (λ y. y ≡ entry (replicate (regions d) top) b) b pos (omega arith)
+        (λ e. rw (getD-replicate (regions d) b top 0 (omega arith)) (omega (arith, is))) (λ n. E .stands b pos (omega arith));
+  })
+
+pub entering-end : {d : Division} {rows winners : List ℕ} {c : ℕ} → Entering d rows winners c → regions d ≤ c
+    → Entered d rows (replicate (regions d) top) winners
+entering-end {d} E l = record {
+  laid = E .laid;
+  keyed = length-replicate (regions d) top;
+  fit = none-fits (regions d);
+  stands = λ b pos m. E .stands b pos (omega arith);
+}
 
 -- A TREE BUILT
 
@@ -90,12 +173,11 @@ pub record Building (d : Division) (r : ℕ) (rows keys winners : List ℕ) (a :
 pub building-start : {d : Division} {rows keys winners : List ℕ} (r a : ℕ) → ValidBelow d rows keys winners r → r < regions d → a ≡ field rows r 1
     → Building d r rows keys winners a
 building-start {d} {rows} {keys} {winners} r a B inside e =
-    let count : a ≡ childCount d r = e ∙ B .laid .planned .counted .counts r inside in
+    let count : a ≡ childCount d r = e ∙ B .entered .laid .planned .counted .counts r inside in
     record {
       valid =
           record {
-            laid = B .laid;
-            keyed = B .keyed;
+            entered = B .entered;
             rest =
                 λ r′ q pos l.
                 ⊎-elim (λ (m : r′ < r). inl (B .wins r′ q m pos l))
@@ -109,16 +191,19 @@ building-start {d} {rows} {keys} {winners} r a B inside e =
 
 module _ {d : Division} {r : ℕ} {rows keys winners : List ℕ} {a : ℕ} (B : Building d r rows keys winners a)
     (start : ℕ) (row : start ≡ field rows r 2) (big : 1 < a) where
-  pub building-bounds : PlaceBounds keys winners start (a - 1)
-  building-bounds = place-bounds (B .valid) r start (a - 1) row (omega arith) (omega (arith, B .high))
+  starts : start ≡ treeStart d r
+  starts = begins r start (B .valid .entered .laid .planned) row (omega (arith, B .high))
 
-  pub building-step : (winners′ : List ℕ) → Decided d keys start (a - 1) winners winners′ → Building d r rows keys winners′ (a - 1)
-  building-step winners′ e = record {
+  pub building-in : start + (2 * (a - 1) + 1) < length winners
+  building-in = omega (arith, starts, B .high, tree-room d r, B .valid .entered .laid .room)
+
+  pub building-step : (winners′ : List ℕ) → Decided start (a - 1) winners winners′ → Building d r rows keys winners′ (a - 1)
+  building-step winners′ e = rw (e, starts) (record {
     valid =
-        decided-from (B .valid) r start (a - 1) row (omega arith) (omega (arith, B .high)) (OpenBelow r (a - 1)) winners′ e
+        decided (B .valid) r (a - 1) _ (omega arith) (omega (arith, B .high)) refl (OpenBelow r (a - 1))
         (λ r′ q o. ⊎-elim (λ m. inl (inl m)) (λ m. last r′ q m) o) (λ _. inr (refl, omega arith));
     high = omega (arith, B .high);
-  }
+  })
     where
       last : (r′ q : ℕ) → (r′ ≡ r) × (q < a) → OpenBelow r (a - 1) r′ q ⊎ ((r′ ≡ r) × (q ≡ a - 1))
       last r′ q m = ⊎-elim (λ (e : q ≡ a - 1). inr (m .0, e)) (λ (n : q ≢ a - 1). inl (inr (m .0, omega arith))) (eq-or-ne q (a - 1))
@@ -126,18 +211,16 @@ module _ {d : Division} {r : ℕ} {rows keys winners : List ℕ} {a : ℕ} (B : 
 pub building-end : {d : Division} {r : ℕ} {rows keys winners : List ℕ} {a : ℕ} → Building d r rows keys winners a → a ≤ 1
     → ValidBelow d rows keys winners (r + 1)
 building-end {d} {r} {rows} {keys} {winners} {a} B l = record {
-  laid = B .valid .laid;
-  keyed = B .valid .keyed;
+  entered = B .valid .entered;
   wins = λ r′ q m pos h. ⊎-elim (λ w. w) (λ o. absurd (⊎-elim (λ (n : r < r′). omega arith) (λ n. omega arith) o)) (B .valid .rest r′ q pos h);
 }
 
 -- ALL TREES BUILT
-pub valid-none : {d : Division} {rows keys winners : List ℕ} → LaidOut d rows winners → length keys ≡ regions d → ValidBelow d rows keys winners 0
-valid-none laid keyed = record { laid = laid; keyed = keyed; wins = λ r p l. absurd (omega arith) }
+
+pub valid-none : {d : Division} {rows keys winners : List ℕ} → Entered d rows keys winners → ValidBelow d rows keys winners 0
+valid-none E = record { entered = E; wins = λ r p l. absurd (omega arith) }
 
 pub valid-regions : {d : Division} {rows keys winners : List ℕ} {n : ℕ} → ValidBelow d rows keys winners n → regions d ≤ n → QueuesOk d rows keys winners
-valid-regions {d} B l = record {
-  laid = B .laid;
-  keyed = B .keyed;
-  wins = λ r p pos h. B .wins r p (omega (arith, parent-in d (B .laid .planned .counted .numbered .lower) r (omega arith))) pos h;
-}
+valid-regions {d} B l =
+    valid (B .entered)
+    (λ r p pos h. B .wins r p (omega (arith, parent-in d (B .entered .laid .planned .counted .numbered .lower) r (omega arith))) pos h)

@@ -1,25 +1,22 @@
--- Winner trees: a place decided again, or a key written, leaves open only places above; where none is open, place 1 is first-chosen. Assumes nothing.
-use Prim.Native.Nat.{ℕ, zero, suc, _+_, _*_, _/_, _≤_, _<_}
-use mathlib.Core.Bool.{false}
+-- Winner trees: a store at a place leaves open only the place above it; where none is open, place 1 holds the first-chosen child. Assumes nothing.
+use Prim.Native.Nat.{ℕ, zero, suc, min, _+_, _*_, _/_, _≤_, _<_}
 use mathlib.Core.Path.{_≡_, refl, sym, ap, _∙_}
 use mathlib.Core.Logic.{_≢_, _⊎_, inl, inr, ⊎-elim}
 use mathlib.Core.List.{List}
-use native.Mathlib.Nat.{le-refl}
-use native.Mathlib.Omega.{arith}
+use native.Mathlib.Omega.{arith, min-cases}
 use lib.ListN.{length, set, length-set}
 use lib.Seq.{getD-set-same, getD-set-other}
 use Rattle.indices.specs.Columns.{at}
 use Rattle.indices.proofs.Steps.{eq-or-ne, lt-or-le, set-elim}
 use Rattle.procedure.specs.Division.{Division, regions, parent}
-use Rattle.procedure.specs.Queues.{before, minItem}
-use Rattle.theory.proofs.Order.{before-irreflexive, before-transitive}
-use Rattle.theory.proofs.Chosen.{Child, minItem-first, first-one}
-use Rattle.queue.specs.Trees.{childCount, treeStart, seat, place, earlier, Wins, Seated, LaidOut, QueuesOk}
-use Rattle.queue.proofs.Pairs.{earlier-either, earlier-first, earlier-second, earlier-same}
-use Rattle.queue.proofs.Seats.{tree-room, trees-apart, seat-low, seat-high, place-child}
+use Rattle.procedure.specs.Queues.{minItem}
+use Rattle.theory.proofs.Chosen.{Child, parent-child, minItem-first, first-one}
+use Rattle.queue.specs.Trees.{entry, childCount, treeStart, seat, place, Wins, LaidOut, QueuesOk, Entered}
+use Rattle.queue.proofs.Comparison.{entry-behind}
+use Rattle.queue.proofs.Seats.{tree-room, trees-apart, seat-low, seat-high, seat-one, place-child}
 
 -- a store at place p of r's tree
-module _ (d : Division) (winners : List ℕ) (all : length winners ≡ 2 * regions d) (r p x : ℕ) (hp : p < 2 * childCount d r) where
+module _ (d : Division) (winners : List ℕ) (room : 2 * regions d ≤ length winners) (r p x : ℕ) (hp : p < 2 * childCount d r) where
   pub place-in : treeStart d r + p < length winners
   place-in = omega (arith, tree-room d r)
 
@@ -37,101 +34,13 @@ module _ (d : Division) (winners : List ℕ) (all : length winners ≡ 2 * regio
           ⊎-elim (λ (l : r′ < r). omega (arith, trees-apart d r′ r l)) (λ (l : r ≤ r′). omega (arith, trees-apart d r r′ (omega arith))) (lt-or-le r′ r))
           (eq-or-ne r′ r)
 
--- a store keeps the bound of all entries
-pub named-set : (l : List ℕ) (j x n : ℕ) → j < length l → ((i : ℕ) → i < length l → at l i < n) → x < n
-    → (i : ℕ) → i < length (set l j x) → at (set l j x) i < n
-named-set l j x n lj f h i li = set-elim (λ y. y < n) l j i x 0 lj (λ _. h) (λ _. f i (rw length-set at li))
-
--- PLACES ABOVE A PLACE
-
--- place a is q or stands above it
-pub data Above : ℕ → ℕ → Type 0 where
-  here : {q : ℕ} → Above q q
-  up : {a q : ℕ} → Above a (q / 2) → Above a q
-
-pub above-le : {a q : ℕ} → Above a q → a ≤ q
-above-le here = le-refl _
-above-le (up h) = let l = above-le h in omega arith
-
-above-half : {a q : ℕ} → Above a q → Above (a / 2) q
-above-half here = up here
-above-half (up h) = up (above-half h)
-
-above-halves : {a q : ℕ} → Above a q → Above (a / 2) (q / 2)
-above-halves here = here
-above-halves (up h) = above-half h
-
-pub above-cases : {a q : ℕ} → Above a q → (a ≡ q) ⊎ Above a (q / 2)
-above-cases here = inl refl
-above-cases (up h) = inr h
-
--- VALID BUT FOR SOME PLACES
-
--- every place holds what it should, but for those in Open, by region and place
-pub record ValidBut (d : Division) (rows keys winners : List ℕ) (Open : ℕ → ℕ → Type 0) : Type 0 where
-  pub laid : LaidOut d rows winners
-  pub keyed : length keys ≡ regions d
-  pub rest : (r p : ℕ) → 0 < p → p < childCount d r → Wins d keys winners r p ⊎ Open r p
-
--- no place is open
-pub valid-all : {d : Division} {rows keys winners : List ℕ} {Open : ℕ → ℕ → Type 0} → ValidBut d rows keys winners Open
-    → ((r p : ℕ) → 0 < p → p < childCount d r → Open r p → ⊥) → QueuesOk d rows keys winners
-valid-all B none = record {
-  laid = B .laid;
-  keyed = B .keyed;
-  wins = λ r p pos l. ⊎-elim (λ w. w) (λ o. absurd (none r p pos l o)) (B .rest r p pos l);
-}
-
--- place p of r's tree is decided again
-module _ {d : Division} {rows keys winners : List ℕ} {Open : ℕ → ℕ → Type 0} (B : ValidBut d rows keys winners Open)
-    (r p : ℕ) (pos : 0 < p) (hp : p < childCount d r) where
-  seated : Seated d winners
-  seated = B .laid .seated
-
-  x : ℕ
-  x = earlier d keys (place d winners r (2 * p)) (place d winners r (2 * p + 1))
-
-  winners′ : List ℕ
-  winners′ = set winners (treeStart d r + p) x
-
-  other : (r′ q : ℕ) → q < 2 * childCount d r′ → (r′ ≡ r → q ≢ p) → place d winners′ r′ q ≡ place d winners r′ q
-  unfolding winners′
-  other = place-other d winners (seated .all) r p x (omega arith)
-
-  x-named : x < regions d
-  unfolding x
-  x-named =
-      ⊎-elim (λ e. rw e (seated .named _ (place-in d winners (seated .all) r (2 * p) 0 (omega arith))))
-      (λ e. rw e (seated .named _ (place-in d winners (seated .all) r (2 * p + 1) 0 (omega arith))))
-      (earlier-either d keys (place d winners r (2 * p)) (place d winners r (2 * p + 1)))
-
-  laid′ : LaidOut d rows winners′
-  unfolding winners′
-  laid′ = record {
-    planned = B .laid .planned;
-    seated = record {
-      all = simp length-set (seated .all);
-      named = named-set winners (treeStart d r + p) x (regions d) (place-in d winners (seated .all) r p x (omega arith)) (seated .named) x-named;
-      stands =
-          λ c l h.
-          let k : Child d (parent d c) c = record { in-range = h; positive = l; under = refl } in
-          other (parent d c) (seat d c) (seat-high d k) (λ e f. omega (arith, seat-low d k, ap (childCount d) e)) ∙ seated .stands c l h;
-    };
-  }
-
-  win-here : Wins d keys winners′ r p
-  unfolding Wins winners′ x
-  win-here =
-      place-same d winners (seated .all) r p x (omega arith)
-      ∙ sym (rw (other r (2 * p) (omega arith) (λ _. omega arith), other r (2 * p + 1) (omega arith) (λ _. omega arith)))
-
-  win-kept : (r′ q : ℕ) → 0 < q → q < childCount d r′ → (r′ ≡ r → q ≢ p) → (r′ ≡ r → q ≢ p / 2) → Wins d keys winners r′ q → Wins d keys winners′ r′ q
-  unfolding Wins
-  win-kept r′ q pos′ l n m w =
+  win-kept : (r′ q : ℕ) → 0 < q → q < childCount d r′ → (r′ ≡ r → q ≢ p) → (r′ ≡ r → q ≢ p / 2) → Wins d winners r′ q
+      → Wins d (set winners (treeStart d r + p) x) r′ q
+  win-kept r′ q pos l n m w =
       rw (
-        other r′ q (omega arith) n,
-        other r′ (2 * q) (omega arith) (λ e f. m e (omega arith)),
-        other r′ (2 * q + 1) (omega arith) (λ e f. m e (omega arith)),
+        place-other r′ q (omega arith) n,
+        place-other r′ (2 * q) (omega arith) (λ e f. m e (omega arith)),
+        place-other r′ (2 * q + 1) (omega arith) (λ e f. m e (omega arith)),
       )
       w
 
@@ -140,107 +49,177 @@ module _ {d : Division} {rows keys winners : List ℕ} {Open : ℕ → ℕ → T
       ⊎-elim (λ (e : r′ ≡ r). ⊎-elim (λ (f : q ≡ a). inl (e, f)) (λ (n : q ≢ a). inr (λ _. n)) (eq-or-ne q a))
       (λ (n : r′ ≢ r). inr (λ e. absurd (n e))) (eq-or-ne r′ r)
 
-  -- what was open is open still, or is this place; the place above it is open
-  pub decided : (Open′ : ℕ → ℕ → Type 0) → ((r′ q : ℕ) → Open r′ q → Open′ r′ q ⊎ ((r′ ≡ r) × (q ≡ p))) → (0 < p / 2 → Open′ r (p / 2))
-      → ValidBut d rows keys (set winners (treeStart d r + p) (earlier d keys (place d winners r (2 * p)) (place d winners r (2 * p + 1)))) Open′
-  unfolding winners′ x
-  decided Open′ f above = record { laid = laid′; keyed = B .keyed; rest = λ r′ q pos′ l. go r′ q pos′ l (same r′ q p) (same r′ q (p / 2)) }
+  -- what was open is open still, or is this place, which is decided now; the place above it is open
+  pub rest-kept : (Open Open′ : ℕ → ℕ → Type 0) → ((r′ q : ℕ) → 0 < q → q < childCount d r′ → Wins d winners r′ q ⊎ Open r′ q)
+      → ((r′ q : ℕ) → Open r′ q → Open′ r′ q ⊎ ((r′ ≡ r) × (q ≡ p))) → (p < childCount d r → Wins d (set winners (treeStart d r + p) x) r p)
+      → (0 < p / 2 → Open′ r (p / 2))
+      → (r′ q : ℕ) → 0 < q → q < childCount d r′ → Wins d (set winners (treeStart d r + p) x) r′ q ⊎ Open′ r′ q
+  rest-kept Open Open′ rest f here above r′ q pos l = go r′ q pos l (same r′ q p) (same r′ q (p / 2))
     where
-      old : (r′ q : ℕ) → 0 < q → q < childCount d r′ → (r′ ≡ r → q ≢ p) → (r′ ≡ r → q ≢ p / 2) → Wins d keys winners r′ q ⊎ Open r′ q
-          → Wins d keys winners′ r′ q ⊎ Open′ r′ q
-      old r′ q pos′ l n m (inl w) = inl (win-kept r′ q pos′ l n m w)
-      old r′ q pos′ l n m (inr o) = ⊎-elim (λ o′. inr o′) (λ e. absurd (n (e .0) (e .1))) (f r′ q o)
+      old : (r′ q : ℕ) → 0 < q → q < childCount d r′ → (r′ ≡ r → q ≢ p) → (r′ ≡ r → q ≢ p / 2) → Wins d winners r′ q ⊎ Open r′ q
+          → Wins d (set winners (treeStart d r + p) x) r′ q ⊎ Open′ r′ q
+      old r′ q pos l n m (inl w) = inl (win-kept r′ q pos l n m w)
+      old r′ q pos l n m (inr o) = ⊎-elim (λ o′. inr o′) (λ e. absurd (n (e .0) (e .1))) (f r′ q o)
 
       go : (r′ q : ℕ) → 0 < q → q < childCount d r′ → ((r′ ≡ r) × (q ≡ p)) ⊎ (r′ ≡ r → q ≢ p) → ((r′ ≡ r) × (q ≡ p / 2)) ⊎ (r′ ≡ r → q ≢ p / 2)
-          → Wins d keys winners′ r′ q ⊎ Open′ r′ q
-      go r′ q pos′ l (inl e) m = inl (rw (e .0, e .1) win-here)
-      go r′ q pos′ l (inr n) (inl e) = inr (rw (e .0, e .1) (above (omega arith)))
-      go r′ q pos′ l (inr n) (inr m) = old r′ q pos′ l n m (B .rest r′ q pos′ l)
+          → Wins d (set winners (treeStart d r + p) x) r′ q ⊎ Open′ r′ q
+      go r′ q pos l (inl e) m = inl (rw (e .0, e .1) (here (omega (arith, ap (childCount d) (e .0)))))
+      go r′ q pos l (inr n) (inl e) = inr (rw (e .0, e .1) (above (omega arith)))
+      go r′ q pos l (inr n) (inr m) = old r′ q pos l n m (rest r′ q pos l)
 
--- in r's tree the places above a are open
-abbrev pub OpenAbove : ℕ → ℕ → ℕ → ℕ → Type 0
-OpenAbove r a r′ q = (r′ ≡ r) × Above q (a / 2)
+-- a store at the place of c
+module _ (d : Division) (winners : List ℕ) (room : 2 * regions d ≤ length winners) (c x : ℕ) (pos : 0 < c) (inside : c < regions d) where
+  child : Child d (parent d c) c
+  child = parent-child d c pos inside
+
+  -- to prove P of what stands at the place of b, prove it of x for c, and of what stood there for the others
+  pub seat-elim : (P : ℕ → Type 0) (b : ℕ) → 0 < b → b < regions d → (b ≡ c → P x) → (b ≢ c → P (place d winners (parent d b) (seat d b)))
+      → P (place d (set winners (treeStart d (parent d c) + seat d c) x) (parent d b) (seat d b))
+  seat-elim P b pb lb f g =
+      ⊎-elim (λ (e : b ≡ c). rw (e, place-same d winners room (parent d c) (seat d c) x (seat-high d child)) (f e))
+      (λ (n : b ≢ c).
+      let k = parent-child d b pb lb in
+      let kept =
+      place-other d winners room (parent d c) (seat d c) x (seat-high d child) (parent d b) (seat d b) (seat-high d k)
+      (λ e s. n (seat-one d k (record { in-range = inside; positive = pos; under = sym e }) s)) in
+      rw kept (g n))
+      (eq-or-ne b c)
+
+-- VALID BUT FOR SOME PLACES
+
+-- every place holds what it should, but for those in Open, by region and place
+pub record ValidBut (d : Division) (rows keys winners : List ℕ) (Open : ℕ → ℕ → Type 0) : Type 0 where
+  pub entered : Entered d rows keys winners
+  pub rest : (r p : ℕ) → 0 < p → p < childCount d r → Wins d winners r p ⊎ Open r p
+
+pub valid : {d : Division} {rows keys winners : List ℕ} → Entered d rows keys winners → ((r p : ℕ) → 0 < p → p < childCount d r → Wins d winners r p)
+    → QueuesOk d rows keys winners
+valid E wins = record { laid = E .laid; keyed = E .keyed; fit = E .fit; stands = E .stands; wins = wins }
+
+-- what was open is decided
+pub valid-all : {d : Division} {rows keys winners : List ℕ} {Open : ℕ → ℕ → Type 0} → ValidBut d rows keys winners Open
+    → ((r p : ℕ) → 0 < p → p < childCount d r → Open r p → Wins d winners r p) → QueuesOk d rows keys winners
+valid-all B rest = valid (B .entered) (λ r p pos l. ⊎-elim (λ w. w) (λ o. rest r p pos l o) (B .rest r p pos l))
+
+-- winners that were stored to are laid out still
+pub laid-set : {d : Division} {rows winners : List ℕ} (i x : ℕ) → LaidOut d rows winners → LaidOut d rows (set winners i x)
+laid-set i x L = record { planned = L .planned; room = simp length-set (L .room) }
+
+-- place p of r's tree is decided again
+module _ {d : Division} {rows keys winners : List ℕ} {Open : ℕ → ℕ → Type 0} (B : ValidBut d rows keys winners Open)
+    (r p x : ℕ) (pos : 0 < p) (hp : p < childCount d r) (lowest : x ≡ min (place d winners r (2 * p)) (place d winners r (2 * p + 1))) where
+  other : (r′ q : ℕ) → q < 2 * childCount d r′ → (r′ ≡ r → q ≢ p) → place d (set winners (treeStart d r + p) x) r′ q ≡ place d winners r′ q
+  other = place-other d winners (B .entered .laid .room) r p x (omega arith)
+
+  win-here : Wins d (set winners (treeStart d r + p) x) r p
+  win-here =
+      place-same d winners (B .entered .laid .room) r p x (omega arith) ∙ lowest
+      ∙ sym (rw (other r (2 * p) (omega arith) (λ _. omega arith), other r (2 * p + 1) (omega arith) (λ _. omega arith)))
+
+  -- what was open is open still, or is this place; the place above it is open
+  pub decided : (Open′ : ℕ → ℕ → Type 0) → ((r′ q : ℕ) → Open r′ q → Open′ r′ q ⊎ ((r′ ≡ r) × (q ≡ p))) → (0 < p / 2 → Open′ r (p / 2))
+      → ValidBut d rows keys (set winners (treeStart d r + p) x) Open′
+  decided Open′ f above = record {
+    entered =
+        record {
+          laid = laid-set (treeStart d r + p) x (B .entered .laid);
+          keyed = B .entered .keyed;
+          fit = B .entered .fit;
+          stands =
+              λ c l h.
+              let k = parent-child d c l h in
+              other (parent d c) (seat d c) (seat-high d k) (λ e f. omega (arith, seat-low d k, ap (childCount d) e)) ∙ B .entered .stands c l h;
+        };
+    rest = rest-kept d winners (B .entered .laid .room) r p x (omega arith) Open Open′ (B .rest) f (λ _. win-here) above;
+  }
 
 -- VALID QUEUES
 
+-- a key written for c, and stored at its place, leaves open the place above
+pub written : {d : Division} {rows keys winners : List ℕ} (c k : ℕ) → QueuesOk d rows keys winners → 0 < c → c < regions d → k < 4294967296
+    → ValidBut d rows (set keys c k) (set winners (treeStart d (parent d c) + seat d c) (k * 65536 + c)) (λ r q. (r ≡ parent d c) × (q ≡ seat d c / 2))
+written {d} {rows} {keys} {winners} c k Q pos inside small =
+    let h = parent-child d c pos inside in
+    let keyed : c < length keys = omega (arith, Q .keyed) in
+    record {
+      entered =
+          record {
+            laid = laid-set (treeStart d (parent d c) + seat d c) (k * 65536 + c) (Q .laid);
+            keyed = simp length-set (Q .keyed);
+            fit = λ i. set-elim (λ y. y < 4294967296) keys c i k 0 keyed (λ _. small) (λ _. Q .fit i);
+            stands =
+                λ b pb lb.
+                seat-elim d winners (Q .laid .room) c (k * 65536 + c) pos inside (λ y. y ≡ entry (set keys c k) b) b pb lb
+                (λ e. rw (e, getD-set-same keys c k 0 keyed)) (λ n. rw (getD-set-other keys c b k 0 n) (Q .stands b pb lb));
+          };
+      rest =
+          rest-kept d winners (Q .laid .room) (parent d c) (seat d c) (k * 65536 + c) (seat-high d h) (λ _ _. ⊥)
+          (λ r q. (r ≡ parent d c) × (q ≡ seat d c / 2)) (λ r q p l. inl (Q .wins r q p l)) (λ r q o. absurd o)
+          (λ l. absurd (omega (arith, seat-low d h))) (λ _. (refl, refl));
+    }
+
 module _ {d : Division} {rows keys winners : List ℕ} (Q : QueuesOk d rows keys winners) where
-  -- a place holds what one of the two below it holds, or is a child's own
-  below : {G : Type 0} (r q : ℕ) → 0 < q → q < 2 * childCount d r → (place d winners r q ≡ place d winners r (2 * q) → q < childCount d r → G)
-      → (place d winners r q ≡ place d winners r (2 * q + 1) → q < childCount d r → G)
-      → (Child d r (place d winners r q) → seat d (place d winners r q) ≡ q → G) → G
-  unfolding Wins
-  below {G = G} r q pos l left right own =
+  -- place q of r's tree holds the entry of a child of r
+  abbrev Held : ℕ → ℕ → Type 0
+  Held r q = (c : ℕ) × Child d r c × (place d winners r q ≡ entry keys c)
+
+  -- it is the entry of one of the two places below, or a child's own place
+  held-step : (r q : ℕ) → 0 < q → q < 2 * childCount d r → (q < childCount d r → Held r (2 * q)) → (q < childCount d r → Held r (2 * q + 1)) → Held r q
+  held-step r q pos l left right =
       ⊎-elim
       (λ (h : q < childCount d r).
       let w = Q .wins r q pos h in
-      ⊎-elim (λ e. left (w ∙ e) h) (λ e. right (w ∙ e) h) (earlier-either d keys (place d winners r (2 * q)) (place d winners r (2 * q + 1))))
-      (λ (h : childCount d r ≤ q). found h (place-child d r q h l))
+      min-cases (place d winners r (2 * q)) (place d winners r (2 * q + 1)) (Held r q)
+      (λ _ e. let f = left h in (f .0, f .1, w ∙ e ∙ f .2)) (λ _ e. let f = right h in (f .0, f .1, w ∙ e ∙ f .2)))
+      (λ (h : childCount d r ≤ q).
+      let f = place-child d r q h l in
+      let k = f .1 in
+      (f .0, k, rw (k .under, f .2) at (Q .stands (f .0) (k .positive) (k .in-range))))
       (lt-or-le q (childCount d r))
-    where
-      found : childCount d r ≤ q → ((c : ℕ) × Child d r c × (seat d c ≡ q)) → G
-      found h f =
-          let k = f .1 in
-          let e : place d winners r q ≡ f .0 = rw (k .under, f .2) at (Q .laid .seated .stands (f .0) (k .positive) (k .in-range)) in
-          own (rw e k) (ap (seat d) e ∙ f .2)
 
-  held : (r f q : ℕ) → 0 < q → q < 2 * childCount d r → 2 * childCount d r ≤ q + f → Child d r (place d winners r q)
+  held : (r f q : ℕ) → 0 < q → q < 2 * childCount d r → 2 * childCount d r ≤ q + f → Held r q
   held r zero q pos l m = absurd (omega arith)
   held r (suc f) q pos l m =
-      below r q pos l (λ e h. rw e (held r f (2 * q) (omega arith) (omega arith) (omega arith)))
-      (λ e h. rw e (held r f (2 * q + 1) (omega arith) (omega arith) (omega arith))) (λ k e. k)
+      held-step r q pos l (λ h. held r f (2 * q) (omega arith) (omega arith) (omega arith))
+      (λ h. held r f (2 * q + 1) (omega arith) (omega arith) (omega arith))
 
-  -- every place of r's tree holds a child of r
-  pub holds-child : (r q : ℕ) → 0 < q → q < 2 * childCount d r → Child d r (place d winners r q)
-  holds-child r q pos l = held r (2 * childCount d r) q pos l (omega arith)
-
-  -- a place that holds c is c's own or stands above it
-  traced : (r c f q : ℕ) → 0 < q → q < 2 * childCount d r → 2 * childCount d r ≤ q + f → place d winners r q ≡ c → Above q (seat d c)
-  traced r c zero q pos l m e = absurd (omega arith)
-  traced r c (suc f) q pos l m e =
-      below r q pos l (λ w h. left (traced r c f (2 * q) (omega arith) (omega arith) (omega arith) (sym w ∙ e)))
-      (λ w h. right (traced r c f (2 * q + 1) (omega arith) (omega arith) (omega arith) (sym w ∙ e)))
-      (λ k w. let h : seat d c ≡ q = sym (ap (seat d) e) ∙ w in rw h here)
-    where
-      left : Above (2 * q) (seat d c) → Above q (seat d c)
-      left u = let h : 2 * q / 2 ≡ q = omega arith in rw h at (above-half u)
-
-      right : Above (2 * q + 1) (seat d c) → Above q (seat d c)
-      right u = let h : (2 * q + 1) / 2 ≡ q = omega arith in rw h at (above-half u)
-
-  -- what a place holds is not before what the place above it holds
-  no-better : (r q : ℕ) → 1 < q → q < 2 * childCount d r → before d keys (place d winners r q) (place d winners r (q / 2)) ≡ false
-  unfolding Wins
-  no-better r q big l =
+  -- no place is lower than the one above it
+  no-lower : (r q : ℕ) → 1 < q → q < 2 * childCount d r → place d winners r (q / 2) ≤ place d winners r q
+  no-lower r q big l =
       let w = Q .wins r (q / 2) (omega arith) (omega arith) in
-      ⊎-elim (λ (e : q ≡ 2 * (q / 2)). rw (w, ap (place d winners r) e) (earlier-first d keys _ _))
-      (λ (n : q ≢ 2 * (q / 2)). let e : q ≡ 2 * (q / 2) + 1 = omega arith in rw (w, ap (place d winners r) e) (earlier-second d keys _ _))
+      ⊎-elim (λ (e : q ≡ 2 * (q / 2)). omega (arith, w, ap (place d winners r) e))
+      (λ (n : q ≢ 2 * (q / 2)). let e : q ≡ 2 * (q / 2) + 1 = omega arith in omega (arith, w, ap (place d winners r) e))
       (eq-or-ne q (2 * (q / 2)))
 
-  -- nor before what place 1 holds
-  none-before : (r f q : ℕ) → q ≤ f → 0 < q → q < 2 * childCount d r → before d keys (place d winners r q) (place d winners r 1) ≡ false
-  none-before r zero q m pos l = absurd (omega arith)
-  none-before r (suc f) q m pos l = go (eq-or-ne q 1) (none-before r f (q / 2))
+  -- nor than place 1
+  first-lowest : (r f q : ℕ) → q ≤ f → 0 < q → q < 2 * childCount d r → place d winners r 1 ≤ place d winners r q
+  first-lowest r zero q m pos l = absurd (omega arith)
+  first-lowest r (suc f) q m pos l = go (eq-or-ne q 1) (first-lowest r f (q / 2))
     where
-      go : (q ≡ 1) ⊎ (q ≢ 1) → (q / 2 ≤ f → 0 < q / 2 → q / 2 < 2 * childCount d r → before d keys (place d winners r (q / 2)) (place d winners r 1) ≡ false)
-          → before d keys (place d winners r q) (place d winners r 1) ≡ false
-      go (inl e) rest = rw e (before-irreflexive d keys (place d winners r 1))
-      go (inr n) rest =
-          before-transitive d keys _ (place d winners r (q / 2)) _ (no-better r q (omega arith) l) (rest (omega arith) (omega arith) (omega arith))
+      go : (q ≡ 1) ⊎ (q ≢ 1) → (q / 2 ≤ f → 0 < q / 2 → q / 2 < 2 * childCount d r → place d winners r 1 ≤ place d winners r (q / 2))
+          → place d winners r 1 ≤ place d winners r q
+      go (inl e) rest = omega (arith, ap (place d winners r) e)
+      go (inr n) rest = omega (arith, rest (omega arith) (omega arith) (omega arith), no-lower r q (omega arith) l)
 
-  -- place 1 holds the first-chosen child
-  pub minItem-place : (r : ℕ) → 0 < childCount d r → minItem d keys r ≡ place d winners r 1
+  -- place 1 holds the entry of the first-chosen child
+  pub minItem-place : (r : ℕ) → 0 < childCount d r → Child d r (minItem d keys r) × (place d winners r 1 ≡ entry keys (minItem d keys r))
   minItem-place r some =
-      let k = holds-child r 1 (omega arith) (omega arith) in
-      first-one d keys r (regions d) (minItem d keys r) (place d winners r 1) (minItem-first d keys r)
+      let h = held r (2 * childCount d r) 1 (omega arith) (omega arith) (omega arith) in
+      let k = h .1 in
+      let few = Q .laid .planned .counted .numbered .few in
+      let e : minItem d keys r ≡ h .0 =
+      first-one d keys r (regions d) (minItem d keys r) (h .0) (minItem-first d keys r)
       (record {
         child = λ _. (k .in-range, k .under);
         some = λ _ _ _ _. k .positive;
         least =
-            λ c l pos e.
-            let h : Child d r c = record { in-range = l; positive = pos; under = e } in
-            let at-seat : place d winners r (seat d c) ≡ c = rw e at (Q .laid .seated .stands c pos l) in
-            rw at-seat at (none-before r (seat d c) (seat d c) (omega arith) (omega (arith, seat-low d h)) (seat-high d h));
-      })
+            λ c l pos u.
+            let b : Child d r c = record { in-range = l; positive = pos; under = u } in
+            let at-seat : place d winners r (seat d c) ≡ entry keys c = rw u at (Q .stands c pos l) in
+            let lowest = first-lowest r (seat d c) (seat d c) (omega arith) (omega (arith, seat-low d b)) (seat-high d b) in
+            entry-behind d keys c (h .0) (omega (arith, few)) (omega (arith, few, k .in-range)) (omega (arith, lowest, at-seat, h .2));
+      }) in
+      rw e (k, h .2)
 
   -- a region without children has no first-chosen child
   pub minItem-childless : (r : ℕ) → childCount d r ≡ 0 → minItem d keys r ≡ 0
@@ -252,25 +231,3 @@ module _ {d : Division} {rows keys winners : List ℕ} (Q : QueuesOk d rows keys
       let k : Child d r (minItem d keys r) = record { in-range = f .child pos .0; positive = pos; under = f .child pos .1 } in
       absurd (omega (arith, seat-high d k)))
       (eq-or-ne (minItem d keys r) 0)
-
-  -- a key written for c leaves open what stands above c's place
-  module _ (c k : ℕ) (pos : 0 < c) (inside : c < regions d) where
-    reached : (r′ q m : ℕ) → 0 < m → m < 2 * childCount d r′ → m / 2 ≡ q → place d winners r′ m ≡ c → OpenAbove (parent d c) (seat d c) r′ q
-    reached r′ q m pm lm half e =
-        (sym (holds-child r′ m pm lm .under) ∙ ap (parent d) e, rw half at (above-halves (traced r′ c (2 * childCount d r′) m pm lm (omega arith) e)))
-
-    pub written : ValidBut d rows (set keys c k) winners (OpenAbove (parent d c) (seat d c))
-    unfolding Wins
-    written = record { laid = Q .laid; keyed = simp length-set (Q .keyed); rest = rest }
-      where
-        rest : (r′ q : ℕ) → 0 < q → q < childCount d r′ → Wins d (set keys c k) winners r′ q ⊎ OpenAbove (parent d c) (seat d c) r′ q
-        rest r′ q pos′ l =
-            ⊎-elim (λ e. inr (reached r′ q (2 * q) (omega arith) (omega arith) (omega arith) e))
-            (λ (n : place d winners r′ (2 * q) ≢ c).
-            ⊎-elim (λ e. inr (reached r′ q (2 * q + 1) (omega arith) (omega arith) (omega arith) e))
-            (λ (m : place d winners r′ (2 * q + 1) ≢ c).
-            inl
-            (Q .wins r′ q pos′ l
-            ∙ sym (earlier-same d keys _ _ (set keys c k) (getD-set-other keys c _ k 0 n) (getD-set-other keys c _ k 0 m))))
-            (eq-or-ne (place d winners r′ (2 * q + 1)) c))
-            (eq-or-ne (place d winners r′ (2 * q)) c)

@@ -1,18 +1,27 @@
 -- One priority queue for each inner region, as winner trees in one list: a tree for each region, one after the other. The tree of a region with
--- n children has 2n places. The children stand at the places n to 2n - 1; a place p below n holds the one of places 2p and 2p + 1 that is chosen
--- first; so place 1 holds the first-chosen child. Definitions; assumes nothing.
-use Prim.Native.Nat.{ℕ, _+_, _*_, _<_}
+-- n children has 2n places, and a place holds a key and a region as one number. The children stand at the places n to 2n - 1; a place p below n
+-- holds the lower of places 2p and 2p + 1; so place 1 holds the first-chosen child and its key. Definitions; assumes nothing.
+use Prim.Native.Nat.{ℕ, min, _+_, _*_, _/_, _≤_, _<_}
 use mathlib.Core.Bool.{Bool, false, _&&_}
 use mathlib.Core.Path.{_≡_}
+use mathlib.Core.Logic.{_≢_}
 use mathlib.Core.List.{List}
 use lib.ListN.{length, set}
 use lib.Dec.{ltb}
 use Rattle.indices.specs.Columns.{at}
-use Rattle.indices.specs.Steps.{if_then_else_}
 use Rattle.indices.specs.Tests.{count}
 use Rattle.procedure.specs.Division.{Division, regions, parent, isLeaf, isChild}
-use Rattle.procedure.specs.Queues.{before, minKey}
+use Rattle.procedure.specs.Queues.{minKey}
 use Rattle.rows.specs.Rows.{field}
+
+-- the key and the number of region c as one number: of two, the lower one is chosen first
+abbrev pub entry : List ℕ → ℕ → ℕ
+entry keys c = at keys c * 65536 + c
+
+-- p and q are the two places that decide one place
+pub record Siblings (p q : ℕ) : Type 0 where
+  pub above : q / 2 ≡ p / 2
+  pub other : q ≢ p
 
 module _ (d : Division) where
   -- how many children r has
@@ -39,18 +48,13 @@ module _ (d : Division) where
   abbrev pub place : List ℕ → ℕ → ℕ → ℕ
   place winners r p = at winners (treeStart r + p)
 
-  -- the one of two items that is chosen first
-  unfoldable pub earlier : List ℕ → ℕ → ℕ → ℕ
-  earlier keys a b = if before d keys b a then b else a
-
-  -- place p of r's tree holds the one of the two places below it that is chosen first
-  unfoldable pub Wins : List ℕ → List ℕ → ℕ → ℕ → Type 0
-  Wins keys winners r p = place winners r p ≡ earlier keys (place winners r (2 * p)) (place winners r (2 * p + 1))
+  -- place p of r's tree holds the lower of the two places below it
+  abbrev pub Wins : List ℕ → ℕ → ℕ → Type 0
+  Wins winners r p = place winners r p ≡ min (place winners r (2 * p)) (place winners r (2 * p + 1))
 
 -- winners′ is winners once place p of the tree that begins at `start` is decided
-abbrev pub Decided : Division → List ℕ → ℕ → ℕ → List ℕ → List ℕ → Type 0
-Decided d keys start p winners winners′ =
-    winners′ ≡ set winners (start + p) (earlier d keys (at winners (start + 2 * p)) (at winners (start + (2 * p + 1))))
+abbrev pub Decided : ℕ → ℕ → List ℕ → List ℕ → Type 0
+Decided start p winners winners′ = winners′ ≡ set winners (start + p) (min (at winners (start + 2 * p)) (at winners (start + (2 * p + 1))))
 
 -- k is the smallest key of r, if that is an inner region: the leaves' own keys do not matter
 abbrev pub IsMinKey : Division → List ℕ → ℕ → ℕ → Type 0
@@ -68,10 +72,10 @@ pub record ParentsOf (d : Division) (parents : List ℕ) : Type 0 where
   pub all : length parents ≡ regions d
   pub same : (c : ℕ) → 0 < c → c < regions d → at parents c ≡ parent d c
 
--- The rows of the regions, as far as parent and number of children go.
+-- The rows of the regions, as far as parent and number of children go. The list may be longer.
 pub record Counted (d : Division) (rows : List ℕ) : Type 0 where
   pub numbered : Numbered d
-  pub all : length rows ≡ 4 * regions d
+  pub all : 4 * regions d ≤ length rows
   pub parents : (c : ℕ) → 0 < c → c < regions d → field rows c 0 ≡ parent d c
   pub counts : (r : ℕ) → r < regions d → field rows r 1 ≡ childCount d r
 
@@ -91,30 +95,28 @@ pub record Planned (d : Division) (rows : List ℕ) : Type 0 where
   pub starts : (r : ℕ) → r < regions d → field rows r 2 ≡ treeStart d r
   pub seats : (c : ℕ) → 0 < c → c < regions d → field rows c 3 ≡ seat d c
 
--- Each region but 0 stands at its place in its parent's tree, and every place, used or not, names a region.
-pub record Seated (d : Division) (winners : List ℕ) : Type 0 where
-  pub all : length winners ≡ 2 * regions d
-  pub named : (i : ℕ) → i < length winners → at winners i < regions d
-  pub stands : (c : ℕ) → 0 < c → c < regions d → place d winners (parent d c) (seat d c) ≡ c
-
--- rows and winners are laid out for the division
+-- The rows are planned for the division, and winners has two places for each region.
 pub record LaidOut (d : Division) (rows winners : List ℕ) : Type 0 where
   pub planned : Planned d rows
-  pub seated : Seated d winners
+  pub room : 2 * regions d ≤ length winners
 
--- The queues are valid: rows and winners are laid out, there is a key for each region, and every place holds what it should.
+-- The queues are valid: there is a key of 32 bits for each region, each region but 0 stands with its key at its place in its parent's tree, and
+-- every place above holds what it should.
 pub record QueuesOk (d : Division) (rows keys winners : List ℕ) : Type 0 where
   pub laid : LaidOut d rows winners
   pub keyed : length keys ≡ regions d
-  pub wins : (r p : ℕ) → 0 < p → p < childCount d r → Wins d keys winners r p
+  pub fit : (c : ℕ) → at keys c < 4294967296
+  pub stands : (c : ℕ) → 0 < c → c < regions d → place d winners (parent d c) (seat d c) ≡ entry keys c
+  pub wins : (r p : ℕ) → 0 < p → p < childCount d r → Wins d winners r p
 
--- The trees of the regions below n are valid.
-pub record ValidBelow (d : Division) (rows keys winners : List ℕ) (n : ℕ) : Type 0 where
+-- The same, but for the places above: the children are entered,
+pub record Entered (d : Division) (rows keys winners : List ℕ) : Type 0 where
   pub laid : LaidOut d rows winners
   pub keyed : length keys ≡ regions d
-  pub wins : (r p : ℕ) → r < n → 0 < p → p < childCount d r → Wins d keys winners r p
+  pub fit : (c : ℕ) → at keys c < 4294967296
+  pub stands : (c : ℕ) → 0 < c → c < regions d → place d winners (parent d c) (seat d c) ≡ entry keys c
 
--- The keys after key k was written for region c, and the winners: valid queues stay valid.
-pub record Written (rows keys winners : List ℕ) (c k : ℕ) (keys′ winners′ : List ℕ) : Type 0 where
-  pub result : keys′ ≡ set keys c k
-  pub valid : (d : Division) → QueuesOk d rows keys winners → QueuesOk d rows keys′ winners′
+-- and then the trees of the regions below n are valid.
+pub record ValidBelow (d : Division) (rows keys winners : List ℕ) (n : ℕ) : Type 0 where
+  pub entered : Entered d rows keys winners
+  pub wins : (r p : ℕ) → r < n → 0 < p → p < childCount d r → Wins d winners r p

@@ -1,40 +1,43 @@
 -- `build_tree` meets its contract: the places of the tree are decided from the last one down. Assumes nothing.
 use Prim.Native.Nat.{ℕ}
-use mathlib.Core.Path.{_≡_, sym, _∙_}
+use mathlib.Core.Path.{_≡_, refl}
+use mathlib.Core.List.{List}
 use borrow.Author.Needs.{needs}
 use native.Mathlib.Omega.{arith}
+use lib.ListN.{length}
 use Rattle.procedure.specs.Division.{Division}
 use Rattle.rows.specs.Rows.{field}
-use Rattle.queue.proofs.Repair.{same-regions, Building, building-start, building-bounds, building-step, building-end}
 use Rattle.queue.proofs.Reading.{row-in}
+use Rattle.queue.proofs.Repair.{Building, building-start, building-in, building-step, building-end}
 use Rattle.queue.proofs.build_tree.Statement.{statement}
 use Rattle.queue.proofs.build_tree.Tie as tie
 
 abbrev Inv-loop : tie.InvT-loop
-Inv-loop rows keys winners₀ start rest₀ winners rest =
-    (d : Division) (r : ℕ) → start ≡ field rows r 2 → Building d r rows keys winners₀ rest₀ → Building d r rows keys winners rest
+Inv-loop rows winners₀ start rest₀ winners rest =
+    (length winners ≡ length winners₀)
+    × ((d : Division) (keys : List ℕ) (r : ℕ) → start ≡ field rows r 2 → Building d r rows keys winners₀ rest₀ → Building d r rows keys winners rest)
 
 abbrev μ-loop : tie.MeasureT-loop
-μ-loop rows keys winners₀ start rest₀ winners rest = rest
+μ-loop rows winners₀ start rest₀ winners rest = rest
 
 start-of-requires : tie.Need-start-of-requires Inv-loop μ-loop
 start-of-requires c κs =
-    let pre = c .before .before .before .pre in
-    row-in _ (pre .1 .laid .planned .counted) (pre .2)
+    let pre = c .before .before .pre in
+    row-in _ (pre .2 .entered .laid .planned .counted) (pre .3)
 
 cast-start : tie.Need-cast-start Inv-loop μ-loop
 cast-start c = search needs
 
 children-of-requires : tie.Need-children-of-requires Inv-loop μ-loop
 children-of-requires c κs =
-    let pre = c .before .before .before .before .pre in
-    row-in _ (pre .1 .laid .planned .counted) (pre .2)
+    let pre = c .before .before .before .pre in
+    row-in _ (pre .2 .entered .laid .planned .counted) (pre .3)
 
 cast-rest : tie.Need-cast-rest Inv-loop μ-loop
 cast-rest c = search needs
 
 loop-holds : tie.Need-loop-holds Inv-loop μ-loop
-loop-holds c = λ d r row B. B
+loop-holds c = (refl, λ d keys r row B. B)
 
 sub-rest : tie.Need-sub-rest Inv-loop μ-loop
 sub-rest c = search needs
@@ -42,12 +45,11 @@ sub-rest c = search needs
 decide-requires : tie.Need-decide-requires Inv-loop μ-loop
 decide-requires c κs =
     let earlier = c .before .before .before .before in
-    let pre = earlier .before .before .before .before .pre in
+    let pre = earlier .before .before .before .pre in
     let start-of = earlier .start-of in
     let children-of = c .before .before .before .children-of in
-    let now = c .before .before .loop .inv (pre .0) _ (start-of .ensures) (building-start _ _ (pre .1) (pre .2) (children-of .ensures)) in
-    let b = building-bounds now _ (start-of .ensures) (c .before .loop-test .taken) in
-    (b .second, b .named)
+    let begin = building-start _ _ (pre .2) (pre .3) (children-of .ensures) in
+    building-in (c .before .before .loop .inv .1 (pre .0) (pre .1) _ (start-of .ensures) begin) _ (start-of .ensures) (c .before .loop-test .taken)
 
 loop-less : tie.Need-loop-less Inv-loop μ-loop
 loop-less c =
@@ -58,26 +60,20 @@ loop-again : tie.Need-loop-again Inv-loop μ-loop
 loop-again c =
     let earlier = c .before .before .before .before in
     let loop = earlier .before .loop in
-    let loop-test = earlier .loop-test in
-    λ d r row B. building-step (loop .inv d r row B) _ row (loop-test .taken) _ (c .before .before .decide .ensures d)
+    let decide = c .before .before .decide in (
+      omega (arith, decide .kept, loop .inv .0),
+      λ d keys r row B. building-step (loop .inv .1 d keys r row B) _ row (earlier .loop-test .taken) _ (decide .ensures),
+    )
 
 same-length : tie.Need-same-length Inv-loop μ-loop
-same-length c =
-    let earlier = c .before .before .before .before in
-    let pre = earlier .before .before .before .pre in
-    let start-of = c .before .before .before .start-of in
-    let now = c .before .loop .inv (pre .0) _ (start-of .ensures) (building-start _ _ (pre .1) (pre .2) (c .before .before .children-of .ensures)) in
-    now .valid .laid .seated .all ∙ sym (pre .1 .laid .seated .all)
+same-length c = c .before .loop .inv .0
 
 returns : tie.Need-returns Inv-loop μ-loop
 returns c =
-    let earlier = c .before .before .before .before in
-    let pre = earlier .before .before .before .pre in
     let start-of = c .before .before .before .start-of in
-    λ d B.
-    let inside = same-regions (B .laid .planned .counted) (pre .1 .laid .planned .counted) in
-    let begin = building-start _ _ B (omega (arith, pre .2)) (c .before .before .children-of .ensures) in
-    building-end (c .before .loop .inv d _ (start-of .ensures) begin) (c .loop-test .left)
+    λ d keys B inside.
+    let begin = building-start _ _ B inside (c .before .before .children-of .ensures) in
+    building-end (c .before .loop .inv .1 d keys _ (start-of .ensures) begin) (c .loop-test .left)
 
 pub build-tree-spec : {M : Type 1} → statement M
 build-tree-spec =

@@ -1,36 +1,79 @@
--- `clear` meets its contract, by those of `fill_keys` and `build`. Assumes nothing.
-use mathlib.Core.Path.{_∙_}
+-- `clear` meets its contract: the children are entered, and the trees of the regions passed are valid. Assumes nothing.
+use Prim.Native.Nat.{ℕ, _-_}
+use mathlib.Core.Path.{_≡_, refl}
+use mathlib.Core.List.{List}
 use borrow.Author.Needs.{needs}
-use Rattle.sheet.specs.Words.{top}
-use Rattle.rows.proofs.Filled.{filled-length}
+use native.Mathlib.Omega.{arith}
+use lib.ListN.{length}
+use Rattle.procedure.specs.Division.{Division, regions}
+use Rattle.queue.specs.Trees.{Entered, ValidBelow}
+use Rattle.queue.proofs.Repair.{valid-none, valid-regions}
 use Rattle.queue.proofs.clear.Statement.{statement}
 use Rattle.queue.proofs.clear.Tie as tie
 
-fill-keys-requires : tie.Need-fill-keys-requires
-fill-keys-requires c κs = search needs
+abbrev Inv-loop : tie.InvT-loop
+Inv-loop rows winners₀ count r₀ winners r =
+    (length winners ≡ length winners₀)
+    × ((d : Division) (keys : List ℕ) → count ≡ regions d → Entered d rows keys winners₀ → ValidBelow d rows keys winners r)
 
-build-requires : tie.Need-build-requires
-build-requires c κs =
-    let earlier = c .before .before .before .before in
-    let early = earlier .before .before .before .before in
-    let pre = early .before .pre in
-    let args = early .before .args in
-    let fill-keys = earlier .fill-keys in
-    (pre .0, pre .1, filled-length (args .keys .now) _ 268435455 (fill-keys .ensures) ∙ pre .2)
+abbrev μ-loop : tie.MeasureT-loop
+μ-loop rows winners₀ count r₀ winners r = count - r
 
-same-length : tie.Need-same-length
-same-length c = search needs
+enter-children-requires : tie.Need-enter-children-requires Inv-loop μ-loop
+enter-children-requires c κs = search needs
 
-same-length-2 : tie.Need-same-length-2
-same-length-2 c = search needs
+loop-holds : tie.Need-loop-holds Inv-loop μ-loop
+loop-holds c = (refl, λ d keys e E. valid-none E)
 
-returns : tie.Need-returns
-unfolding top
+build-tree-requires : tie.Need-build-tree-requires Inv-loop μ-loop
+build-tree-requires c κs =
+    let entry = c .before .before .before .before in
+    let entered = entry .before in
+    let pre = entered .before .before .before .before .pre in
+    let pass = c .before in
+    let start = entered .enter-children .ensures (pre .0) (pre .1) (pre .2) in
+    (pre .0, _, pass .before .loop .inv .1 (pre .0) _ (pre .2) start, omega (arith, pass .loop-test .taken, pre .2))
+
+add-r : tie.Need-add-r Inv-loop μ-loop
+add-r c =
+    let pass = c .before .before .before .before in
+    omega (arith, pass .loop-test .taken)
+
+loop-less : tie.Need-loop-less Inv-loop μ-loop
+loop-less c =
+    let pass = c .before .before .before .before in
+    omega (arith, pass .loop-test .taken)
+
+loop-again : tie.Need-loop-again Inv-loop μ-loop
+loop-again c =
+    let build-tree = c .before .before .build-tree in
+    let pass = c .before .before .before .before in
+    let loop = pass .before .loop in (
+      omega (arith, build-tree .kept, loop .inv .0),
+      λ d keys e E. build-tree .ensures d keys (loop .inv .1 d keys e E) (omega (arith, pass .loop-test .taken, e)),
+    )
+
+same-length : tie.Need-same-length Inv-loop μ-loop
+same-length c =
+    let entered = c .before .before .before .before in
+    omega (arith, entered .enter-children .kept, c .before .loop .inv .0)
+
+returns : tie.Need-returns Inv-loop μ-loop
 returns c =
-    let earlier = c .before .before .before .before in
-    let fill-keys = earlier .before .before .before .fill-keys in
-    (fill-keys .ensures, λ d L. c .before .before .build .ensures d L)
+    let entered = c .before .before .before .before in
+    λ d L e. valid-regions (c .before .loop .inv .1 d _ e (entered .enter-children .ensures d L e)) (omega (arith, c .loop-test .left, e))
 
 pub clear-spec : {M : Type 1} → statement M
 clear-spec =
-    tie.close (tie.spec fill-keys-requires build-requires same-length same-length-2 returns)
+    tie.close
+    (tie.spec
+    Inv-loop
+    μ-loop
+    enter-children-requires
+    loop-holds
+    build-tree-requires
+    add-r
+    loop-less
+    loop-again
+    same-length
+    returns)

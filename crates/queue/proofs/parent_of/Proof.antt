@@ -1,8 +1,6 @@
 -- `parent_of` meets its contract: the first entry of a row is the parent. Assumes nothing.
 use mathlib.Core.Path.{_∙_}
 use native.Mathlib.Omega.{arith}
-use Rattle.rows.specs.Rows.{field}
-use Rattle.queue.proofs.Repair.{same-regions}
 use Rattle.queue.proofs.Reading.{row-in}
 use Rattle.queue.proofs.parent_of.Statement.{statement}
 use Rattle.queue.proofs.parent_of.Tie as tie
@@ -11,10 +9,7 @@ field-requires : tie.Need-field-requires
 field-requires c κs = (omega arith, row-in _ (c .before .pre .1) (c .before .pre .3))
 
 returns : tie.Need-returns
-returns c =
-    λ d C.
-    let inside = same-regions C (c .before .before .pre .1) in
-    c .field .ensures ∙ C .parents _ (c .before .before .pre .2) (omega (arith, c .before .before .pre .3))
+returns c = λ d C inside. c .field .ensures ∙ C .parents _ (c .before .before .pre .2) inside
 
 pub parent-of-spec : {M : Type 1} → statement M
 parent-of-spec = tie.close (tie.spec field-requires returns)

@@ -1,120 +1,185 @@
--- `write` meets its contract: the loop repairs the places above the child, one after the other. Assumes nothing.
-use Prim.Native.Nat.{ℕ}
-use mathlib.Core.Path.{_≡_, refl, sym, _∙_}
+-- `write` meets its contract: the loop repairs the places above the child, one after the other, until one does not change. Assumes nothing.
+use Prim.Native.Nat.{ℕ, _/_, _<_}
+use mathlib.Core.Path.{_≡_, refl}
+use mathlib.Core.List.{List}
 use borrow.Author.Needs.{needs}
 use native.Mathlib.Omega.{arith}
-use lib.ListN.{length-set}
-use Rattle.procedure.specs.Division.{Division}
+use lib.ListN.{length, set, length-set}
+use Rattle.procedure.specs.Division.{Division, regions, parent}
 use Rattle.rows.specs.Rows.{field}
-use Rattle.queue.proofs.Repair.{same-regions, Repairing, repair-start, repair-bounds, repair-step, repair-end}
+use Rattle.queue.specs.Trees.{QueuesOk}
 use Rattle.queue.proofs.Reading.{row-in}
+use Rattle.queue.proofs.Repair.{up-row, seat-inside}
+use Rattle.queue.proofs.Repair.{Repairing, repair-start, repair-small, PlaceBounds, repair-bounds, repair-done, repair-step, repair-end}
 use Rattle.queue.proofs.write.Statement.{statement}
 use Rattle.queue.proofs.write.Tie as tie
 
 abbrev Inv-loop : tie.InvT-loop
-Inv-loop rows keys winners₀ key c start place₀ winners place =
-    (d : Division) (r : ℕ) → start ≡ field rows r 2 → Repairing d r rows keys winners₀ place₀ → Repairing d r rows keys winners place
+Inv-loop rows winners₀ key start place₀ best₀ winners place best =
+    (length winners ≡ length winners₀)
+    × ((d : Division) (keys : List ℕ) (r : ℕ) → start ≡ field rows r 2 → Repairing d r rows keys winners₀ place₀ best₀
+    → Repairing d r rows keys winners place best)
 
 abbrev μ-loop : tie.MeasureT-loop
-μ-loop rows keys winners₀ key c start place₀ winners place = place
+μ-loop rows winners₀ key start place₀ best₀ winners place best = place
 
-cast-c : tie.Need-cast-c Inv-loop μ-loop
-cast-c c = search needs
+-- where the function begins, as seen from the call of `parent_of` and from the loop
+abbrev called : tie.After-parent-of Inv-loop μ-loop → tie.Start Inv-loop μ-loop
+called c = c .before .before .before
 
-mul-keys : tie.Need-mul-keys Inv-loop μ-loop
-mul-keys c = search needs
+abbrev over : tie.At-loop Inv-loop μ-loop → tie.After-parent-of Inv-loop μ-loop
+over c = c .before .before .before .before
 
-slice-write-keys : tie.Need-slice-write-keys Inv-loop μ-loop
-slice-write-keys c =
-    let pre = c .before .before .before .before .pre in
-    omega (arith, pre .1 .keyed, pre .3)
+abbrev entry : tie.At-loop Inv-loop μ-loop → tie.Start Inv-loop μ-loop
+entry c = called (over c)
+
+-- the turn of the loop
+abbrev turn : tie.After-lower Inv-loop μ-loop → tie.In-loop Inv-loop μ-loop
+turn c = c .before .before .before
+
+-- queues that were valid at the call, and those given
+abbrev Valid : tie.Start Inv-loop μ-loop → Division → List ℕ → Type 0
+Valid s d keys = QueuesOk d (s .args .rows .now) keys (s .args .winners .now) × (s .args .child .0 < regions d)
+
+given : (s : tie.Start Inv-loop μ-loop) → Valid s (s .pre .0) (s .pre .1)
+given s = (s .pre .2, s .pre .4)
+
+up-is : (c : tie.After-parent-of Inv-loop μ-loop) (d : Division) (keys : List ℕ) → Valid (called c) d keys
+    → c .parent-of .result .0 ≡ parent d (called c .args .child .0)
+up-is c d keys Q = c .parent-of .ensures d (Q .0 .laid .planned .counted) (Q .1)
+
+-- the row of the parent says where the tree begins
+abbrev first : tie.At-loop Inv-loop μ-loop → ℕ
+first c = c .before .before .before .start-of .result
+
+row : (c : tie.At-loop Inv-loop μ-loop) → first c ≡ field (entry c .args .rows .now) (over c .parent-of .result .0) 2
+row c = c .before .before .before .start-of .ensures
+
+-- the invariant for queues that were valid at the call
+now : (c : tie.At-loop Inv-loop μ-loop) (d : Division) (keys : List ℕ) → Valid (entry c) d keys
+    → Repairing d (over c .parent-of .result .0) (entry c .args .rows .now) (set keys (entry c .args .child .0) (entry c .args .key))
+    (c .loop .winners) (c .loop .place) (c .loop .best)
+now c d keys Q =
+    let s = entry c in
+    c .loop .inv .1 d _ _ (row c)
+    (repair-start _ _ _ _ _ _ (Q .0) (s .pre .3) (Q .1) (omega (arith, s .fits)) (up-is (over c) d keys Q) (row c) (c .before .before .seat-of .ensures)
+    (c .before .entry-of .ensures))
+
+long : (c : tie.At-loop Inv-loop μ-loop) → length (c .loop .winners) ≡ length (entry c .args .winners .now)
+long c = simp length-set at (c .loop .inv .0)
+
+-- the place beside this one, and the place above
+beside : (c : tie.After-sibling Inv-loop μ-loop) → PlaceBounds (c .before .before .loop .winners) (first (c .before .before)) (c .sibling .result)
+beside c =
+    let loop = c .before .before in
+    repair-bounds (now loop _ _ (given (entry loop))) _ (row loop) _ (omega (arith, c .sibling .ensures .above))
+
+above : (c : tie.At-loop Inv-loop μ-loop) → PlaceBounds (c .loop .winners) (first c) (c .loop .place / 2)
+above c = repair-bounds (now c _ _ (given (entry c))) _ (row c) (c .loop .place / 2) (omega arith)
 
 parent-of-requires : tie.Need-parent-of-requires Inv-loop μ-loop
 parent-of-requires c κs =
-    let pre = c .before .before .before .before .pre in
-    (pre .0, pre .1 .laid .planned .counted, pre .2, pre .3)
+    let pre = c .before .before .pre in
+    (pre .0, pre .2 .laid .planned .counted, pre .3, pre .4)
 
 start-of-requires : tie.Need-start-of-requires Inv-loop μ-loop
 start-of-requires c κs =
-    let earlier = c .before .before .before .before in
-    let pre = earlier .before .pre in
-    let counted = pre .1 .laid .planned .counted in
-    row-in _ counted
-    (omega (arith, c .parent-of .ensures (pre .0) counted, counted .numbered .lower _ (pre .2) (pre .3), pre .3))
+    let pre = called c .pre in
+    up-row (pre .2 .laid .planned) _ _ (pre .3) (pre .4) (up-is c _ _ (given (called c)))
 
 cast-start : tie.Need-cast-start Inv-loop μ-loop
 cast-start c = search needs
 
 seat-of-requires : tie.Need-seat-of-requires Inv-loop μ-loop
 seat-of-requires c κs =
-    let earlier = c .before .before .before .before in
-    let pre = earlier .before .before .pre in
-    row-in _ (pre .1 .laid .planned .counted) (pre .3)
+    let pre = called (c .before) .pre in
+    row-in _ (pre .2 .laid .planned .counted) (pre .4)
 
 cast-place : tie.Need-cast-place Inv-loop μ-loop
 cast-place c = search needs
 
+entry-of-requires : tie.Need-entry-of-requires Inv-loop μ-loop
+entry-of-requires c κs = search needs
+
+add-winners : tie.Need-add-winners Inv-loop μ-loop
+add-winners c = search needs
+
+mul-winners : tie.Need-mul-winners Inv-loop μ-loop
+mul-winners c = search needs
+
+slice-write-winners : tie.Need-slice-write-winners Inv-loop μ-loop
+slice-write-winners c =
+    let up = c .before .before .before in
+    let pre = called up .pre in
+    seat-inside (pre .2 .laid .planned) _ _ (pre .3) (pre .4) (up-is up _ _ (given (called up))) _ _ (c .before .before .start-of .ensures)
+    (c .before .seat-of .ensures) (pre .2 .laid)
+
 loop-holds : tie.Need-loop-holds Inv-loop μ-loop
-loop-holds c = λ d r row R. R
+loop-holds c = (refl, λ d keys r row R. R)
 
-decide-requires : tie.Need-decide-requires Inv-loop μ-loop
-decide-requires c κs =
-    let earlier = c .before .before .before .before in
-    let early = earlier .before .before .before .before in
-    let parent-of = earlier .before .before .parent-of in
-    let pre = early .before .before .before .pre in
-    let seat-of = earlier .seat-of in
-    let loop = c .before .before .before .loop in
-    let start-of = earlier .before .start-of in
-    let over = parent-of .ensures (pre .0) (pre .1 .laid .planned .counted) in
-    let begin = repair-start _ _ _ _ (pre .1) (pre .2) (pre .3) over (seat-of .ensures) in
-    let now = loop .inv (pre .0) (parent-of .result .0) (start-of .ensures) begin in
-    let b = repair-bounds now _ (start-of .ensures) (omega (arith, c .before .before .loop-test .taken)) in
-    (b .second, b .named)
+sibling-requires : tie.Need-sibling-requires Inv-loop μ-loop
+sibling-requires c κs = repair-small (now (c .before) _ _ (given (entry (c .before)))) _ (row (c .before))
 
-loop-less : tie.Need-loop-less Inv-loop μ-loop
-loop-less c =
-    let earlier = c .before .before .before .before in
-    let loop-test = earlier .before .loop-test in
-    omega (arith, loop-test .taken)
+add-lower : tie.Need-add-lower Inv-loop μ-loop
+add-lower c = omega (arith, beside c .fits)
 
-loop-again : tie.Need-loop-again Inv-loop μ-loop
-loop-again c =
-    let earlier = c .before .before .before .before in
-    let loop = earlier .before .before .loop in
-    let loop-test = earlier .before .loop-test in
-    λ d r row R. repair-step (loop .inv d r row R) _ row (omega (arith, loop-test .taken)) _ (c .before .before .decide .ensures d)
+mul-lower : tie.Need-mul-lower Inv-loop μ-loop
+mul-lower c = omega (arith, beside c .fits)
+
+slice-read-lower : tie.Need-slice-read-lower Inv-loop μ-loop
+slice-read-lower c = beside (c .before) .inside
+
+lower-requires : tie.Need-lower-requires Inv-loop μ-loop
+lower-requires c κs = search needs
+
+add-if1 : tie.Need-add-if1 Inv-loop μ-loop
+add-if1 c = omega (arith, above (turn c .before) .fits)
+
+mul-if1 : tie.Need-mul-if1 Inv-loop μ-loop
+mul-if1 c = omega (arith, above (turn c .before) .fits)
+
+slice-read-if1 : tie.Need-slice-read-if1 Inv-loop μ-loop
+slice-read-if1 c = above (turn (c .before) .before) .inside
 
 same-length : tie.Need-same-length Inv-loop μ-loop
-same-length c = simp length-set
-
-same-length-2 : tie.Need-same-length-2 Inv-loop μ-loop
-same-length-2 c =
-    let earlier = c .before .before .before .before in
-    let early = earlier .before .before .before .before in
-    let parent-of = earlier .parent-of in
-    let pre = early .before .pre in
-    let start-of = c .before .before .before .start-of in
-    let over = parent-of .ensures (pre .0) (pre .1 .laid .planned .counted) in
-    let begin = repair-start _ _ _ _ (pre .1) (pre .2) (pre .3) over (c .before .before .seat-of .ensures) in
-    let now = c .before .loop .inv (pre .0) (parent-of .result .0) (start-of .ensures) begin in
-    now .valid .laid .seated .all ∙ sym (pre .1 .laid .seated .all)
+same-length c = long (turn (c .before .before) .before)
 
 returns : tie.Need-returns Inv-loop μ-loop
 returns c =
-    let earlier = c .before .before .before .before in
-    let early = earlier .before .before .before .before in
-    let pre = early .before .pre in
-    let parent-of = earlier .parent-of in
-    let start-of = c .before .before .before .start-of in
-    record {
-      result = refl;
-      valid = λ d Q.
-          let counted = Q .laid .planned .counted in
-          let inside = same-regions counted (pre .1 .laid .planned .counted) in
-          let begin = repair-start _ _ _ _ Q (pre .2) (omega (arith, pre .3)) (parent-of .ensures d counted) (c .before .before .seat-of .ensures) in
-          repair-end (c .before .loop .inv d (parent-of .result .0) (start-of .ensures) begin) (omega (arith, c .loop-test .left));
-    }
+    let lower = c .before .before in
+    let pass = turn lower in
+    let other = lower .before .before .sibling in
+    let big : 1 < pass .before .loop .place = omega (arith, pass .loop-test .taken) in
+    λ d keys Q inside.
+    repair-done (now (pass .before) d keys (Q, inside)) _ (row (pass .before)) _ _ big (other .ensures) (lower .lower .ensures) (c .if1 .taken)
+
+add-winners-2 : tie.Need-add-winners-2 Inv-loop μ-loop
+add-winners-2 c = omega (arith, above (turn (c .before .before) .before) .fits)
+
+mul-winners-2 : tie.Need-mul-winners-2 Inv-loop μ-loop
+mul-winners-2 c = omega (arith, above (turn (c .before .before) .before) .fits)
+
+slice-write-winners-2 : tie.Need-slice-write-winners-2 Inv-loop μ-loop
+slice-write-winners-2 c = above (turn (c .before .before) .before) .inside
+
+loop-less : tie.Need-loop-less Inv-loop μ-loop
+loop-less c = omega (arith, turn (c .before .before) .loop-test .taken)
+
+loop-again : tie.Need-loop-again Inv-loop μ-loop
+loop-again c =
+    let lower = c .before .before in
+    let pass = turn lower in
+    let other = lower .before .before .sibling in
+    let big : 1 < pass .before .loop .place = omega (arith, pass .loop-test .taken) in (
+      simp length-set (long (pass .before)),
+      λ d keys r row R. repair-step (pass .before .loop .inv .1 d keys r row R) _ row _ _ big (other .ensures) (lower .lower .ensures),
+    )
+
+same-length-2 : tie.Need-same-length-2 Inv-loop μ-loop
+same-length-2 c = long (c .before)
+
+returns-2 : tie.Need-returns-2 Inv-loop μ-loop
+returns-2 c = λ d keys Q inside. repair-end (now (c .before) d keys (Q, inside)) (omega (arith, c .loop-test .left))
 
 pub write-spec : {M : Type 1} → statement M
 write-spec =
@@ -122,18 +187,30 @@ write-spec =
     (tie.spec
     Inv-loop
     μ-loop
-    cast-c
-    mul-keys
-    slice-write-keys
     parent-of-requires
     start-of-requires
     cast-start
     seat-of-requires
     cast-place
+    entry-of-requires
+    add-winners
+    mul-winners
+    slice-write-winners
     loop-holds
-    decide-requires
+    sibling-requires
+    add-lower
+    mul-lower
+    slice-read-lower
+    lower-requires
+    add-if1
+    mul-if1
+    slice-read-if1
+    same-length
+    returns
+    add-winners-2
+    mul-winners-2
+    slice-write-winners-2
     loop-less
     loop-again
-    same-length
     same-length-2
-    returns)
+    returns-2)

@@ -1,0 +1,119 @@
+-- `enter_children` meets its contract: the regions passed stand at their places with key none. Assumes nothing.
+use Prim.Native.Nat.{_-_, _<_}
+use mathlib.Core.Path.{_≡_, refl}
+use borrow.Author.Needs.{needs}
+use native.Mathlib.Omega.{arith}
+use lib.ListN.{length, length-set}
+use Rattle.procedure.specs.Division.{Division, regions, parent}
+use Rattle.queue.specs.Trees.{LaidOut}
+use Rattle.queue.proofs.Reading.{row-in}
+use Rattle.queue.proofs.Repair.{up-row, seat-inside, Entering, entering-start, entering-step, entering-end}
+use Rattle.queue.proofs.enter_children.Statement.{statement}
+use Rattle.queue.proofs.enter_children.Tie as tie
+
+abbrev Inv-loop : tie.InvT-loop
+Inv-loop rows winners₀ count c₀ winners c =
+    (length winners ≡ length winners₀) × ((d : Division) → LaidOut d rows winners₀ → count ≡ regions d → Entering d rows winners c)
+
+abbrev μ-loop : tie.MeasureT-loop
+μ-loop rows winners₀ count c₀ winners c = count - c
+
+-- where the function begins
+abbrev entry : tie.In-loop Inv-loop μ-loop → tie.Start Inv-loop μ-loop
+entry c = c .before .before .before .before
+
+-- the invariant for the given division
+now : (c : tie.In-loop Inv-loop μ-loop) → Entering (entry c .pre .0) (entry c .args .rows .now) (c .before .loop .winners) (c .before .loop .c)
+now c = c .before .loop .inv .1 (entry c .pre .0) (entry c .pre .1) (entry c .pre .2)
+
+inside : (c : tie.In-loop Inv-loop μ-loop) → c .before .loop .c < regions (entry c .pre .0)
+inside c = omega (arith, c .loop-test .taken, entry c .pre .2)
+
+over : (c : tie.After-parent-of Inv-loop μ-loop) → c .parent-of .result .0 ≡ parent (entry (c .before) .pre .0) (c .before .before .loop .c)
+over c = c .parent-of .ensures _ (now (c .before) .laid .planned .counted) (inside (c .before))
+
+loop-holds : tie.Need-loop-holds Inv-loop μ-loop
+loop-holds c = (refl, λ d L _. entering-start L)
+
+parent-of-requires : tie.Need-parent-of-requires Inv-loop μ-loop
+parent-of-requires c κs = (_, now c .laid .planned .counted, now c .above, inside c)
+
+start-of-requires : tie.Need-start-of-requires Inv-loop μ-loop
+start-of-requires c κs = up-row (now (c .before) .laid .planned) _ _ (now (c .before) .above) (inside (c .before)) (over c)
+
+cast-start : tie.Need-cast-start Inv-loop μ-loop
+cast-start c = search needs
+
+seat-of-requires : tie.Need-seat-of-requires Inv-loop μ-loop
+seat-of-requires c κs =
+    let pass = c .before .before in
+    row-in _ (now pass .laid .planned .counted) (inside pass)
+
+cast-place : tie.Need-cast-place Inv-loop μ-loop
+cast-place c = search needs
+
+entry-of-requires : tie.Need-entry-of-requires Inv-loop μ-loop
+entry-of-requires c κs = search needs
+
+add-winners : tie.Need-add-winners Inv-loop μ-loop
+add-winners c = search needs
+
+mul-winners : tie.Need-mul-winners Inv-loop μ-loop
+mul-winners c = search needs
+
+slice-write-winners : tie.Need-slice-write-winners Inv-loop μ-loop
+slice-write-winners c =
+    let up = c .before .before .before in
+    let E = now (up .before) in
+    seat-inside (E .laid .planned) _ _ (E .above) (inside (up .before)) (over up) _ _ (c .before .before .start-of .ensures) (c .before .seat-of .ensures)
+    (E .laid)
+
+add-c : tie.Need-add-c Inv-loop μ-loop
+add-c c =
+    let loop-test = c .before .before .before .before .loop-test in
+    omega (arith, loop-test .taken)
+
+loop-less : tie.Need-loop-less Inv-loop μ-loop
+loop-less c =
+    let loop-test = c .before .before .before .before .loop-test in
+    omega (arith, loop-test .taken)
+
+loop-again : tie.Need-loop-again Inv-loop μ-loop
+loop-again c =
+    let pass = c .before .before .before .before in
+    let loop = pass .before .loop in (
+      simp length-set (loop .inv .0),
+      λ d L e.
+          let E = loop .inv .1 d L e in
+          let inside : loop .c < regions d = omega (arith, pass .loop-test .taken, e) in
+          let over = c .before .before .before .parent-of .ensures d (L .planned .counted) inside in
+          entering-step E inside _ _ _ over (c .before .before .start-of .ensures) (c .before .seat-of .ensures) _ (c .entry-of .ensures),
+    )
+
+same-length : tie.Need-same-length Inv-loop μ-loop
+same-length c = c .before .loop .inv .0
+
+returns : tie.Need-returns Inv-loop μ-loop
+returns c = λ d L e. entering-end (c .before .loop .inv .1 d L e) (omega (arith, c .loop-test .left, e))
+
+pub enter-children-spec : {M : Type 1} → statement M
+enter-children-spec =
+    tie.close
+    (tie.spec
+    Inv-loop
+    μ-loop
+    loop-holds
+    parent-of-requires
+    start-of-requires
+    cast-start
+    seat-of-requires
+    cast-place
+    entry-of-requires
+    add-winners
+    mul-winners
+    slice-write-winners
+    add-c
+    loop-less
+    loop-again
+    same-length
+    returns)
