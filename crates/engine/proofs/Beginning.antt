@@ -47,7 +47,7 @@ filled n {m = m} e long l =
     let parts : n + (m - n) ≡ m = omega arith in
     rw (e, long, ← parts, ← replicate-append-replicate n (m - n) top) (take-at (replicate n top) (replicate (m - n) top) n (length-replicate n top))
 
-module _ {g : Graph} {d : Division} {t : Tables} {keys winners : List ℕ} (B : Blank g d t keys winners) where
+module _ {g : Graph} {d : Division} {t : Tables} {winners : List ℕ} (B : Blank g d t winners) where
   pub nodes-filled : {k : ℕ} {ys : List ℕ} → ys ≡ replicate k top → k ≡ 1024 → take (g .nodes) ys ≡ replicate (g .nodes) top
   nodes-filled e long = filled (g .nodes) e long (B .tabled .ok .graph .few-nodes)
 
@@ -65,13 +65,13 @@ module _ {g : Graph} {d : Division} {t : Tables} {keys winners : List ℕ} (B : 
     source-in = omega (arith, source-node, B .tabled .ok .graph .few-nodes)
 
     -- arrays filled with 'none', in place of the ones that were lent
-    module _ (labels predecessors own : List ℕ) {keys′ winners′ : List ℕ} (el : take (g .nodes) labels ≡ replicate (g .nodes) top)
+    module _ (labels predecessors own : List ℕ) {winners′ : List ℕ} (el : take (g .nodes) labels ≡ replicate (g .nodes) top)
         (ep : take (g .nodes) predecessors ≡ replicate (g .nodes) top) (eo : take (arcs g) own ≡ replicate (arcs g) top)
-        (ek : keys′ ≡ replicate (length keys) top) (Q : QueuesOk d (t .rows) keys′ winners′) where
-      is-blank : queuesIn g own keys′ 0 ≡ noKeys g d
-      is-blank = rw (eo, ek, B .keyed)
+        (Q : QueuesOk d (t .rows) (replicate (regions d) top) winners′) where
+      is-blank : queuesIn g own (replicate (regions d) top) 0 ≡ noKeys g d
+      is-blank = rw eo
 
-      pub start-asks : UpdatingOutgoing g d (t .rows) (t .arcRows) (t .firsts) (queuesIn g own keys′ 0) winners′ source 0
+      pub start-asks : UpdatingOutgoing g d (t .rows) (t .arcRows) (t .firsts) (queuesIn g own (replicate (regions d) top) 0) winners′ source 0
       start-asks = record {
         updatable = record {
           graph = B .tabled .ok .graph;
@@ -88,11 +88,11 @@ module _ {g : Graph} {d : Division} {t : Tables} {keys winners : List ℕ} (B : 
       label-written : take (g .nodes) (set labels source 0) ≡ set (replicate (g .nodes) top) source 0
       label-written = take-set-lt (g .nodes) labels source 0 source-node ∙ ap (λ (xs : List ℕ). set xs source 0) el
 
-      pub started : (own″ : List ℕ) {keys″ winners″ : List ℕ} {n : ℕ}
-          → Queued d (t .rows) (updateOutgoing d (g .tails) source 0 (queuesIn g own keys′ 0)) (queuesIn g own″ keys″ n) winners″
+      pub started : (own′ : List ℕ) {keys winners″ : List ℕ} {n : ℕ}
+          → Queued d (t .rows) (updateOutgoing d (g .tails) source 0 (queuesIn g own (replicate (regions d) top) 0)) (queuesIn g own′ keys n) winners″
           → Computed g d t (start g d (t .spans))
-          (stateIn g (set labels source 0) predecessors own″ keys″ (record { rounds = 0; leaves = 0; inner = 0; updates = n })) winners″
-      started own″ R = record {
+          (stateIn g (set labels source 0) predecessors own′ keys (record { rounds = 0; leaves = 0; inner = 0; updates = n })) winners″
+      started own′ R = record {
         result =
             rw (label-written, ep, at-source)
             (ap (startWith g) (R .result ∙ rw (at-source, is-blank)) ∙ sym (start-by-updates g d (t .spans)));

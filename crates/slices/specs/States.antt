@@ -100,8 +100,7 @@ pub record Computed (g : Graph) (d : Division) (t : Tables) (defined s : State) 
   pub result : s ≡ defined
   pub represents : Represents g d t s winners
 
--- Tables, and a key for each region, whatever it holds; the trees are laid out.
-pub record Blank (g : Graph) (d : Division) (t : Tables) (keys winners : List ℕ) : Type 0 where
+-- Tables, and trees that are laid out, whatever they hold.
+pub record Blank (g : Graph) (d : Division) (t : Tables) (winners : List ℕ) : Type 0 where
   pub tabled : Tabled g d t
-  pub keyed : length keys ≡ regions d
   pub laid : LaidOut d (t .rows) winners

@@ -22,7 +22,7 @@ use Rattle.theory.proofs.Chosen.{minKey-leaf}
 use Rattle.theory.proofs.Update.{write-leaf, write-inner, write-counts, update-grows, update-rises, update-stops, update-elim}
 use Rattle.theory.proofs.Outgoing.{arc-leaf-test, arc-updated}
 use Rattle.rows.specs.Rows.{rowCount, rowTail, rowLeaf, rowNext}
-use Rattle.queue.specs.Trees.{Counted, QueuesOk, Written}
+use Rattle.queue.specs.Trees.{Counted, QueuesOk}
 use Rattle.rows.specs.Links.{stepAt}
 use Rattle.rows.proofs.Links.{Walk, walk-start, walk-step, walk-end, walk-part, walk-falls}
 use Rattle.slices.specs.Tables.{ArcRows, ArcLinks}
@@ -48,31 +48,28 @@ module _ {d : Division} {rows own keys winners : List ℕ} {count r x k : ℕ} (
   pub count-fits : count + 1 < 18446744073709551616
   count-fits = omega (arith, counted, U .small)
 
-  -- the key is written: keys and winners as `queue::write` leaves them
-  module _ {keys′ winners′ : List ℕ} (W : Written rows keys winners x k keys′ winners′) where
-    pub valid-still : QueuesOk d rows keys′ winners′
-    valid-still = W .valid d (U .queues)
-
-    wrote : queuesOf own keys′ (count + 1) ≡ write d r x k (queuesOf own keys count)
-    wrote = rw (W .result, add-one count) (sym (write-inner d r x k (queuesOf own keys count) region-inner))
+  -- the key is written, in valid queues
+  module _ {winners′ : List ℕ} (W : QueuesOk d rows (set keys x k) winners′) where
+    wrote : queuesOf own (set keys x k) (count + 1) ≡ write d r x k (queuesOf own keys count)
+    wrote = rw (add-one count) (sym (write-inner d r x k (queuesOf own keys count) region-inner))
 
     -- at region 0 the update stops
-    pub root-stops : r ≡ 0 → Queued d rows (update d r x k (queuesOf own keys count)) (queuesOf own keys′ (count + 1)) winners′
+    pub root-stops : r ≡ 0 → Queued d rows (update d r x k (queuesOf own keys count)) (queuesOf own (set keys x k) (count + 1)) winners′
     root-stops z = record {
       result = wrote ∙ sym (update-stops (U .division) r x k (queuesOf own keys count) region-in (λ l. absurd (omega arith)));
-      valid = valid-still;
+      valid = W;
     }
 
     -- the smallest key before and after
-    module _ {old new : ℕ} (before : old ≡ minKey d (queuesOf own keys count) r) (after : new ≡ minKey d (queuesOf own keys′ (count + 1)) r) where
+    module _ {old new : ℕ} (before : old ≡ minKey d (queuesOf own keys count) r) (after : new ≡ minKey d (queuesOf own (set keys x k) (count + 1)) r) where
       after-write : minKey d (write d r x k (queuesOf own keys count)) r ≡ new
       after-write = ap (λ (q : Queues). minKey d q r) (sym wrote) ∙ sym after
 
       -- where it did not fall, the update stops
-      pub not-fallen : old ≤ new → Queued d rows (update d r x k (queuesOf own keys count)) (queuesOf own keys′ (count + 1)) winners′
+      pub not-fallen : old ≤ new → Queued d rows (update d r x k (queuesOf own keys count)) (queuesOf own (set keys x k) (count + 1)) winners′
       not-fallen l = record {
         result = wrote ∙ sym (update-stops (U .division) r x k (queuesOf own keys count) region-in (λ _. omega (arith, after-write)));
-        valid = valid-still;
+        valid = W;
       }
 
       -- where it fell, the update goes on at the parent
@@ -80,22 +77,22 @@ module _ {d : Division} {rows own keys winners : List ℕ} {count r x k : ℕ} (
         pub up-lower : up < r
         up-lower = omega (arith, up-parent, U .division .nesting .lower r pos region-in)
 
-        goes-on : update d up r k (queuesOf own keys′ (count + 1)) ≡ update d r x k (queuesOf own keys count)
+        goes-on : update d up r k (queuesOf own (set keys x k) (count + 1)) ≡ update d r x k (queuesOf own keys count)
         goes-on =
             rw (up-parent, wrote)
             (sym (update-rises (U .division) r x k (queuesOf own keys count) region-in pos (omega (arith, after-write))))
 
-        pub climb-asks : Updating d rows (queuesOf own keys′ (count + 1)) winners′ up r k
+        pub climb-asks : Updating d rows (queuesOf own (set keys x k) (count + 1)) winners′ up r k
         climb-asks = record {
           division = U .division;
-          queues = valid-still;
+          queues = W;
           positive = pos;
           in-range = region-in;
           under = sym up-parent;
           small = rw goes-on (U .small);
         }
 
-        pub climbed : {q : Queues} {winners″ : List ℕ} → Queued d rows (update d up r k (queuesOf own keys′ (count + 1))) q winners″
+        pub climbed : {q : Queues} {winners″ : List ℕ} → Queued d rows (update d up r k (queuesOf own (set keys x k) (count + 1))) q winners″
             → Queued d rows (update d r x k (queuesOf own keys count)) q winners″
         climbed Q = record { result = Q .result ∙ goes-on; valid = Q .valid }
 

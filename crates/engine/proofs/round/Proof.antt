@@ -7,31 +7,23 @@ use Rattle.engine.proofs.round.Tie as tie
 count-round-requires : tie.Need-count-round-requires
 count-round-requires c κs =
     let earlier = c .before .before .before .before in
-    let early = earlier .before .before .before .before in
-    let pre = early .before .before .pre in
-    round-count-fits (pre .2)
+    let pre = earlier .before .before .pre in
+    round-count-fits (pre .3)
 
 process-inner-requires : tie.Need-process-inner-requires
 process-inner-requires c κs =
     let earlier = c .before .before .before .before in
-    let early = earlier .before .before .before .before in
-    let pre = early .before .before .before .pre in
-    (pre .0, pre .1, (round-asks (pre .2) (c .count-round .ensures), pre .2 .represents .tabled .ok .division .root-inner))
-
-same-length : tie.Need-same-length
-same-length c = search needs
-
-same-length-2 : tie.Need-same-length-2
-same-length-2 c = search needs
+    let pre = earlier .before .before .before .pre in
+    let P = pre .3 in
+    (pre .0, pre .1, pre .2, (round-asks P (c .count-round .ensures), P .represents .tabled .ok .division .root-inner))
 
 returns : tie.Need-returns
 returns c =
-    let earlier = c .before .before .before .before in
-    let process-inner = earlier .process-inner in
-    let count-round = earlier .before .count-round in
-    λ g d P.
+    let count-round = c .before .count-round in
+    λ g d keys P.
     let inner = P .represents .tabled .ok .division .root-inner in
-    round-made P (count-round .ensures) (process-inner .ensures g d (round-asks P (count-round .ensures)) inner)
+    let W = c .process-inner .ensures g d keys (round-asks P (count-round .ensures)) inner in
+    (W .0, round-made P (count-round .ensures) (W .1))
 
 pub round-spec : {M : Type 1} → statement M
 round-spec =
@@ -39,6 +31,4 @@ round-spec =
     (tie.spec
     count-round-requires
     process-inner-requires
-    same-length
-    same-length-2
     returns)

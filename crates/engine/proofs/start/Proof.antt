@@ -16,7 +16,11 @@ fill-keys-requires-3 : tie.Need-fill-keys-requires-3
 fill-keys-requires-3 c κs = search needs
 
 clear-requires : tie.Need-clear-requires
-clear-requires c κs = search needs
+clear-requires c κs =
+    let earlier = c .before .before .before .before in
+    let early = earlier .before .before .before .before in
+    let pre = early .before .pre in
+    (pre .1, pre .5 .laid, pre .7)
 
 cast-i : tie.Need-cast-i
 cast-i c = search needs
@@ -25,18 +29,14 @@ mul-labels : tie.Need-mul-labels
 mul-labels c =
     let earlier = c .before .before .before .before in
     let early = earlier .before .before .before .before in
-    let prior = early .before .before .before .before in
-    let first = prior .before .before .before .before in
-    let pre = first .before .before .pre in
+    let pre = early .before .before .before .pre in
     omega (arith, source-in (pre .5) (pre .6))
 
 element-write-labels : tie.Need-element-write-labels
 element-write-labels c =
     let earlier = c .before .before .before .before in
     let early = earlier .before .before .before .before in
-    let prior = early .before .before .before .before in
-    let first = prior .before .before .before .before in
-    let pre = first .before .before .pre in
+    let pre = early .before .before .before .pre in
     source-in (pre .5) (pre .6)
 
 update-outgoing-requires : tie.Need-update-outgoing-requires
@@ -45,31 +45,24 @@ update-outgoing-requires c κs =
     let earlier = c .before .before .before .before in
     let early = earlier .before .before .before .before in
     let prior = early .before .before .before .before in
-    let first = prior .before .before .before .before in
-    let opening = first .before .before .before .before in
-    let clear = early .clear in
-    let fill-keys3 = early .before .before .before .fill-keys3 in
-    let fill-keys-arg3 = prior .fill-keys-arg3 in
-    let fill-keys2 = prior .before .fill-keys2 in
-    let fill-keys-arg2 = prior .before .before .fill-keys-arg2 in
-    let fill-keys = prior .before .before .before .fill-keys in
-    let fill-keys-arg = first .fill-keys-arg in
-    let pre = opening .before .pre in
+    let clear = c .before .before .before .clear in
+    let fill-keys3 = earlier .before .before .fill-keys3 in
+    let fill-keys-arg3 = earlier .before .before .before .fill-keys-arg3 in
+    let fill-keys2 = early .fill-keys2 in
+    let fill-keys-arg2 = early .before .fill-keys-arg2 in
+    let fill-keys = early .before .before .fill-keys in
+    let fill-keys-arg = early .before .before .before .fill-keys-arg in
+    let pre = prior .before .pre in
     let B = pre .5 in
     let labels = nodes-filled B (fill-keys .ensures) (fill-keys-arg .given .0 .1) in
     let predecessors = nodes-filled B (fill-keys2 .ensures) (fill-keys-arg2 .given .0 .1) in
-    let own = arcs-filled B (fill-keys3 .ensures) (fill-keys-arg3 .given .0 .1) in (
+    let own = arcs-filled B (fill-keys3 .ensures) (fill-keys-arg3 .given .0 .1) in
+    let valid = clear .ensures (pre .1) (B .laid) (pre .7) in (
       pre .0,
       pre .1,
-      start-asks B (pre .6) (fill-keys .last .0) (fill-keys2 .last .0) (fill-keys3 .last .0) labels predecessors own (clear .ensures .0)
-          (clear .ensures .1 (pre .1) (B .laid)),
+      _,
+      start-asks B (pre .6) (fill-keys .last .0) (fill-keys2 .last .0) (fill-keys3 .last .0) labels predecessors own valid,
     )
-
-same-length : tie.Need-same-length
-same-length c = search needs
-
-same-length-2 : tie.Need-same-length-2
-same-length-2 c = search needs
 
 returns : tie.Need-returns
 unfolding top
@@ -77,24 +70,24 @@ returns c =
     let earlier = c .before .before .before .before in
     let early = earlier .before .before .before .before in
     let prior = early .before .before .before .before in
-    let first = prior .before .before .before .before in
-    let opening = first .before .before .before .before in
-    let update-outgoing = earlier .update-outgoing in
-    let clear = prior .before .clear in
-    let fill-keys3 = first .fill-keys3 in
-    let fill-keys-arg3 = first .before .fill-keys-arg3 in
-    let fill-keys2 = first .before .before .fill-keys2 in
-    let fill-keys-arg2 = first .before .before .before .fill-keys-arg2 in
-    let fill-keys = opening .fill-keys in
-    let fill-keys-arg = opening .before .fill-keys-arg in
-    λ g d lengths spans regions B source.
+    let clear = earlier .clear in
+    let fill-keys3 = earlier .before .before .before .fill-keys3 in
+    let fill-keys-arg3 = early .fill-keys-arg3 in
+    let fill-keys2 = early .before .fill-keys2 in
+    let fill-keys-arg2 = early .before .before .fill-keys-arg2 in
+    let fill-keys = early .before .before .before .fill-keys in
+    let fill-keys-arg = prior .fill-keys-arg in
+    λ g d lengths spans regionRows B source all.
     let labels = nodes-filled B (fill-keys .ensures) (fill-keys-arg .given .0 .1) in
     let predecessors = nodes-filled B (fill-keys2 .ensures) (fill-keys-arg2 .given .0 .1) in
     let own = arcs-filled B (fill-keys3 .ensures) (fill-keys-arg3 .given .0 .1) in
-    let Q = clear .ensures .1 d (B .laid) in
-    let asks = start-asks B source (fill-keys .last .0) (fill-keys2 .last .0) (fill-keys3 .last .0) labels predecessors own (clear .ensures .0) Q in
-    started B source (fill-keys .last .0) (fill-keys2 .last .0) (fill-keys3 .last .0) labels predecessors own (clear .ensures .0) Q
-    (update-outgoing .last .1 .1 .1 .0) (update-outgoing .ensures g d asks)
+    let valid = clear .ensures d (B .laid) all in
+    let asks = start-asks B source (fill-keys .last .0) (fill-keys2 .last .0) (fill-keys3 .last .0) labels predecessors own valid in
+    let done = c .update-outgoing .ensures g d _ asks in (
+      done .0,
+      started B source (fill-keys .last .0) (fill-keys2 .last .0) (fill-keys3 .last .0) labels predecessors own valid
+          (c .update-outgoing .last .1 .1 .1 .0) (done .1),
+    )
 
 pub start-spec : {M : Type 1} → statement M
 start-spec =
@@ -108,6 +101,4 @@ start-spec =
     mul-labels
     element-write-labels
     update-outgoing-requires
-    same-length
-    same-length-2
     returns)
