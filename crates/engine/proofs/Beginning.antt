@@ -14,7 +14,7 @@ use Rattle.procedure.specs.Queues.{updateOutgoing}
 use Rattle.procedure.specs.Procedure.{start}
 use Rattle.theory.specs.Counts.{Small}
 use Rattle.theory.proofs.Final.{no-rounds, after-small}
-use Rattle.queue.specs.Trees.{QueuesOk}
+use Rattle.queue.specs.Trees.{LaidOut, QueuesOk}
 use Rattle.slices.specs.Tables.{Tables}
 use Rattle.slices.specs.States.{queuesOf, queuesIn, stateIn, UpdatingOutgoing, Queued, Computed, Blank}
 use Rattle.updates.proofs.Updates.{outgoing-owned}
@@ -47,12 +47,16 @@ filled n {m = m} e long l =
     let parts : n + (m - n) ≡ m = omega arith in
     rw (e, long, ← parts, ← replicate-append-replicate n (m - n) top) (take-at (replicate n top) (replicate (m - n) top) n (length-replicate n top))
 
-module _ {g : Graph} {d : Division} {t : Tables} {winners : List ℕ} (B : Blank g d t winners) where
+module _ {g : Graph} {d : Division} {t : Tables} (B : Blank g d t) where
   pub nodes-filled : {k : ℕ} {ys : List ℕ} → ys ≡ replicate k top → k ≡ 1024 → take (g .nodes) ys ≡ replicate (g .nodes) top
   nodes-filled e long = filled (g .nodes) e long (B .tabled .ok .graph .few-nodes)
 
   pub arcs-filled : {k : ℕ} {ys : List ℕ} → ys ≡ replicate k top → k ≡ 2048 → take (arcs g) ys ≡ replicate (arcs g) top
   arcs-filled e long = filled (arcs g) e long (B .tabled .ok .graph .few-arcs)
+
+  -- the array of the queues has room for the most regions
+  pub start-laid : {winners : List ℕ} → length winners ≡ 8190 → LaidOut d (t .rows) winners
+  start-laid long = record { planned = B .planned; room = omega (arith, B .tabled .ok .division .few-regions) }
 
   start-small : Small (start g d (t .spans))
   start-small = rw (no-rounds g d (t .spans)) at (after-small (B .tabled .ok) few-out 0)

@@ -166,11 +166,11 @@ pub fn start(
     count: u16,
 ) -> Counts
     requires { ⌜ ((g : Graph) × (d : Division) × (lengths : List ℕ) × (spans : List ℕ) × (regionRows : List ℕ)
-        × Blank g d (tablesOf (now rows) (now arcs) (now firsts) lengths spans regionRows) (now winners) × (source .0 ≡ g .source)
+        × Blank g d (tablesOf (now rows) (now arcs) (now firsts) lengths spans regionRows) × (source .0 ≡ g .source)
         × (count ≡ regions d)) ⌝ }
     ensures { λ n. ⌜ ((g : Graph) (d : Division) (lengths spans regionRows : List ℕ)
         → let t = tablesOf (now (rows .entry)) (now (arcs .entry)) (now (firsts .entry)) lengths spans regionRows in
-        Blank g d t (now (winners .entry)) → source .0 ≡ g .source → count ≡ regions d
+        Blank g d t → source .0 ≡ g .source → count ≡ regions d
         → ((keys : List ℕ) × Computed g d t (start g d spans)
         (stateIn g (now (labels .exit)) (now (predecessors .exit)) (now (own .exit)) keys n) (now (winners .exit)))) ⌝ }
 {

@@ -11,7 +11,7 @@ use Rattle.procedure.specs.Queues.{update, updateArc, updateOutgoing}
 use Rattle.procedure.specs.WellFormed.{GraphOk, DivisionOk}
 use Rattle.theory.specs.Counts.{Small}
 use Rattle.counts.specs.declared.Counts.{Counts}
-use Rattle.queue.specs.Trees.{LaidOut, QueuesOk}
+use Rattle.queue.specs.Trees.{Planned, QueuesOk}
 use Rattle.slices.specs.Tables.{Tables, ArcRows, ArcLinks, RegionRows, Tabled}
 
 -- the queues and the state that the slices and the counts are
@@ -100,7 +100,7 @@ pub record Computed (g : Graph) (d : Division) (t : Tables) (defined s : State) 
   pub result : s ≡ defined
   pub represents : Represents g d t s winners
 
--- Tables, and trees that are laid out, whatever they hold.
-pub record Blank (g : Graph) (d : Division) (t : Tables) (winners : List ℕ) : Type 0 where
+-- What is asked before the start: tables, with trees that are planned.
+pub record Blank (g : Graph) (d : Division) (t : Tables) : Type 0 where
   pub tabled : Tabled g d t
-  pub laid : LaidOut d (t .rows) winners
+  pub planned : Planned d (t .rows)

@@ -1,7 +1,7 @@
 -- `start` meets its contract: the arrays are filled with none and the source's outgoing arcs updated. Assumes nothing.
 use borrow.Author.Needs.{needs}
 use native.Mathlib.Omega.{arith}
-use Rattle.engine.proofs.Beginning.{nodes-filled, arcs-filled, source-in, start-asks, started}
+use Rattle.engine.proofs.Beginning.{nodes-filled, arcs-filled, start-laid, source-in, start-asks, started}
 use Rattle.sheet.specs.Words.{top}
 use Rattle.engine.proofs.start.Statement.{statement}
 use Rattle.engine.proofs.start.Tie as tie
@@ -20,7 +20,7 @@ clear-requires c κs =
     let earlier = c .before .before .before .before in
     let early = earlier .before .before .before .before in
     let pre = early .before .pre in
-    (pre .1, pre .5 .laid, pre .7)
+    (pre .1, start-laid (pre .5) (c .clear-arg2 .given .0 .1), pre .7)
 
 cast-i : tie.Need-cast-i
 cast-i c = search needs
@@ -46,6 +46,7 @@ update-outgoing-requires c κs =
     let early = earlier .before .before .before .before in
     let prior = early .before .before .before .before in
     let clear = c .before .before .before .clear in
+    let clear-arg2 = earlier .clear-arg2 in
     let fill-keys3 = earlier .before .before .fill-keys3 in
     let fill-keys-arg3 = earlier .before .before .before .fill-keys-arg3 in
     let fill-keys2 = early .fill-keys2 in
@@ -57,7 +58,7 @@ update-outgoing-requires c κs =
     let labels = nodes-filled B (fill-keys .ensures) (fill-keys-arg .given .0 .1) in
     let predecessors = nodes-filled B (fill-keys2 .ensures) (fill-keys-arg2 .given .0 .1) in
     let own = arcs-filled B (fill-keys3 .ensures) (fill-keys-arg3 .given .0 .1) in
-    let valid = clear .ensures (pre .1) (B .laid) (pre .7) in (
+    let valid = clear .ensures (pre .1) (start-laid B (clear-arg2 .given .0 .1)) (pre .7) in (
       pre .0,
       pre .1,
       _,
@@ -71,6 +72,7 @@ returns c =
     let early = earlier .before .before .before .before in
     let prior = early .before .before .before .before in
     let clear = earlier .clear in
+    let clear-arg2 = earlier .before .clear-arg2 in
     let fill-keys3 = earlier .before .before .before .fill-keys3 in
     let fill-keys-arg3 = early .fill-keys-arg3 in
     let fill-keys2 = early .before .fill-keys2 in
@@ -81,7 +83,7 @@ returns c =
     let labels = nodes-filled B (fill-keys .ensures) (fill-keys-arg .given .0 .1) in
     let predecessors = nodes-filled B (fill-keys2 .ensures) (fill-keys-arg2 .given .0 .1) in
     let own = arcs-filled B (fill-keys3 .ensures) (fill-keys-arg3 .given .0 .1) in
-    let valid = clear .ensures d (B .laid) all in
+    let valid = clear .ensures d (start-laid B (clear-arg2 .given .0 .1)) all in
     let asks = start-asks B source (fill-keys .last .0) (fill-keys2 .last .0) (fill-keys3 .last .0) labels predecessors own valid in
     let done = c .update-outgoing .ensures g d _ asks in (
       done .0,
