@@ -3,4 +3,3 @@ mod Rows
 mod Leaves
 mod Heights
 mod Represented
-pub mod Ready

@@ -90,15 +90,16 @@ module _ (b : List ℕ) (ok : Accepted b) where
   pub nested : Nested (regionWords b)
   nested = record { few = few-region-words b ok; nesting = nesting b ok }
 
-  pub parents-of : {parents : List ℕ} → ParentsEntered (regionWords b) parents → ParentsOf (divisionOf b) parents
-  parents-of {parents} P =
+  pub parents-of : {d parents : List ℕ} → d ≡ regionWords b → ParentsEntered d parents → ParentsOf (divisionOf b) parents
+  parents-of {d} {parents} e entered =
+      let P = rw e at entered in
       division-parents parents (accepted-well-formed b ok .division) (P .all ∙ sym (division-regions b))
       (λ c pos l.
       let inside : c < regionCount (regionWords b) = omega (arith, division-regions b) in
       P .same c pos inside ∙ sym (division-parent b c inside))
 
-  pub region-rows : {rows : List ℕ} → HeightsEntered (regionWords b) rows → RegionRows (divisionOf b) rows
-  region-rows {rows} H = record {
+  pub region-rows : {d rows : List ℕ} → d ≡ regionWords b → HeightsEntered d rows → RegionRows (divisionOf b) rows
+  region-rows {d} {rows} e entered = record {
     all = omega (arith, H .all, division-regions b);
     leaf =
         λ r l leaf.
@@ -109,14 +110,17 @@ module _ (b : List ℕ) (ok : Accepted b) where
     heights = λ r l. let inside = is-region r l in H .heights r inside ∙ sym (division-height b r inside);
   }
     where
+      H : HeightsEntered (regionWords b) rows
+      H = rw e at entered
+
       is-region : (r : ℕ) → r < regions (divisionOf b) → r < regionCount (regionWords b)
       is-region r l = omega (arith, division-regions b)
 
   -- THE WHOLE
 
-  pub whole : {rows arcRows firsts lengths spans regionRows winners : List ℕ} → ArcsLaid (graphOf b) (divisionOf b) arcRows firsts
-      → lengths ≡ graphOf b .lengths → spans ≡ spansOf b → RegionsLaid (divisionOf b) rows regionRows winners
-      → Laid b (tablesOf rows arcRows firsts lengths spans regionRows) winners
+  pub whole : {rows arcRows firsts lengths spans regionRows : List ℕ} → ArcsLaid (graphOf b) (divisionOf b) arcRows firsts
+      → lengths ≡ graphOf b .lengths → spans ≡ spansOf b → RegionsLaid (divisionOf b) rows regionRows
+      → Laid b (tablesOf rows arcRows firsts lengths spans regionRows)
   whole A el es R = record {
     tabled =
         record {
@@ -126,7 +130,7 @@ module _ (b : List ℕ) (ok : Accepted b) where
           lengths = λ a l. ap (λ (xs : List ℕ). at xs a) el;
           region-rows = R .region-rows;
         };
-    trees = R .trees;
+    planned = R .planned;
     spans = es;
   }
 

@@ -15,11 +15,11 @@ use Rattle.procedure.specs.Graph.{Graph}
 use Rattle.procedure.specs.Division.{Division}
 use Rattle.procedure.specs.OfSheet.{graphOf, divisionOf, spansOf}
 use Rattle.rows.specs.Rows.{field, rowTail, rowHead, rowLeaf}
-use Rattle.queue.specs.Trees.{LaidOut}
+use Rattle.queue.specs.Trees.{Planned}
 use Rattle.slices.specs.Tables.{Tables, ArcRows, ArcLinks, RegionRows, Tabled, noArc, arcEntry, heightEntry}
 
 -- What is lent: each slice has as many entries as are used.
-pub record Sized (b parents rows arcRows firsts lengths spans regionRows winners : List ℕ) : Type 0 where
+pub record Sized (b parents rows arcRows firsts lengths spans regionRows : List ℕ) : Type 0 where
   pub parents-all : length parents ≡ regionCount (regionWords b)
   pub rows-all : length rows ≡ 4 * regionCount (regionWords b)
   pub arcs-all : length arcRows ≡ 4 * arcCount b
@@ -27,12 +27,11 @@ pub record Sized (b parents rows arcRows firsts lengths spans regionRows winners
   pub lengths-all : length lengths ≡ arcCount b
   pub spans-all : length spans ≡ spanCount b
   pub regions-all : length regionRows ≡ 2 * regionCount (regionWords b)
-  pub winners-all : length winners ≡ 2 * regionCount (regionWords b)
 
--- The tables represent the graph, the division and the spans of the sheet, and the trees of the queues are laid out.
-pub record Laid (b : List ℕ) (t : Tables) (winners : List ℕ) : Type 0 where
+-- The tables represent the graph, the division and the spans of the sheet, and the trees of the queues are planned.
+pub record Laid (b : List ℕ) (t : Tables) : Type 0 where
   pub tabled : Tabled (graphOf b) (divisionOf b) t
-  pub trees : LaidOut (divisionOf b) (t .rows) winners
+  pub planned : Planned (divisionOf b) (t .rows)
   pub spans : t .spans ≡ spansOf b
 
 -- THE ARCS
@@ -91,7 +90,7 @@ pub record HeightsEntered (d regionRows : List ℕ) : Type 0 where
   pub arcs : (r : ℕ) → r < regionCount d → arcEntry regionRows r ≡ arcInRow d r
   pub heights : (r : ℕ) → r < regionCount d → heightEntry regionRows r ≡ height d r
 
--- the rows represent the regions, and the trees are laid out
-pub record RegionsLaid (d : Division) (rows regionRows winners : List ℕ) : Type 0 where
+-- the rows represent the regions, and the trees are planned
+pub record RegionsLaid (d : Division) (rows regionRows : List ℕ) : Type 0 where
   pub region-rows : RegionRows d regionRows
-  pub trees : LaidOut d rows winners
+  pub planned : Planned d rows

@@ -171,25 +171,17 @@ fn enter_heights(d: &[u8], parents: &[u16], regions: &mut [u16])
     set_height(regions, Region(0), height);
 }
 
-// The rows of the regions and the trees of their queues. Of `parents` nothing is promised.
-fn lay_regions(
-    s: &[u8],
-    at: Sections,
-    parents: &mut [u16],
-    rows: &mut [u16],
-    regions: &mut [u16],
-    winners: &mut [u16],
-)
+// The rows of the regions, for the tables and for the queues. Of `parents` nothing is promised.
+fn lay_regions(s: &[u8], at: Sections, parents: &mut [u16], rows: &mut [u16], regions: &mut [u16])
     requires { ⌜ Accepted (now s) × Located (now s) at × (length (now parents) ≡ regionCount (regionWords (now s)))
-        × (length (now rows) ≡ 4 * regionCount (regionWords (now s))) × (length (now regions) ≡ 2 * regionCount (regionWords (now s)))
-        × (length (now winners) ≡ 2 * regionCount (regionWords (now s))) ⌝ }
-    ensures { λ _. ⌜ RegionsLaid (divisionOf (now (s .entry))) (now (rows .exit)) (now (regions .exit)) (now (winners .exit)) ⌝ }
+        × (length (now rows) ≡ 4 * regionCount (regionWords (now s))) × (length (now regions) ≡ 2 * regionCount (regionWords (now s))) ⌝ }
+    ensures { λ _. ⌜ RegionsLaid (divisionOf (now (s .entry))) (now (rows .exit)) (now (regions .exit)) ⌝ }
 {
     let d = reader::region_words(s, at);
     enter_parents(d, parents);
     enter_region_arcs(d, regions);
     enter_heights(d, parents, regions);
-    planning::plan(parents, rows, winners);
+    planning::plan(parents, rows);
 }
 
 // The source.
@@ -211,15 +203,14 @@ pub fn lay_out(
     lengths: &mut [u32],
     spans: &mut [u32],
     regions: &mut [u16],
-    winners: &mut [u16],
 )
     requires { ⌜ Accepted (now s) × Located (now s) at
-        × Sized (now s) (now parents) (now rows) (now arcs) (now firsts) (now lengths) (now spans) (now regions) (now winners) ⌝ }
+        × Sized (now s) (now parents) (now rows) (now arcs) (now firsts) (now lengths) (now spans) (now regions) ⌝ }
     ensures { λ _. ⌜ Laid (now (s .entry)) (tablesOf (now (rows .exit)) (now (arcs .exit)) (now (firsts .exit)) (now (lengths .exit)) (now (spans .exit))
-        (now (regions .exit))) (now (winners .exit)) ⌝ }
+        (now (regions .exit))) ⌝ }
 {
     lay_arcs(s, at, arcs, firsts);
     enter_lengths(s, at, lengths);
     enter_spans(s, at, spans);
-    lay_regions(s, at, parents, rows, regions, winners);
+    lay_regions(s, at, parents, rows, regions);
 }

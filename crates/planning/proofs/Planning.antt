@@ -1,7 +1,7 @@
 -- The rows filled in three passes over the regions: children counted, trees laid one after the other, children seated. Assumes nothing.
 use Prim.Native.Nat.{ℕ, suc, _+_, _*_, _≤_, _<_}
 use mathlib.Core.Path.{_≡_, refl, sym, ap, _∙_}
-use mathlib.Core.Logic.{_≢_, ⊎-elim}
+use mathlib.Core.Logic.{_≢_}
 use mathlib.Core.List.{List}
 use native.Mathlib.Nat.{le-refl}
 use native.Mathlib.Numerals.{add-one}
@@ -11,14 +11,13 @@ use lib.Seq.{getD-set-other}
 use Rattle.indices.specs.Columns.{at}
 use Rattle.indices.specs.Tests.{count}
 use Rattle.indices.proofs.Tests.{count-none, count-in, count-out, count-le}
-use Rattle.indices.proofs.Steps.{eq-or-ne, set-elim}
+use Rattle.indices.proofs.Steps.{set-elim}
 use Rattle.procedure.specs.Division.{Division, regions, parent, isChild}
 use Rattle.procedure.specs.WellFormed.{DivisionOk}
 use Rattle.theory.proofs.Chosen.{Child, parent-child}
 use Rattle.rows.specs.Rows.{field, rowCount}
-use Rattle.queue.specs.Trees.{childCount, lowerSiblings, treeStart, seat, place, ParentsOf, Counted, Ranked, Started, LaidOut}
-use Rattle.queue.proofs.Seats.{child-passes, other-fails, start-next, start-first, tree-room, seat-high, seat-one}
-use Rattle.queue.proofs.Trees.{place-in, place-same, place-other, named-set}
+use Rattle.queue.specs.Trees.{childCount, lowerSiblings, treeStart, seat, ParentsOf, Counted, Ranked, Started, Planned}
+use Rattle.queue.proofs.Seats.{child-passes, other-fails, start-next, start-first, tree-room, seat-high}
 use Rattle.rows.proofs.Filled.{filled-at, filled-length}
 
 -- to prove P of an entry after a store in the same column, prove it of the value stored and of the entries of other rows
@@ -143,7 +142,7 @@ counting-end {d} {parents} {rows} {c} P C l =
       counted =
           record {
             numbered = P .numbered;
-            all = C .all;
+            all = omega (arith, C .all);
             parents = λ b pos m. C .parents b pos (omega arith);
             counts = λ r m. C .counts r m ∙ ap (count (isChild d r)) e;
           };
@@ -190,42 +189,26 @@ laying-end L l = record { ranked = L .ranked; starts = λ q m. L .starts q (omeg
 -- CHILDREN SEATED
 
 -- the regions below c are seated
-pub record Seating (d : Division) (rows winners : List ℕ) (c : ℕ) : Type 0 where
+pub record Seating (d : Division) (rows : List ℕ) (c : ℕ) : Type 0 where
   pub above : 0 < c
   pub within : c ≤ regions d
   pub counted : Counted d rows
   pub starts : (r : ℕ) → r < regions d → field rows r 2 ≡ treeStart d r
   pub seats : (b : ℕ) → 0 < b → b < c → field rows b 3 ≡ seat d b
   pub ranks : (b : ℕ) → c ≤ b → b < regions d → field rows b 3 ≡ lowerSiblings d b
-  pub wide : length winners ≡ 2 * regions d
-  pub named : (i : ℕ) → i < length winners → at winners i < regions d
-  pub stands : (b : ℕ) → 0 < b → b < c → place d winners (parent d b) (seat d b) ≡ b
 
-pub seating-start : {d : Division} {rows : List ℕ} (winners₀ winners : List ℕ) → Started d rows → length winners₀ ≡ 2 * regions d
-    → winners ≡ replicate (length winners₀) 0 → Seating d rows winners 1
-seating-start winners₀ winners S e f = record {
+pub seating-start : {d : Division} {rows : List ℕ} → Started d rows → Seating d rows 1
+seating-start S = record {
   above = omega arith;
   within = S .ranked .counted .numbered .root;
   counted = S .ranked .counted;
   starts = S .starts;
   seats = λ b pos m. absurd (omega arith);
   ranks = λ b l m. S .ranked .ranks b (omega arith) m;
-  wide = filled-length winners₀ winners 0 f ∙ e;
-  named =
-      λ i l. omega (arith, filled-at winners₀ winners 0 f i (omega (arith, filled-length winners₀ winners 0 f)), S .ranked .counted .numbered .root);
-  stands = λ b pos m. absurd (omega arith);
 }
 
-pub record SeatBounds (rows winners : List ℕ) (c i : ℕ) : Type 0 where
-  pub row : c < rowCount rows
-  pub fits : i < 65536
-  pub inside : i < length winners
-
 -- region c is seated in the tree of its parent `up`
-module _ {d : Division} {rows winners : List ℕ} {c : ℕ} (S : Seating d rows winners c) (l : c < regions d) (up : ℕ) (parent-is : up ≡ parent d c) where
-  child : Child d (parent d c) c
-  child = parent-child d c (S .above) l
-
+module _ {d : Division} {rows : List ℕ} {c : ℕ} (S : Seating d rows c) (l : c < regions d) (up : ℕ) (parent-is : up ≡ parent d c) where
   parent-low : parent d c < regions d
   parent-low = omega (arith, S .counted .numbered .lower c (S .above) l)
 
@@ -239,49 +222,22 @@ module _ {d : Division} {rows winners : List ℕ} {c : ℕ} (S : Seating d rows 
     p-is = omega (arith, ec, er, ap (λ (r : ℕ). field rows r 1) parent-is, S .counted .counts (parent d c) parent-low, S .ranks c (le-refl c) l)
 
     pub seat-fits : children + rank < 65536
-    seat-fits = omega (arith, p-is, seat-high d child, tree-room d (parent d c), S .counted .numbered .few)
+    seat-fits = omega (arith, p-is, seat-high d (parent-child d c (S .above) l), tree-room d (parent d c), S .counted .numbered .few)
 
-    module _ (start : ℕ) (es : start ≡ field rows up 2) where
-      i-is : start + (children + rank) ≡ treeStart d (parent d c) + seat d c
-      i-is = omega (arith, es, p-is, ap (λ (r : ℕ). field rows r 2) parent-is, S .starts (parent d c) parent-low)
+    pub seating-step : Seating d (set rows (4 * c + 3) (children + rank)) (c + 1)
+    seating-step = rw (add-one c) (record {
+      above = omega arith;
+      within = l;
+      counted = counted-set c 3 (children + rank) (omega arith) (omega arith) (S .counted);
+      starts = λ r m. getD-set-other rows (4 * c + 3) (4 * r + 2) _ 0 (omega arith) ∙ S .starts r m;
+      seats =
+          λ b pos m.
+          field-elim (λ z. z ≡ seat d b) rows c b 3 (children + rank) (omega (arith, S .counted .all)) (λ s. rw s p-is) (λ n. S .seats b pos (omega arith));
+      ranks = λ b m h. getD-set-other rows (4 * c + 3) (4 * b + 3) _ 0 (omega arith) ∙ S .ranks b (omega arith) h;
+    })
 
-      pub seat-bounds : SeatBounds rows winners c (start + (children + rank))
-      seat-bounds =
-          let inside : start + (children + rank) < length winners = rw i-is (place-in d winners (S .wide) (parent d c) (seat d c) 0 (seat-high d child)) in
-          record { row = omega (arith, S .counted .all); fits = omega (arith, S .wide, S .counted .numbered .few); inside = inside }
-
-      stands-after : (b : ℕ) → 0 < b → b < suc c → place d (set winners (treeStart d (parent d c) + seat d c) c) (parent d b) (seat d b) ≡ b
-      stands-after b pos m =
-          ⊎-elim (λ (e : b ≡ c). rw e (place-same d winners (S .wide) (parent d c) (seat d c) c (seat-high d child)))
-          (λ (n : b ≢ c).
-          let k = parent-child d b pos (omega arith) in
-          place-other d winners (S .wide) (parent d c) (seat d c) c (seat-high d child) (parent d b) (seat d b) (seat-high d k)
-          (λ e f. n (seat-one d k (record { in-range = l; positive = S .above; under = sym e }) f))
-          ∙ S .stands b pos (omega arith))
-          (eq-or-ne b c)
-
-      pub seating-step : Seating d (set rows (4 * c + 3) (children + rank)) (set winners (start + (children + rank)) c) (c + 1)
-      seating-step = rw (add-one c, i-is) (record {
-        above = omega arith;
-        within = l;
-        counted = counted-set c 3 (children + rank) (omega arith) (omega arith) (S .counted);
-        starts = λ r m. getD-set-other rows (4 * c + 3) (4 * r + 2) _ 0 (omega arith) ∙ S .starts r m;
-        seats =
-            λ b pos m.
-            field-elim (λ z. z ≡ seat d b) rows c b 3 (children + rank) (omega (arith, S .counted .all)) (λ s. rw s p-is) (λ n. S .seats b pos (omega arith));
-        ranks = λ b m h. getD-set-other rows (4 * c + 3) (4 * b + 3) _ 0 (omega arith) ∙ S .ranks b (omega arith) h;
-        wide = simp length-set (S .wide);
-        named =
-            named-set winners (treeStart d (parent d c) + seat d c) c (regions d)
-            (place-in d winners (S .wide) (parent d c) (seat d c) 0 (seat-high d child)) (S .named) l;
-        stands = stands-after;
-      })
-
-pub seating-end : {d : Division} {rows winners : List ℕ} {c : ℕ} → Seating d rows winners c → regions d ≤ c → LaidOut d rows winners
-seating-end S l = record {
-  planned = record { counted = S .counted; starts = S .starts; seats = λ b pos m. S .seats b pos (omega arith) };
-  seated = record { all = S .wide; named = S .named; stands = λ b pos m. S .stands b pos (omega arith) };
-}
+pub seating-end : {d : Division} {rows : List ℕ} {c : ℕ} → Seating d rows c → regions d ≤ c → Planned d rows
+seating-end S l = record { counted = S .counted; starts = S .starts; seats = λ b pos m. S .seats b pos (omega arith) }
 
 -- the parents column of the division of an accepted sheet can be planned
 pub division-parents : {m : ℕ} {d : Division} (parents : List ℕ) → DivisionOk m d → length parents ≡ regions d

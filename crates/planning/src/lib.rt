@@ -1,9 +1,9 @@
-// Lays out the regions' rows and winner trees from the regions' parents.
+// Fills the regions' rows, and so plans the winner trees, from the regions' parents.
 ghost use mathlib.Core.Path.{_≡_};
 ghost use Prim.Native.Nat.{_*_};
 ghost use lib.ListN.{length};
 ghost use Rattle.procedure.specs.Division.{Division, regions};
-ghost use Rattle.queue.specs.Trees.{ParentsOf, Ranked, Started, LaidOut};
+ghost use Rattle.queue.specs.Trees.{ParentsOf, Ranked, Started, Planned};
 use queue::CHILDREN;
 use queue::PARENT;
 use queue::SEAT;
@@ -32,8 +32,8 @@ fn count_children(parents: &[u16], rows: &mut [u16])
 
 // Lays the trees one after the other.
 fn lay_trees(rows: &mut [u16])
-    requires { ⌜ ((d : Division) × Ranked d (now rows)) ⌝ }
-    ensures { λ _. ⌜ ((d : Division) → Ranked d (now (rows .entry)) → Started d (now (rows .exit))) ⌝ }
+    requires { ⌜ ((d : Division) × Ranked d (now rows) × (length (now rows) ≡ 4 * regions d)) ⌝ }
+    ensures { λ _. ⌜ ((d : Division) → Ranked d (now (rows .entry)) → length (now (rows .entry)) ≡ 4 * regions d → Started d (now (rows .exit))) ⌝ }
 {
     let n = (rows.len() / 4) as u16;
     let mut start: u16 = 0;
@@ -46,30 +46,26 @@ fn lay_trees(rows: &mut [u16])
 }
 
 // Seats each region in its parent's tree: at the number of the parent's children plus that of its siblings with a lower number.
-fn seat_children(rows: &mut [u16], winners: &mut [u16])
-    requires { ⌜ ((d : Division) × Started d (now rows) × (length (now winners) ≡ 2 * regions d)) ⌝ }
-    ensures { λ _. ⌜ ((d : Division) → Started d (now (rows .entry)) → LaidOut d (now (rows .exit)) (now (winners .exit))) ⌝ }
+fn seat_children(rows: &mut [u16])
+    requires { ⌜ ((d : Division) × Started d (now rows) × (length (now rows) ≡ 4 * regions d)) ⌝ }
+    ensures { λ _. ⌜ ((d : Division) → Started d (now (rows .entry)) → length (now (rows .entry)) ≡ 4 * regions d → Planned d (now (rows .exit))) ⌝ }
 {
-    rows::fill(winners, 0);
     let n = (rows.len() / 4) as u16;
     let mut c: u16 = 1;
     while c < n {
         let parent = queue::parent_of(rows, Region(c));
         let place = queue::children_of(rows, parent) + queue::seat_of(rows, Region(c));
-        let at = queue::start_of(rows, parent) + place;
         rows::set_field(rows, c, SEAT, place);
-        let i = at as usize;
-        winners[i] = c;
         c += 1;
     }
 }
 
-// Lays out rows and winners for the regions whose parents are given; that of region 0 is not read.
-pub fn plan(parents: &[u16], rows: &mut [u16], winners: &mut [u16])
-    requires { ⌜ ((d : Division) × ParentsOf d (now parents) × (length (now rows) ≡ 4 * regions d) × (length (now winners) ≡ 2 * regions d)) ⌝ }
-    ensures { λ _. ⌜ ((d : Division) → ParentsOf d (now (parents .entry)) → LaidOut d (now (rows .exit)) (now (winners .exit))) ⌝ }
+// Fills the rows of the regions whose parents are given; that of region 0 is not read.
+pub fn plan(parents: &[u16], rows: &mut [u16])
+    requires { ⌜ ((d : Division) × ParentsOf d (now parents) × (length (now rows) ≡ 4 * regions d)) ⌝ }
+    ensures { λ _. ⌜ ((d : Division) → ParentsOf d (now (parents .entry)) → Planned d (now (rows .exit))) ⌝ }
 {
     count_children(parents, rows);
     lay_trees(rows);
-    seat_children(rows, winners);
+    seat_children(rows);
 }

@@ -162,7 +162,7 @@ entering-end {d} E l = record {
 -- A TREE BUILT
 
 -- the trees of the regions above r are open, and r's places below a
-abbrev pub OpenBelow : ℕ → ℕ → ℕ → ℕ → Type 0
+abbrev OpenBelow : ℕ → ℕ → ℕ → ℕ → Type 0
 OpenBelow r a r′ q = (r < r′) ⊎ ((r′ ≡ r) × (q < a))
 
 -- r's tree is built from place a on

@@ -24,7 +24,7 @@ module _ (d : Division) (winners : List ℕ) (room : 2 * regions d ≤ length wi
   place-same = getD-set-same winners (treeStart d r + p) x 0 place-in
 
   -- no other place of a tree changes
-  pub place-other : (r′ q : ℕ) → q < 2 * childCount d r′ → (r′ ≡ r → q ≢ p) → place d (set winners (treeStart d r + p) x) r′ q ≡ place d winners r′ q
+  place-other : (r′ q : ℕ) → q < 2 * childCount d r′ → (r′ ≡ r → q ≢ p) → place d (set winners (treeStart d r + p) x) r′ q ≡ place d winners r′ q
   place-other r′ q hq ne = getD-set-other winners (treeStart d r + p) (treeStart d r′ + q) x 0 apart
     where
       apart : treeStart d r′ + q ≢ treeStart d r + p
@@ -50,7 +50,7 @@ module _ (d : Division) (winners : List ℕ) (room : 2 * regions d ≤ length wi
       (λ (n : r′ ≢ r). inr (λ e. absurd (n e))) (eq-or-ne r′ r)
 
   -- what was open is open still, or is this place, which is decided now; the place above it is open
-  pub rest-kept : (Open Open′ : ℕ → ℕ → Type 0) → ((r′ q : ℕ) → 0 < q → q < childCount d r′ → Wins d winners r′ q ⊎ Open r′ q)
+  rest-kept : (Open Open′ : ℕ → ℕ → Type 0) → ((r′ q : ℕ) → 0 < q → q < childCount d r′ → Wins d winners r′ q ⊎ Open r′ q)
       → ((r′ q : ℕ) → Open r′ q → Open′ r′ q ⊎ ((r′ ≡ r) × (q ≡ p))) → (p < childCount d r → Wins d (set winners (treeStart d r + p) x) r p)
       → (0 < p / 2 → Open′ r (p / 2))
       → (r′ q : ℕ) → 0 < q → q < childCount d r′ → Wins d (set winners (treeStart d r + p) x) r′ q ⊎ Open′ r′ q

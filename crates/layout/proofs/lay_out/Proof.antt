@@ -5,14 +5,30 @@ use Rattle.layout.proofs.Represented.{whole}
 use Rattle.layout.proofs.lay_out.Statement.{statement}
 use Rattle.layout.proofs.lay_out.Tie as tie
 
+-- where the function begins, and the calls before a place
+abbrev entry : tie.After-lay-arcs → tie.Start
+entry c =
+    let known = c .before .before .before .before in
+    let first = known .before .before .before .before in
+    first .before .before .before
+
+abbrev arcs : tie.After-enter-lengths-arg → tie.After-lay-arcs
+arcs c =
+    let known = c .before .before in
+    known .before .before .before
+
+abbrev lengths : tie.After-enter-spans-arg → tie.After-enter-lengths
+lengths c = c .before .before .before
+
+abbrev spans : tie.After-lay-regions-arg → tie.After-enter-spans
+spans c = c .before .before .before
+
 lay-arcs-requires : tie.Need-lay-arcs-requires
 lay-arcs-requires c κs = search needs
 
 enter-lengths-requires : tie.Need-enter-lengths-requires
 enter-lengths-requires c κs =
-    let earlier = c .before .before .before .before .before .before .before .before in
-    let early = earlier .before .before .before .before .before .before .before .before in
-    let pre = early .before .pre in
+    let pre = entry (arcs c) .pre in
     (pre .1, few-arcs _ (pre .0), pre .2 .lengths-all)
 
 enter-spans-requires : tie.Need-enter-spans-requires
@@ -42,21 +58,14 @@ same-length-6 c = search needs
 same-length-7 : tie.Need-same-length-7
 same-length-7 c = search needs
 
-same-length-8 : tie.Need-same-length-8
-same-length-8 c = search needs
-
 returns : tie.Need-returns
 returns c =
-    let earlier = c .before .before .before .before .before .before .before .before in
-    let early = earlier .before .before .before .before .before .before .before .before in
-    let prior = early .before .before .before .before .before .before .before .before in
-    let first = prior .before .before .before .before .before .before .before .before in
-    let pre = first .before .before .before .before .before .pre in
-    let lay-arcs = prior .before .lay-arcs in
-    let enter-lengths = early .before .before .before .enter-lengths in
-    let enter-spans = earlier .before .before .before .before .before .before .before .enter-spans in
-    let lay-regions = earlier .lay-regions in
-    whole _ (pre .0) (lay-arcs .ensures) (enter-lengths .ensures) (enter-spans .ensures) (lay-regions .ensures)
+    let known = c .before .before .before .before in
+    let regions = known .before .before in
+    let span = spans (regions .before .before .before) in
+    let long = lengths (span .before) in
+    let arc = arcs (long .before) in
+    whole _ (entry arc .pre .0) (arc .lay-arcs .ensures) (long .enter-lengths .ensures) (span .enter-spans .ensures) (regions .lay-regions .ensures)
 
 pub lay-out-spec : {M : Type 1} → statement M
 lay-out-spec =
@@ -73,5 +82,4 @@ lay-out-spec =
     same-length-5
     same-length-6
     same-length-7
-    same-length-8
     returns)

@@ -1,8 +1,9 @@
 -- `lay_trees` meets its contract: the trees of the regions passed lie one after the other. Assumes nothing.
-use Prim.Native.Nat.{ℕ, _-_, _<_}
-use mathlib.Core.Path.{sym, ap, _∙_}
+use Prim.Native.Nat.{ℕ, _*_, _-_, _<_}
+use mathlib.Core.Path.{_≡_, refl, ap, _∙_}
 use mathlib.Core.List.{List}
 use native.Mathlib.Omega.{arith}
+use lib.ListN.{length}
 use Rattle.procedure.specs.Division.{Division, regions}
 use Rattle.rows.specs.Rows.{field}
 use Rattle.queue.specs.Trees.{Ranked}
@@ -12,7 +13,8 @@ use Rattle.planning.proofs.lay_trees.Statement.{statement}
 use Rattle.planning.proofs.lay_trees.Tie as tie
 
 abbrev Inv-loop : tie.InvT-loop
-Inv-loop rows₀ n start₀ r₀ rows start r = (d : Division) → Ranked d rows₀ → Laying d rows start r
+Inv-loop rows₀ n start₀ r₀ rows start r =
+    (length rows ≡ length rows₀) × ((d : Division) → Ranked d rows₀ → length rows₀ ≡ 4 * regions d → Laying d rows start r)
 
 abbrev μ-loop : tie.MeasureT-loop
 μ-loop rows₀ n start₀ r₀ rows start r = n - r
@@ -23,16 +25,16 @@ entry c = c .before .before .before
 
 -- the invariant for the given division
 now : (c : tie.In-loop Inv-loop μ-loop) → Laying (entry c .pre .0) (c .before .loop .rows) (c .before .loop .start) (c .before .loop .r)
-now c = c .before .loop .inv (entry c .pre .0) (entry c .pre .1)
+now c = c .before .loop .inv .1 (entry c .pre .0) (entry c .pre .1) (entry c .pre .2)
 
 inside : (c : tie.In-loop Inv-loop μ-loop) → c .before .loop .r < regions (entry c .pre .0)
-inside c = omega (arith, c .loop-test .taken, entry c .pre .1 .counted .all)
+inside c = omega (arith, c .loop-test .taken, entry c .pre .2)
 
 cast-n : tie.Need-cast-n Inv-loop μ-loop
-cast-n c = omega (arith, c .before .pre .1 .counted .all, c .before .pre .1 .counted .numbered .few)
+cast-n c = omega (arith, c .before .pre .2, c .before .pre .1 .counted .numbered .few)
 
 loop-holds : tie.Need-loop-holds Inv-loop μ-loop
-loop-holds c = λ d R. laying-start R
+loop-holds c = (refl, λ d R _. laying-start R)
 
 set-field-requires : tie.Need-set-field-requires Inv-loop μ-loop
 set-field-requires c κs =
@@ -82,16 +84,16 @@ loop-again c =
     let loop = earlier .before .before .before .loop in
     let set-field = earlier .set-field in
     let loop-test = earlier .before .before .loop-test in
-    let read = c .children-of .ensures ∙ ap (λ (l : List ℕ). field l (loop .r) 1) (set-field .ensures) in
-    rw (set-field .ensures) (λ d R. laying-step (loop .inv d R) (omega (arith, loop-test .taken, R .counted .all)) _ read)
+    let read = c .children-of .ensures ∙ ap (λ (l : List ℕ). field l (loop .r) 1) (set-field .ensures) in (
+      omega (arith, set-field .kept, loop .inv .0),
+      rw (set-field .ensures) (λ d R e. laying-step (loop .inv .1 d R e) (omega (arith, loop-test .taken, e)) _ read),
+    )
 
 same-length : tie.Need-same-length Inv-loop μ-loop
-same-length c =
-    let pre = c .before .before .before .pre in
-    c .before .loop .inv (pre .0) (pre .1) .ranked .counted .all ∙ sym (pre .1 .counted .all)
+same-length c = c .before .loop .inv .0
 
 returns : tie.Need-returns Inv-loop μ-loop
-returns c = λ d R. laying-end (c .before .loop .inv d R) (omega (arith, c .loop-test .left, R .counted .all))
+returns c = λ d R e. laying-end (c .before .loop .inv .1 d R e) (omega (arith, c .loop-test .left, e))
 
 pub lay-trees-spec : {M : Type 1} → statement M
 lay-trees-spec =
