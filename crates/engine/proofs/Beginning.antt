@@ -1,9 +1,10 @@
 -- What the start rests on: filled slices and cleared queues are the start before its updates. Assumes nothing.
-use Prim.Native.Nat.{ℕ, _≤_, _<_}
+use Prim.Native.Nat.{ℕ, _+_, _-_, _≤_, _<_}
 use mathlib.Core.Path.{_≡_, refl, sym, ap, _∙_}
 use mathlib.Core.List.{List}
 use native.Mathlib.Omega.{arith}
-use lib.ListN.{length, set, replicate, length-set, length-replicate}
+use lib.ListN.{length, set, take, replicate, length-set, length-replicate, replicate-append-replicate}
+use lib.Seq.{take-at, take-set-lt}
 use Rattle.sheet.specs.Limits.{mostArcsEachWay}
 use Rattle.sheet.specs.Words.{top}
 use Rattle.procedure.specs.Graph.{Graph, arcs}
@@ -13,9 +14,10 @@ use Rattle.procedure.specs.Queues.{updateOutgoing}
 use Rattle.procedure.specs.Procedure.{start}
 use Rattle.theory.specs.Counts.{Small}
 use Rattle.theory.proofs.Final.{no-rounds, after-small}
-use Rattle.queue.specs.Trees.{QueuesOk}
+use Rattle.queue.specs.Trees.{LaidOut, QueuesOk}
 use Rattle.slices.specs.Tables.{Tables}
-use Rattle.slices.specs.States.{queuesOf, stateOf, UpdatingOutgoing, Queued, Computed, Blank}
+use Rattle.slices.specs.States.{queuesOf, queuesIn, stateIn, UpdatingOutgoing, Queued, Computed, Blank}
+use Rattle.updates.proofs.Updates.{outgoing-owned}
 
 -- at most four arcs leave a node
 pub few-out : mostArcsEachWay ≤ 4
@@ -39,51 +41,70 @@ start-by-updates : (g : Graph) (d : Division) (spans : List ℕ) → start g d s
 unfolding start
 start-by-updates g d spans = refl
 
--- slices filled with 'none', in place of the ones that were lent
-module _ {g : Graph} {d : Division} {t : Tables} {labels predecessors own keys winners : List ℕ} (B : Blank g d t labels predecessors own keys winners)
-    {source : ℕ} (at-source : source ≡ g .source) where
+-- the front of an array that is filled with 'none'
+filled : (n : ℕ) {k m : ℕ} {ys : List ℕ} → ys ≡ replicate k top → k ≡ m → n ≤ m → take n ys ≡ replicate n top
+filled n {m = m} e long l =
+    let parts : n + (m - n) ≡ m = omega arith in
+    rw (e, long, ← parts, ← replicate-append-replicate n (m - n) top) (take-at (replicate n top) (replicate (m - n) top) n (length-replicate n top))
+
+module _ {g : Graph} {d : Division} {t : Tables} (B : Blank g d t) where
+  pub nodes-filled : {k : ℕ} {ys : List ℕ} → ys ≡ replicate k top → k ≡ 1024 → take (g .nodes) ys ≡ replicate (g .nodes) top
+  nodes-filled e long = filled (g .nodes) e long (B .tabled .ok .graph .few-nodes)
+
+  pub arcs-filled : {k : ℕ} {ys : List ℕ} → ys ≡ replicate k top → k ≡ 2048 → take (arcs g) ys ≡ replicate (arcs g) top
+  arcs-filled e long = filled (arcs g) e long (B .tabled .ok .graph .few-arcs)
+
+  -- the array of the queues has room for the most regions
+  pub start-laid : {winners : List ℕ} → length winners ≡ 8190 → LaidOut d (t .rows) winners
+  start-laid long = record { planned = B .planned; room = omega (arith, B .tabled .ok .division .few-regions) }
+
   start-small : Small (start g d (t .spans))
   start-small = rw (no-rounds g d (t .spans)) at (after-small (B .tabled .ok) few-out 0)
 
-  pub source-in : source < length labels
-  source-in = omega (arith, B .labelled, B .tabled .ok .graph .source-in)
+  module _ {source : ℕ} (at-source : source ≡ g .source) where
+    source-node : source < g .nodes
+    source-node = omega (arith, B .tabled .ok .graph .source-in)
 
-  module _ {labels′ predecessors′ own′ keys′ winners′ : List ℕ} (el : labels′ ≡ replicate (length labels) top)
-      (ep : predecessors′ ≡ replicate (length predecessors) top) (eo : own′ ≡ replicate (length own) top) (ek : keys′ ≡ replicate (length keys) top)
-      (Q : QueuesOk d (t .rows) keys′ winners′) where
-    is-blank : queuesOf own′ keys′ 0 ≡ noKeys g d
-    is-blank = rw (eo, ek, B .owned, B .keyed)
+    pub source-in : source < 1024
+    source-in = omega (arith, source-node, B .tabled .ok .graph .few-nodes)
 
-    own-length : length own′ ≡ arcs g
-    own-length = ap length eo ∙ length-replicate (length own) top ∙ B .owned
+    -- arrays filled with 'none', in place of the ones that were lent
+    module _ (labels predecessors own : List ℕ) {winners′ : List ℕ} (el : take (g .nodes) labels ≡ replicate (g .nodes) top)
+        (ep : take (g .nodes) predecessors ≡ replicate (g .nodes) top) (eo : take (arcs g) own ≡ replicate (arcs g) top)
+        (Q : QueuesOk d (t .rows) (replicate (regions d) top) winners′) where
+      is-blank : queuesIn g own (replicate (regions d) top) 0 ≡ noKeys g d
+      is-blank = rw eo
 
-    pub start-asks : UpdatingOutgoing g d (t .rows) (t .arcRows) (t .firsts) (queuesOf own′ keys′ 0) winners′ source 0
-    start-asks = record {
-      updatable = record {
-        graph = B .tabled .ok .graph;
-        division = B .tabled .ok .division;
-        arc-rows = B .tabled .arc-rows;
-        owned = own-length;
-        queues = Q;
-      };
-      links = B .tabled .links;
-      in-range = omega (arith, B .tabled .ok .graph .source-in);
-      small = rw (at-source, is-blank, ← ap (λ (w : State). w .queues .updates) (start-by-updates g d (t .spans))) (start-small .updates);
-    }
+      pub start-asks : UpdatingOutgoing g d (t .rows) (t .arcRows) (t .firsts) (queuesIn g own (replicate (regions d) top) 0) winners′ source 0
+      start-asks = record {
+        updatable = record {
+          graph = B .tabled .ok .graph;
+          division = B .tabled .ok .division;
+          arc-rows = B .tabled .arc-rows;
+          owned = ap length eo ∙ length-replicate (arcs g) top;
+          queues = Q;
+        };
+        links = B .tabled .links;
+        in-range = source-node;
+        small = rw (at-source, is-blank, ← ap (λ (w : State). w .queues .updates) (start-by-updates g d (t .spans))) (start-small .updates);
+      }
 
-    pub started : {own″ keys″ winners″ : List ℕ} {n : ℕ}
-        → Queued d (t .rows) (updateOutgoing d (g .tails) source 0 (queuesOf own′ keys′ 0)) (queuesOf own″ keys″ n) winners″ → length own″ ≡ length own′
-        → Computed g d t (start g d (t .spans))
-        (stateOf (set labels′ source 0) predecessors′ own″ keys″ (record { rounds = 0; leaves = 0; inner = 0; updates = n })) winners″
-    started {own″} {keys″} {winners″} {n} R e = record {
-      result =
-          rw (el, ep, at-source, B .labelled, B .fed)
-          (ap (startWith g) (R .result ∙ rw (at-source, is-blank)) ∙ sym (start-by-updates g d (t .spans)));
-      represents = record {
-        tabled = B .tabled;
-        labelled = length-set labels′ source 0 ∙ ap length el ∙ length-replicate (length labels) top ∙ B .labelled;
-        fed = ap length ep ∙ length-replicate (length predecessors) top ∙ B .fed;
-        owned = e ∙ own-length;
-        queues = R .valid;
-      };
-    }
+      label-written : take (g .nodes) (set labels source 0) ≡ set (replicate (g .nodes) top) source 0
+      label-written = take-set-lt (g .nodes) labels source 0 source-node ∙ ap (λ (xs : List ℕ). set xs source 0) el
+
+      pub started : (own′ : List ℕ) {keys winners″ : List ℕ} {n : ℕ}
+          → Queued d (t .rows) (updateOutgoing d (g .tails) source 0 (queuesIn g own (replicate (regions d) top) 0)) (queuesIn g own′ keys n) winners″
+          → Computed g d t (start g d (t .spans))
+          (stateIn g (set labels source 0) predecessors own′ keys (record { rounds = 0; leaves = 0; inner = 0; updates = n })) winners″
+      started own′ R = record {
+        result =
+            rw (label-written, ep, at-source)
+            (ap (startWith g) (R .result ∙ rw (at-source, is-blank)) ∙ sym (start-by-updates g d (t .spans)));
+        represents = record {
+          tabled = B .tabled;
+          labelled = rw label-written (length-set (replicate (g .nodes) top) source 0 ∙ length-replicate (g .nodes) top);
+          fed = ap length ep ∙ length-replicate (g .nodes) top;
+          owned = ap (λ (q : Queues). length (q .own)) (R .result) ∙ outgoing-owned (start-asks .updatable) source 0;
+          queues = R .valid;
+        };
+      }

@@ -22,7 +22,7 @@ use Rattle.theory.proofs.Chosen.{Chosen, chosen-of-key}
 use Rattle.theory.proofs.Process.{key-alive, none-alive, inner-high, chosen-lower, process-leaf, process-inner}
 use Rattle.theory.proofs.Grows.{grows-trans, grows-small, rewriteKey-grows, process-grows, children-grow, rounds-grow}
 use Rattle.theory.proofs.Final.{rounds-in-parts, after-small}
-use Rattle.queue.specs.Trees.{Written}
+use Rattle.queue.specs.Trees.{QueuesOk}
 use Rattle.counts.specs.Counted.{roundCounted, innerCounted}
 use Rattle.counts.specs.declared.Counts.{Counts}
 use Rattle.slices.specs.Tables.{Tables, noArc, arcEntry, heightEntry}
@@ -189,19 +189,19 @@ module _ {g : Graph} {d : Division} {t : Tables} {r left₀ : ℕ} {s₀ : State
       }
 
       -- its key is rewritten, and the loop goes on
-      pub turned : {k : ℕ} → k ≡ minKey d (queuesOf own keys (c .updates)) x → {keys′ winners″ : List ℕ} → Written (t .rows) keys winners′ x k keys′ winners″
-          → Looping g d t (alive g d r) (turn g d t r) left₀ s₀ (left - 1) (stateOf labels predecessors own keys′ c) winners″
-      turned {k} e {keys′} {winners″} N = record {
+      pub turned : {k : ℕ} → k ≡ minKey d (queuesOf own keys (c .updates)) x → {winners″ : List ℕ} → QueuesOk d (t .rows) (set keys x k) winners″
+          → Looping g d t (alive g d r) (turn g d t r) left₀ s₀ (left - 1) (stateOf labels predecessors own (set keys x k) c) winners″
+      turned e N = record {
         represents = record {
           tabled = W .represents .tabled;
           labelled = W .represents .labelled;
           fed = W .represents .fed;
           owned = W .represents .owned;
-          queues = N .valid d (W .represents .queues);
+          queues = N;
         };
         sofar =
             ap (times (left - 1) (alive g d r) (turn g d t r))
-            (rw (N .result, e) (rewritten-key g d x labels predecessors own keys c ∙ ap (rewriteKey g d x) (W .result)))
+            (rw e (rewritten-key g d x labels predecessors own keys c ∙ ap (rewriteKey g d x) (W .result)))
             ∙ onward;
       }
 

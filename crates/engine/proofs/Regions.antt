@@ -6,7 +6,8 @@ use mathlib.Core.Logic.{_≢_, ⊎-elim}
 use mathlib.Core.List.{List}
 use native.Mathlib.Omega.{arith}
 use borrow.Author.Tests.{le-leb, lt-leb}
-use lib.ListN.{length}
+use lib.ListN.{take}
+use lib.Seq.{getD-take}
 use lib.Dec.{leb}
 use Rattle.indices.specs.Columns.{at}
 use Rattle.indices.proofs.Steps.{true-or-false, lt-or-le}
@@ -49,12 +50,20 @@ module _ {m : ℕ} {d : Division} {rows regionRows own keys winners : List ℕ} 
     arc-is : a ≡ arcOf d r
     arc-is = row ∙ K .region-rows .leaf r (K .in-range) is-leaf
 
-    pub own-key-in : a < length own
-    own-key-in = omega (arith, arc-is, K .division .leaf-arc r (K .in-range) is-leaf .0, K .owned)
+    arc-in : a < m
+    arc-in = omega (arith, arc-is, K .division .leaf-arc r (K .in-range) is-leaf .0)
 
-    -- a leaf's smallest key is its arc's own
-    pub own-key : (updates : ℕ) → at own a ≡ minKey d (queuesOf own keys updates) r
-    own-key updates = ap (at own) arc-is ∙ sym (minKey-leaf d (queuesOf own keys updates) r is-leaf)
+    pub own-key-in : a < 2048
+    own-key-in = omega (arith, arc-in, K .few)
+
+-- a leaf's smallest key is its arc's own, in the front of an array
+pub own-key : {m : ℕ} {d : Division} {rows regionRows : List ℕ} (own : List ℕ) {keys winners : List ℕ} {r : ℕ}
+    (K : Keyed m d rows regionRows (take m own) keys winners r) {a : ℕ} → a ≡ arcEntry regionRows r → a ≢ noArc → (updates : ℕ)
+    → at own a ≡ minKey d (queuesOf (take m own) keys updates) r
+own-key {m} {d} own {keys} {r = r} K {a} row n updates =
+    sym (getD-take m own a 0 (arc-in K row n))
+    ∙ ap (at (take m own)) (arc-is K row n)
+    ∙ sym (minKey-leaf d (queuesOf (take m own) keys updates) r (is-leaf K row n))
 
 -- "A run has ended when region 0's smallest key is none."
 pub ended-by-key : (g : Graph) (d : Division) (s : State) (k : ℕ) → k ≡ minKey d (s .queues) 0 → leb top k ≡ ended g d s

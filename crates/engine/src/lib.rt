@@ -1,17 +1,18 @@
-// The procedure over slices that the caller lends: the working of a region, the start and the rounds. Each function computes its definition. What a run
-// only reads lies in rows, so that six slices hold it all: a slice is two words of every call.
+// The procedure over slices and arrays that the caller lends: the working of a region, the start and the rounds. Each function computes its definition.
+// What a run only reads lies in rows, so that six tables hold it all. An array is one word of every call, a slice two.
 ghost use mathlib.Core.Path.{_≡_};
 ghost use mathlib.Core.Bool.{false, not};
 ghost use mathlib.Core.List.{List};
 ghost use Prim.Native.Nat.{ℕ};
+ghost use lib.ListN.{take};
 ghost use Rattle.indices.specs.Steps.{times};
 ghost use Rattle.procedure.specs.Graph.{Graph};
-ghost use Rattle.procedure.specs.Division.{Division, isLeaf};
+ghost use Rattle.procedure.specs.Division.{Division, regions, isLeaf};
 ghost use Rattle.procedure.specs.Queues.{minKey};
 ghost use Rattle.procedure.specs.Procedure.{process, ended, start, round, after};
 ghost use Rattle.queue.specs.Trees.{QueuesOk};
 ghost use Rattle.slices.specs.Tables.{tablesOf};
-ghost use Rattle.slices.specs.States.{queuesOf, stateOf};
+ghost use Rattle.slices.specs.States.{queuesOf, stateOf, stateIn};
 ghost use Rattle.slices.specs.States.{Keyed, Represents, Processing, Computed, Blank};
 use counts::Counts;
 use queue::NONE;
@@ -21,21 +22,20 @@ use slices::INNER;
 
 // The smallest key of any region.
 fn key_of(
-    rows: &[u16],
-    regions: &[u16],
-    own: &[u32],
-    keys: &[u32],
-    winners: &[u16],
+    rows: &[u16; 16380],
+    regions: &[u16; 8190],
+    own: &[u32; 2048],
+    winners: &[u64; 8190],
     r: Region,
 ) -> u32
-    requires { ⌜ ((m : ℕ) × (d : Division) × Keyed m d (now rows) (now regions) (now own) (now keys) (now winners) (r .0)) ⌝ }
-    ensures { λ k. ⌜ ((m : ℕ) (d : Division) (updates : ℕ) → Keyed m d (now (rows .entry)) (now (regions .entry)) (now (own .entry)) (now (keys .entry))
-        (now (winners .entry)) (r .0)
-        → k ≡ minKey d (queuesOf (now (own .entry)) (now (keys .entry)) updates) (r .0)) ⌝ }
+    requires { ⌜ ((m : ℕ) × (d : Division) × (keys : List ℕ) × Keyed m d (now rows) (now regions) (take m (now own)) keys (now winners) (r .0)) ⌝ }
+    ensures { λ k. ⌜ ((m : ℕ) (d : Division) (keys : List ℕ) (updates : ℕ)
+        → Keyed m d (now (rows .entry)) (now (regions .entry)) (take m (now (own .entry))) keys (now (winners .entry)) (r .0)
+        → k ≡ minKey d (queuesOf (take m (now (own .entry))) keys updates) (r .0)) ⌝ }
 {
     let a = slices::arc_of(regions, r);
     if a.0 == INNER {
-        return queue::min_key(rows, keys, winners, r);
+        return queue::min_key(rows, winners, r);
     }
     let i = a.0 as usize;
     own[i]
@@ -43,29 +43,28 @@ fn key_of(
 
 // Works region r: a leaf, or an inner region by its loop.
 fn process_region(
-    rows: &[u16],
+    rows: &[u16; 16380],
     arcs: &[u16],
-    firsts: &[u16],
-    lengths: &[u32],
+    firsts: &[u16; 1024],
+    lengths: &[u32; 2048],
     spans: &[u32],
-    regions: &[u16],
-    labels: &mut [u32],
-    predecessors: &mut [u32],
-    own: &mut [u32],
-    keys: &mut [u32],
-    winners: &mut [u16],
+    regions: &[u16; 8190],
+    labels: &mut [u32; 1024],
+    predecessors: &mut [u32; 1024],
+    own: &mut [u32; 2048],
+    winners: &mut [u64; 8190],
     r: Region,
     c: Counts,
 ) -> Counts
     requires { ⌜ (let t = tablesOf (now rows) (now arcs) (now firsts) (now lengths) (now spans) (now regions) in
-        let s = stateOf (now labels) (now predecessors) (now own) (now keys) c in
-        (g : Graph) × (d : Division) × Processing g d t s (now winners) (r .0) (process g d (t .spans) (r .0) s)) ⌝ }
+        (g : Graph) × (d : Division) × (keys : List ℕ) × let s = stateIn g (now labels) (now predecessors) (now own) keys c in
+        Processing g d t s (now winners) (r .0) (process g d (t .spans) (r .0) s)) ⌝ }
     ensures { λ n. ⌜ (let t = tablesOf (now (rows .entry)) (now (arcs .entry)) (now (firsts .entry)) (now (lengths .entry)) (now (spans .entry))
         (now (regions .entry)) in
-        let s = stateOf (now (labels .entry)) (now (predecessors .entry)) (now (own .entry)) (now (keys .entry)) c in
-        let s′ = stateOf (now (labels .exit)) (now (predecessors .exit)) (now (own .exit)) (now (keys .exit)) n in
-        (g : Graph) (d : Division) → Processing g d t s (now (winners .entry)) (r .0) (process g d (t .spans) (r .0) s)
-        → Computed g d t (process g d (t .spans) (r .0) s) s′ (now (winners .exit))) ⌝ }
+        (g : Graph) (d : Division) (keys : List ℕ) → let s = stateIn g (now (labels .entry)) (now (predecessors .entry)) (now (own .entry)) keys c in
+        Processing g d t s (now (winners .entry)) (r .0) (process g d (t .spans) (r .0) s)
+        → ((keys′ : List ℕ) × Computed g d t (process g d (t .spans) (r .0) s)
+        (stateIn g (now (labels .exit)) (now (predecessors .exit)) (now (own .exit)) keys′ n) (now (winners .exit)))) ⌝ }
 {
     let a = slices::arc_of(regions, r);
     if a.0 == INNER {
@@ -79,7 +78,6 @@ fn process_region(
             labels,
             predecessors,
             own,
-            keys,
             winners,
             r,
             c,
@@ -94,7 +92,6 @@ fn process_region(
         labels,
         predecessors,
         own,
-        keys,
         winners,
         r,
         c,
@@ -103,34 +100,33 @@ fn process_region(
 
 // Works the inner region r: up to span times, while its smallest key isn't none, its first-chosen child is worked and gets its key anew.
 fn process_inner(
-    rows: &[u16],
+    rows: &[u16; 16380],
     arcs: &[u16],
-    firsts: &[u16],
-    lengths: &[u32],
+    firsts: &[u16; 1024],
+    lengths: &[u32; 2048],
     spans: &[u32],
-    regions: &[u16],
-    labels: &mut [u32],
-    predecessors: &mut [u32],
-    own: &mut [u32],
-    keys: &mut [u32],
-    winners: &mut [u16],
+    regions: &[u16; 8190],
+    labels: &mut [u32; 1024],
+    predecessors: &mut [u32; 1024],
+    own: &mut [u32; 2048],
+    winners: &mut [u64; 8190],
     r: Region,
     c: Counts,
 ) -> Counts
     requires { ⌜ (let t = tablesOf (now rows) (now arcs) (now firsts) (now lengths) (now spans) (now regions) in
-        let s = stateOf (now labels) (now predecessors) (now own) (now keys) c in
-        (g : Graph) × (d : Division) × Processing g d t s (now winners) (r .0) (process g d (t .spans) (r .0) s) × isLeaf d (r .0) ≡ false) ⌝ }
+        (g : Graph) × (d : Division) × (keys : List ℕ) × let s = stateIn g (now labels) (now predecessors) (now own) keys c in
+        Processing g d t s (now winners) (r .0) (process g d (t .spans) (r .0) s) × isLeaf d (r .0) ≡ false) ⌝ }
     ensures { λ n. ⌜ (let t = tablesOf (now (rows .entry)) (now (arcs .entry)) (now (firsts .entry)) (now (lengths .entry)) (now (spans .entry))
         (now (regions .entry)) in
-        let s = stateOf (now (labels .entry)) (now (predecessors .entry)) (now (own .entry)) (now (keys .entry)) c in
-        let s′ = stateOf (now (labels .exit)) (now (predecessors .exit)) (now (own .exit)) (now (keys .exit)) n in
-        (g : Graph) (d : Division) → Processing g d t s (now (winners .entry)) (r .0) (process g d (t .spans) (r .0) s) → isLeaf d (r .0) ≡ false
-        → Computed g d t (process g d (t .spans) (r .0) s) s′ (now (winners .exit))) ⌝ }
+        (g : Graph) (d : Division) (keys : List ℕ) → let s = stateIn g (now (labels .entry)) (now (predecessors .entry)) (now (own .entry)) keys c in
+        Processing g d t s (now (winners .entry)) (r .0) (process g d (t .spans) (r .0) s) → isLeaf d (r .0) ≡ false
+        → ((keys′ : List ℕ) × Computed g d t (process g d (t .spans) (r .0) s)
+        (stateIn g (now (labels .exit)) (now (predecessors .exit)) (now (own .exit)) keys′ n) (now (winners .exit)))) ⌝ }
 {
     let mut left = slices::span_of(spans, regions, r);
     let mut n = counts::count_inner(c);
     while 0 < left {
-        let least = queue::min_key(rows, keys, winners, r);
+        let least = queue::min_key(rows, winners, r);
         if NONE <= least {
             return n;
         }
@@ -145,48 +141,46 @@ fn process_inner(
             labels,
             predecessors,
             own,
-            keys,
             winners,
             child,
             n,
         );
-        let key = key_of(rows, regions, own, keys, winners, child);
-        queue::write(rows, keys, winners, child, key);
+        let key = key_of(rows, regions, own, winners, child);
+        queue::write(rows, winners, child, key);
         left -= 1;
     }
     n
 }
 
-// The state before the first round, made in slices that may hold anything. Lengths, spans and the regions' rows are not read.
+// The state before the first round, made in arrays that may hold anything. There are `count` regions. Lengths, spans and the
+// regions' rows are not read.
 pub fn start(
-    rows: &[u16],
+    rows: &[u16; 16380],
     arcs: &[u16],
-    firsts: &[u16],
-    labels: &mut [u32],
-    predecessors: &mut [u32],
-    own: &mut [u32],
-    keys: &mut [u32],
-    winners: &mut [u16],
+    firsts: &[u16; 1024],
+    labels: &mut [u32; 1024],
+    predecessors: &mut [u32; 1024],
+    own: &mut [u32; 2048],
+    winners: &mut [u64; 8190],
     source: Node,
+    count: u16,
 ) -> Counts
-    requires { ⌜ ((g : Graph) × (d : Division) × (lengths : List ℕ) × (spans : List ℕ) × (regions : List ℕ)
-        × Blank g d (tablesOf (now rows) (now arcs) (now firsts) lengths spans regions) (now labels) (now predecessors) (now own) (now keys) (now winners)
-        × (source .0 ≡ g .source)) ⌝ }
-    ensures { λ n. ⌜ (let s = stateOf (now (labels .exit)) (now (predecessors .exit)) (now (own .exit)) (now (keys .exit)) n in
-        (g : Graph) (d : Division) (lengths spans regions : List ℕ)
-        → Blank g d (tablesOf (now (rows .entry)) (now (arcs .entry)) (now (firsts .entry)) lengths spans regions) (now (labels .entry))
-        (now (predecessors .entry)) (now (own .entry)) (now (keys .entry)) (now (winners .entry))
-        → source .0 ≡ g .source
-        → Computed g d (tablesOf (now (rows .entry)) (now (arcs .entry)) (now (firsts .entry)) lengths spans regions) (start g d spans) s
-        (now (winners .exit))) ⌝ }
+    requires { ⌜ ((g : Graph) × (d : Division) × (lengths : List ℕ) × (spans : List ℕ) × (regionRows : List ℕ)
+        × Blank g d (tablesOf (now rows) (now arcs) (now firsts) lengths spans regionRows) × (source .0 ≡ g .source)
+        × (count ≡ regions d)) ⌝ }
+    ensures { λ n. ⌜ ((g : Graph) (d : Division) (lengths spans regionRows : List ℕ)
+        → let t = tablesOf (now (rows .entry)) (now (arcs .entry)) (now (firsts .entry)) lengths spans regionRows in
+        Blank g d t → source .0 ≡ g .source → count ≡ regions d
+        → ((keys : List ℕ) × Computed g d t (start g d spans)
+        (stateIn g (now (labels .exit)) (now (predecessors .exit)) (now (own .exit)) keys n) (now (winners .exit)))) ⌝ }
 {
     rows::fill_keys(labels, NONE);
     rows::fill_keys(predecessors, NONE);
     rows::fill_keys(own, NONE);
-    queue::clear(rows, keys, winners);
+    queue::clear(rows, winners, count);
     let i = source.0 as usize;
     labels[i] = 0;
-    let n = updates::update_outgoing(rows, arcs, firsts, own, keys, winners, source, 0, 0);
+    let n = updates::update_outgoing(rows, arcs, firsts, own, winners, source, 0, 0);
     Counts {
         rounds: 0,
         leaves: 0,
@@ -196,41 +190,39 @@ pub fn start(
 }
 
 // Whether the run has ended.
-pub fn has_ended(rows: &[u16], keys: &[u32], winners: &[u16]) -> bool
-    requires { ⌜ ((d : Division) × QueuesOk d (now rows) (now keys) (now winners)) ⌝ }
-    ensures { λ b. ⌜ ((g : Graph) (d : Division) (labels predecessors own : List ℕ) (c : Counts) → QueuesOk d (now (rows .entry)) (now (keys .entry))
-        (now (winners .entry))
-        → isLeaf d 0 ≡ false → b ≡ ended g d (stateOf labels predecessors own (now (keys .entry)) c)) ⌝ }
+pub fn has_ended(rows: &[u16; 16380], winners: &[u64; 8190]) -> bool
+    requires { ⌜ ((d : Division) × (keys : List ℕ) × QueuesOk d (now rows) keys (now winners)) ⌝ }
+    ensures { λ b. ⌜ ((g : Graph) (d : Division) (labels predecessors own keys : List ℕ) (c : Counts)
+        → QueuesOk d (now (rows .entry)) keys (now (winners .entry)) → isLeaf d 0 ≡ false → b ≡ ended g d (stateOf labels predecessors own keys c)) ⌝ }
 {
-    NONE <= queue::min_key(rows, keys, winners, Region(0))
+    NONE <= queue::min_key(rows, winners, Region(0))
 }
 
-// One round: one working of region 0.
+// One round: one working of region 0, which is never a leaf.
 fn round(
-    rows: &[u16],
+    rows: &[u16; 16380],
     arcs: &[u16],
-    firsts: &[u16],
-    lengths: &[u32],
+    firsts: &[u16; 1024],
+    lengths: &[u32; 2048],
     spans: &[u32],
-    regions: &[u16],
-    labels: &mut [u32],
-    predecessors: &mut [u32],
-    own: &mut [u32],
-    keys: &mut [u32],
-    winners: &mut [u16],
+    regions: &[u16; 8190],
+    labels: &mut [u32; 1024],
+    predecessors: &mut [u32; 1024],
+    own: &mut [u32; 2048],
+    winners: &mut [u64; 8190],
     c: Counts,
 ) -> Counts
     requires { ⌜ (let t = tablesOf (now rows) (now arcs) (now firsts) (now lengths) (now spans) (now regions) in
-        let s = stateOf (now labels) (now predecessors) (now own) (now keys) c in
-        (g : Graph) × (d : Division) × Processing g d t s (now winners) 0 (round g d (t .spans) s)) ⌝ }
+        (g : Graph) × (d : Division) × (keys : List ℕ) × let s = stateIn g (now labels) (now predecessors) (now own) keys c in
+        Processing g d t s (now winners) 0 (round g d (t .spans) s)) ⌝ }
     ensures { λ n. ⌜ (let t = tablesOf (now (rows .entry)) (now (arcs .entry)) (now (firsts .entry)) (now (lengths .entry)) (now (spans .entry))
         (now (regions .entry)) in
-        let s = stateOf (now (labels .entry)) (now (predecessors .entry)) (now (own .entry)) (now (keys .entry)) c in
-        let s′ = stateOf (now (labels .exit)) (now (predecessors .exit)) (now (own .exit)) (now (keys .exit)) n in
-        (g : Graph) (d : Division) → Processing g d t s (now (winners .entry)) 0 (round g d (t .spans) s)
-        → Computed g d t (round g d (t .spans) s) s′ (now (winners .exit))) ⌝ }
+        (g : Graph) (d : Division) (keys : List ℕ) → let s = stateIn g (now (labels .entry)) (now (predecessors .entry)) (now (own .entry)) keys c in
+        Processing g d t s (now (winners .entry)) 0 (round g d (t .spans) s)
+        → ((keys′ : List ℕ) × Computed g d t (round g d (t .spans) s)
+        (stateIn g (now (labels .exit)) (now (predecessors .exit)) (now (own .exit)) keys′ n) (now (winners .exit)))) ⌝ }
 {
-    process_region(
+    process_inner(
         rows,
         arcs,
         firsts,
@@ -240,7 +232,6 @@ fn round(
         labels,
         predecessors,
         own,
-        keys,
         winners,
         Region(0),
         counts::count_round(c),
@@ -249,34 +240,33 @@ fn round(
 
 // At most `limit` more rounds, from a state after any number of them.
 pub fn rounds(
-    rows: &[u16],
+    rows: &[u16; 16380],
     arcs: &[u16],
-    firsts: &[u16],
-    lengths: &[u32],
+    firsts: &[u16; 1024],
+    lengths: &[u32; 2048],
     spans: &[u32],
-    regions: &[u16],
-    labels: &mut [u32],
-    predecessors: &mut [u32],
-    own: &mut [u32],
-    keys: &mut [u32],
-    winners: &mut [u16],
+    regions: &[u16; 8190],
+    labels: &mut [u32; 1024],
+    predecessors: &mut [u32; 1024],
+    own: &mut [u32; 2048],
+    winners: &mut [u64; 8190],
     limit: u64,
     c: Counts,
 ) -> Counts
     requires { ⌜ (let t = tablesOf (now rows) (now arcs) (now firsts) (now lengths) (now spans) (now regions) in
-        let s = stateOf (now labels) (now predecessors) (now own) (now keys) c in
-        (g : Graph) × (d : Division) × (k : ℕ) × Represents g d t s (now winners) × (s ≡ after g d (t .spans) k)) ⌝ }
+        (g : Graph) × (d : Division) × (k : ℕ) × (keys : List ℕ) × let s = stateIn g (now labels) (now predecessors) (now own) keys c in
+        Represents g d t s (now winners) × (s ≡ after g d (t .spans) k)) ⌝ }
     ensures { λ n. ⌜ (let t = tablesOf (now (rows .entry)) (now (arcs .entry)) (now (firsts .entry)) (now (lengths .entry)) (now (spans .entry))
         (now (regions .entry)) in
-        let s = stateOf (now (labels .entry)) (now (predecessors .entry)) (now (own .entry)) (now (keys .entry)) c in
-        let s′ = stateOf (now (labels .exit)) (now (predecessors .exit)) (now (own .exit)) (now (keys .exit)) n in
-        (g : Graph) (d : Division) (k : ℕ) → Represents g d t s (now (winners .entry)) → s ≡ after g d (t .spans) k
-        → Computed g d t (times limit (λ s. not (ended g d s)) (round g d (t .spans)) s) s′ (now (winners .exit))) ⌝ }
+        (g : Graph) (d : Division) (k : ℕ) (keys : List ℕ) → let s = stateIn g (now (labels .entry)) (now (predecessors .entry)) (now (own .entry)) keys c in
+        Represents g d t s (now (winners .entry)) → s ≡ after g d (t .spans) k
+        → ((keys′ : List ℕ) × Computed g d t (times limit (λ s. not (ended g d s)) (round g d (t .spans)) s)
+        (stateIn g (now (labels .exit)) (now (predecessors .exit)) (now (own .exit)) keys′ n) (now (winners .exit)))) ⌝ }
 {
     let mut left = limit;
     let mut n = c;
     while 0 < left {
-        if has_ended(rows, keys, winners) {
+        if has_ended(rows, winners) {
             return n;
         }
         n = round(
@@ -289,7 +279,6 @@ pub fn rounds(
             labels,
             predecessors,
             own,
-            keys,
             winners,
             n,
         );

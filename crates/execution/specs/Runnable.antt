@@ -19,13 +19,6 @@ pub record Runnable (b : List ℕ) (at : Sections) (table : List ℕ) : Type 0 w
   pub located : Located b at
   pub room : length table ≡ tableLength (nodeCount b)
 
--- slices for a state, of the lengths in use
-pub record Roomy (b labels predecessors own keys : List ℕ) : Type 0 where
-  pub labels-all : length labels ≡ nodeCount b
-  pub predecessors-all : length predecessors ≡ nodeCount b
-  pub own-all : length own ≡ arcCount b
-  pub keys-all : length keys ≡ regionCount (regionWords b)
-
 -- the sizes of a sheet, all within the limits
 pub record InUse (b : List ℕ) (z : Sizes) : Type 0 where
   pub nodes-all : z .nodes ≡ nodeCount b
@@ -37,8 +30,8 @@ pub record InUse (b : List ℕ) (z : Sizes) : Type 0 where
   pub few-spans : z .spans ≤ mostSpans
   pub few-regions : z .regions ≤ suc mostRegionWords
 
--- arrays with room for the largest sheet: 1,024 nodes, 2,048 arcs, 15 spans, 4,095 regions
-pub record Arrays (parents rows arcs firsts lengths spans regions labels predecessors own keys winners : List ℕ) : Type 0 where
+-- room for the largest sheet: 1,024 nodes, 2,048 arcs, 15 spans, 4,095 regions
+pub record Arrays (parents rows arcs firsts lengths spans regions : List ℕ) : Type 0 where
   pub parents-room : length parents ≡ 4095
   pub rows-room : length rows ≡ 16380
   pub arcs-room : length arcs ≡ 8192
@@ -46,11 +39,6 @@ pub record Arrays (parents rows arcs firsts lengths spans regions labels predece
   pub lengths-room : length lengths ≡ 2048
   pub spans-room : length spans ≡ 15
   pub regions-room : length regions ≡ 8190
-  pub labels-room : length labels ≡ 1024
-  pub predecessors-room : length predecessors ≡ 1024
-  pub own-room : length own ≡ 2048
-  pub keys-room : length keys ≡ 4095
-  pub winners-room : length winners ≡ 8190
 
 -- the table of the state after at most k rounds, and whether the run has ended
 pub record Outcome (b : List ℕ) (k : ℕ) (hasEnded : Bool) (table : List ℕ) : Type 0 where

@@ -1,13 +1,16 @@
 // The run of an accepted sheet: laid out in arrays of its own, started, worked for at most so many rounds, and written into the table.
 ghost use mathlib.Core.Path.{_≡_};
-ghost use Prim.Native.Nat.{_+_, _*_};
-ghost use lib.ListN.{length};
+ghost use Prim.Native.Nat.{_*_, _≤_};
+ghost use lib.ListN.{length, take};
 ghost use Rattle.sheet.specs.Sections.{Located, nodeCount};
 ghost use Rattle.refusals.specs.Judgement.{Accepted};
 ghost use Rattle.answers.specs.Tables.{tableLength};
 ghost use Rattle.slices.specs.Tables.{tablesOf};
-ghost use Rattle.layout.specs.Layout.{Sized, Laid};
-ghost use Rattle.execution.specs.Runnable.{Runnable, Roomy, InUse, Arrays, Outcome};
+ghost use Rattle.procedure.specs.Table.{tableOf};
+ghost use Rattle.table.specs.Writable.{countsOf, Writable};
+ghost use Rattle.layout.specs.Layout.{Laid};
+ghost use Rattle.execution.specs.Runnable.{Runnable, InUse, Arrays, Outcome};
+use counts::Counts;
 use sheet::Sections;
 
 // How much of each array is in use.
@@ -18,26 +21,41 @@ struct Sizes {
     regions: usize,
 }
 
+// Writes the table of the first n labels and predecessors.
+fn write_parts(
+    labels: &[u32],
+    predecessors: &[u32],
+    n: usize,
+    c: Counts,
+    ended: bool,
+    table: &mut [u32],
+)
+    requires { ⌜ (n ≤ length (now labels)) × (n ≤ length (now predecessors))
+        × Writable c (take n (now labels)) (take n (now predecessors)) (length (now table)) ⌝ }
+    ensures { λ _. ⌜ now (table .exit) ≡ tableOf ended (countsOf c) (take n (now (labels .entry))) (take n (now (predecessors .entry))) n ⌝ }
+{
+    table::write_table(&labels[..n], &predecessors[..n], c, ended, table);
+}
+
 // Runs what is laid out for at most `limit` rounds and writes the table. Whether the run has ended.
 fn run_tables(
     s: &[u8],
-    rows: &[u16],
+    sizes: Sizes,
+    rows: &[u16; 16380],
     arcs: &[u16],
-    firsts: &[u16],
-    lengths: &[u32],
+    firsts: &[u16; 1024],
+    lengths: &[u32; 2048],
     spans: &[u32],
-    regions: &[u16],
-    labels: &mut [u32],
-    predecessors: &mut [u32],
-    own: &mut [u32],
-    keys: &mut [u32],
-    winners: &mut [u16],
+    regions: &[u16; 8190],
+    labels: &mut [u32; 1024],
+    predecessors: &mut [u32; 1024],
+    own: &mut [u32; 2048],
+    winners: &mut [u64; 8190],
     limit: u64,
     table: &mut [u32],
 ) -> bool
-    requires { ⌜ Accepted (now s) × (length (now table) ≡ tableLength (nodeCount (now s)))
-        × Laid (now s) (tablesOf (now rows) (now arcs) (now firsts) (now lengths) (now spans) (now regions)) (now winners)
-        × Roomy (now s) (now labels) (now predecessors) (now own) (now keys) ⌝ }
+    requires { ⌜ Accepted (now s) × (length (now table) ≡ tableLength (nodeCount (now s))) × InUse (now s) sizes
+        × Laid (now s) (tablesOf (now rows) (now arcs) (now firsts) (now lengths) (now spans) (now regions)) ⌝ }
     ensures { λ e. ⌜ Outcome (now (s .entry)) limit e (now (table .exit)) ⌝ }
 {
     let source = layout::source_of(s);
@@ -48,9 +66,9 @@ fn run_tables(
         labels,
         predecessors,
         own,
-        keys,
         winners,
         source,
+        sizes.regions as u16,
     );
     let n = engine::rounds(
         rows,
@@ -62,68 +80,13 @@ fn run_tables(
         labels,
         predecessors,
         own,
-        keys,
         winners,
         limit,
         c,
     );
-    let ended = engine::has_ended(rows, keys, winners);
-    table::write_table(labels, predecessors, n, ended, table);
+    let ended = engine::has_ended(rows, winners);
+    write_parts(labels, predecessors, sizes.nodes, n, ended, table);
     ended
-}
-
-// Lays the sheet out and runs it, in slices of the lengths in use.
-fn run_slices(
-    s: &[u8],
-    at: Sections,
-    parents: &mut [u16],
-    rows: &mut [u16],
-    arcs: &mut [u16],
-    firsts: &mut [u16],
-    lengths: &mut [u32],
-    spans: &mut [u32],
-    regions: &mut [u16],
-    labels: &mut [u32],
-    predecessors: &mut [u32],
-    own: &mut [u32],
-    keys: &mut [u32],
-    winners: &mut [u16],
-    limit: u64,
-    table: &mut [u32],
-) -> bool
-    requires { ⌜ Runnable (now s) at (now table)
-        × Sized (now s) (now parents) (now rows) (now arcs) (now firsts) (now lengths) (now spans) (now regions) (now winners)
-        × Roomy (now s) (now labels) (now predecessors) (now own) (now keys) ⌝ }
-    ensures { λ e. ⌜ Outcome (now (s .entry)) limit e (now (table .exit)) ⌝ }
-{
-    layout::lay_out(
-        s,
-        at,
-        parents,
-        rows,
-        arcs,
-        firsts,
-        lengths,
-        spans,
-        regions,
-        winners,
-    );
-    run_tables(
-        s,
-        rows,
-        arcs,
-        firsts,
-        lengths,
-        spans,
-        regions,
-        labels,
-        predecessors,
-        own,
-        keys,
-        winners,
-        limit,
-        table,
-    )
 }
 
 // How many nodes, arcs, spans and regions an accepted sheet has.
@@ -139,10 +102,11 @@ fn sizes_of(s: &[u8], at: Sections) -> Sizes
     }
 }
 
-// Runs the sheet in the parts in use of the arrays lent.
-fn run_parts(
+// Lays the sheet out in the parts in use of the slices lent.
+fn lay_parts(
     s: &[u8],
     at: Sections,
+    sizes: Sizes,
     parents: &mut [u16],
     rows: &mut [u16],
     arcs: &mut [u16],
@@ -150,25 +114,17 @@ fn run_parts(
     lengths: &mut [u32],
     spans: &mut [u32],
     regions: &mut [u16],
-    labels: &mut [u32],
-    predecessors: &mut [u32],
-    own: &mut [u32],
-    keys: &mut [u32],
-    winners: &mut [u16],
-    limit: u64,
-    table: &mut [u32],
-) -> bool
-    requires { ⌜ Runnable (now s) at (now table)
-        × Arrays (now parents) (now rows) (now arcs) (now firsts) (now lengths) (now spans) (now regions) (now labels) (now predecessors) (now own)
-        (now keys) (now winners) ⌝ }
-    ensures { λ e. ⌜ Outcome (now (s .entry)) limit e (now (table .exit)) ⌝ }
+)
+    requires { ⌜ Accepted (now s) × Located (now s) at × InUse (now s) sizes
+        × Arrays (now parents) (now rows) (now arcs) (now firsts) (now lengths) (now spans) (now regions) ⌝ }
+    ensures { λ _. ⌜ Laid (now (s .entry)) (tablesOf (now (rows .exit)) (take (4 * sizes .arcs) (now (arcs .exit))) (now (firsts .exit))
+        (now (lengths .exit)) (take (sizes .spans) (now (spans .exit))) (now (regions .exit))) ⌝ }
 {
-    let sizes = sizes_of(s, at);
     let n = sizes.nodes;
     let m = sizes.arcs;
     let k = sizes.spans;
     let r = sizes.regions;
-    run_slices(
+    layout::lay_out(
         s,
         at,
         &mut parents[..r],
@@ -178,11 +134,58 @@ fn run_parts(
         &mut lengths[..m],
         &mut spans[..k],
         &mut regions[..2 * r],
-        &mut labels[..n],
-        &mut predecessors[..n],
-        &mut own[..m],
-        &mut keys[..r],
-        &mut winners[..2 * r],
+    );
+}
+
+// Lays the sheet out and runs it, in arrays that are lent whole. Arcs and spans are run in the parts in use.
+fn run_arrays(
+    s: &[u8],
+    at: Sections,
+    parents: &mut [u16; 4095],
+    rows: &mut [u16; 16380],
+    arcs: &mut [u16],
+    firsts: &mut [u16; 1024],
+    lengths: &mut [u32; 2048],
+    spans: &mut [u32],
+    regions: &mut [u16; 8190],
+    labels: &mut [u32; 1024],
+    predecessors: &mut [u32; 1024],
+    own: &mut [u32; 2048],
+    winners: &mut [u64; 8190],
+    limit: u64,
+    table: &mut [u32],
+) -> bool
+    requires { ⌜ Runnable (now s) at (now table) × (length (now arcs) ≡ 8192) × (length (now spans) ≡ 15) ⌝ }
+    ensures { λ e. ⌜ Outcome (now (s .entry)) limit e (now (table .exit)) ⌝ }
+{
+    let sizes = sizes_of(s, at);
+    lay_parts(
+        s,
+        at,
+        sizes,
+        parents,
+        rows,
+        arcs,
+        firsts,
+        lengths,
+        spans,
+        regions,
+    );
+    let m = sizes.arcs;
+    let k = sizes.spans;
+    run_tables(
+        s,
+        sizes,
+        rows,
+        &arcs[..4 * m],
+        firsts,
+        lengths,
+        &spans[..k],
+        regions,
+        labels,
+        predecessors,
+        own,
+        winners,
         limit,
         table,
     )
@@ -203,9 +206,8 @@ pub fn run_accepted(s: &[u8], at: Sections, limit: u64, table: &mut [u32]) -> bo
     let mut labels = [0u32; 1024];
     let mut predecessors = [0u32; 1024];
     let mut own = [0u32; 2048];
-    let mut keys = [0u32; 4095];
-    let mut winners = [0u16; 8190];
-    run_parts(
+    let mut winners = [0u64; 8190];
+    run_arrays(
         s,
         at,
         &mut parents,
@@ -218,7 +220,6 @@ pub fn run_accepted(s: &[u8], at: Sections, limit: u64, table: &mut [u32]) -> bo
         &mut labels,
         &mut predecessors,
         &mut own,
-        &mut keys,
         &mut winners,
         limit,
         table,

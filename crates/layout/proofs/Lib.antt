@@ -1,2 +1,1 @@
 mod Represented
-pub mod Ready

@@ -85,7 +85,7 @@ module _ (b : List ℕ) (ok : Accepted b) where
           let count : rowCount entered ≡ arcs (graphOf b) = omega (arith, long, graph-arcs b) in
           let nodes : length firsts ≡ graphOf b .nodes = wide ∙ sym (graph-nodes b) in
           let links = links-same (rowTail entered) (rowTail linked) (λ a l. K .tails a) (K .links) in
-          record { arc-rows = arc-rows; links = record { all = nodes; linked = rw (count, nodes) at links } }
+          record { arc-rows = arc-rows; links = record { all = omega (arith, nodes); linked = rw (count, nodes) at links } }
 
   -- THE REGIONS
 
@@ -129,7 +129,7 @@ module _ (b : List ℕ) (ok : Accepted b) where
           ok = rw es (accepted-well-formed b ok);
           arc-rows = A .arc-rows;
           links = A .links;
-          lengths = el;
+          lengths = λ a l. ap (λ (xs : List ℕ). at xs a) el;
           region-rows = R .region-rows;
         };
     planned = R .planned;

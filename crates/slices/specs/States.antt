@@ -2,7 +2,7 @@
 use Prim.Native.Nat.{ℕ, _^_, _≤_, _<_}
 use mathlib.Core.Path.{_≡_}
 use mathlib.Core.List.{List}
-use lib.ListN.{length}
+use lib.ListN.{length, take}
 use Rattle.sheet.specs.Limits.{mostArcs, mostArcsEachWay}
 use Rattle.procedure.specs.Graph.{Graph, arcs}
 use Rattle.procedure.specs.Division.{Division, regions, parent}
@@ -11,7 +11,7 @@ use Rattle.procedure.specs.Queues.{update, updateArc, updateOutgoing}
 use Rattle.procedure.specs.WellFormed.{GraphOk, DivisionOk}
 use Rattle.theory.specs.Counts.{Small}
 use Rattle.counts.specs.declared.Counts.{Counts}
-use Rattle.queue.specs.Trees.{LaidOut, QueuesOk}
+use Rattle.queue.specs.Trees.{Planned, QueuesOk}
 use Rattle.slices.specs.Tables.{Tables, ArcRows, ArcLinks, RegionRows, Tabled}
 
 -- the queues and the state that the slices and the counts are
@@ -27,6 +27,13 @@ stateOf labels predecessors own keys c = record {
   leaves = c .leaves;
   inner = c .inner;
 }
+
+-- An array is lent whole, and its front is in use: an entry for each node, or for each arc.
+abbrev pub queuesIn : Graph → List ℕ → List ℕ → ℕ → Queues
+queuesIn g own keys updates = queuesOf (take (arcs g) own) keys updates
+
+abbrev pub stateIn : Graph → List ℕ → List ℕ → List ℕ → List ℕ → Counts → State
+stateIn g labels predecessors own keys c = stateOf (take (g .nodes) labels) (take (g .nodes) predecessors) (take (arcs g) own) keys c
 
 -- THE UPDATES
 
@@ -93,11 +100,7 @@ pub record Computed (g : Graph) (d : Division) (t : Tables) (defined s : State) 
   pub result : s ≡ defined
   pub represents : Represents g d t s winners
 
--- Tables, and slices of the right lengths for a state, whatever they hold; the trees are laid out.
-pub record Blank (g : Graph) (d : Division) (t : Tables) (labels predecessors own keys winners : List ℕ) : Type 0 where
+-- What is asked before the start: tables, with trees that are planned.
+pub record Blank (g : Graph) (d : Division) (t : Tables) : Type 0 where
   pub tabled : Tabled g d t
-  pub labelled : length labels ≡ g .nodes
-  pub fed : length predecessors ≡ g .nodes
-  pub owned : length own ≡ arcs g
-  pub keyed : length keys ≡ regions d
-  pub laid : LaidOut d (t .rows) winners
+  pub planned : Planned d (t .rows)

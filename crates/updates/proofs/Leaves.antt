@@ -6,7 +6,8 @@ use mathlib.Core.Path.{_≡_, refl, sym, ap, _∙_}
 use mathlib.Core.List.{List}
 use native.Mathlib.Numerals.{add-one}
 use native.Mathlib.Omega.{arith}
-use lib.ListN.{length, set, length-set}
+use lib.ListN.{length, set, take, length-set, length-take}
+use lib.Seq.{getD-take, take-set-lt}
 use Rattle.indices.specs.Columns.{at}
 use Rattle.sheet.specs.Words.{top}
 use Rattle.procedure.specs.Graph.{Graph, arcs, tail, head, len}
@@ -20,7 +21,8 @@ use Rattle.rows.specs.Rows.{rowCount, rowTail, rowHead}
 use Rattle.counts.specs.Counted.{leafCounted}
 use Rattle.counts.specs.declared.Counts.{Counts}
 use Rattle.slices.specs.Tables.{Tables, arcEntry}
-use Rattle.slices.specs.States.{queuesOf, stateOf, Updatable, UpdatingOutgoing, Queued, Represents, Processing, Computed}
+use Rattle.slices.specs.States.{queuesOf, queuesIn, stateIn, Updatable, UpdatingOutgoing, Queued, Represents, Processing, Computed}
+use Rattle.updates.proofs.Updates.{outgoing-owned}
 
 -- what the updates of arcs need of a represented state
 pub updatable : {g : Graph} {d : Division} {t : Tables} {s : State} {winners : List ℕ} → Represents g d t s winners
@@ -49,15 +51,11 @@ unfolding processLeaf clearKey
 leaf-cleared g d r s = refl
 
 -- the leaf r, whose arc is a
-module _ {g : Graph} {d : Division} {t : Tables} {labels predecessors own keys winners : List ℕ} {c : Counts} {r : ℕ}
-    (P : Processing g d t (stateOf labels predecessors own keys c) winners r (processLeaf g d r (stateOf labels predecessors own keys c)))
+module _ {g : Graph} {d : Division} {t : Tables} {s : State} {winners : List ℕ} {r : ℕ} (P : Processing g d t s winners r (processLeaf g d r s))
     (leaf : isLeaf d r ≡ true) where
-  abbrev s : State
-  s = stateOf labels predecessors own keys c
-
-  pub leaf-count-fits : c .leaves + 1 < 18446744073709551616
+  pub leaf-count-fits : s .leaves + 1 < 18446744073709551616
   leaf-count-fits =
-      let more : suc (c .leaves) ≤ processLeaf g d r s .leaves = rw (leaf-cleared g d r s) (omega (arith, relax-grows g d (arcOf d r) s .leaves)) in
+      let more : suc (s .leaves) ≤ processLeaf g d r s .leaves = rw (leaf-cleared g d r s) (omega (arith, relax-grows g d (arcOf d r) s .leaves)) in
       omega (arith, P .small .leaves)
 
   module _ {a : ℕ} (row : a ≡ arcEntry (t .regionRows) r) where
@@ -70,102 +68,129 @@ module _ {g : Graph} {d : Division} {t : Tables} {labels predecessors own keys w
     pub leaf-row-in : a < rowCount (t .arcRows)
     leaf-row-in = omega (arith, arc-in, P .represents .tabled .arc-rows .all)
 
-    pub leaf-own-in : a < length own
-    leaf-own-in = omega (arith, arc-in, P .represents .owned)
-
-    pub leaf-length-in : a < length (t .lengths)
-    leaf-length-in = rw (P .represents .tabled .lengths) (omega (arith, arc-in, P .represents .tabled .ok .graph .lengths-all))
+    pub leaf-arc-in : a < 2048
+    leaf-arc-in = omega (arith, arc-in, P .represents .tabled .ok .graph .few-arcs)
 
     module _ {u : ℕ} (from : u ≡ rowTail (t .arcRows) a) where
       is-tail : u ≡ tail g a
       is-tail = from ∙ P .represents .tabled .arc-rows .tails a arc-in
 
-      pub leaf-tail-in : u < length labels
-      leaf-tail-in = omega (arith, is-tail, P .represents .tabled .ok .graph .tail-in a arc-in, P .represents .labelled)
+      tail-in : u < g .nodes
+      tail-in = omega (arith, is-tail, P .represents .tabled .ok .graph .tail-in a arc-in)
+
+      pub leaf-tail-in : u < 1024
+      leaf-tail-in = omega (arith, tail-in, P .represents .tabled .ok .graph .few-nodes)
 
     module _ {v : ℕ} (to : v ≡ rowHead (t .arcRows) a) where
       is-head : v ≡ head g a
       is-head = to ∙ P .represents .tabled .arc-rows .heads a arc-in
 
-      node-in : v < g .nodes
-      node-in = omega (arith, is-head, P .represents .tabled .ok .graph .head-in a arc-in)
+      head-in : v < g .nodes
+      head-in = omega (arith, is-head, P .represents .tabled .ok .graph .head-in a arc-in)
 
-      pub leaf-head-in : v < length labels
-      leaf-head-in = omega (arith, node-in, P .represents .labelled)
+      pub leaf-head-in : v < 1024
+      leaf-head-in = omega (arith, head-in, P .represents .tabled .ok .graph .few-nodes)
 
-      pub leaf-head-fed : v < length predecessors
-      leaf-head-fed = omega (arith, node-in, P .represents .fed)
+-- labels, predecessors and own keys are the fronts of arrays
+module _ {g : Graph} {d : Division} {t : Tables} (labels predecessors own : List ℕ) {keys winners : List ℕ} {c : Counts} {r : ℕ}
+    (P : Processing g d t (stateIn g labels predecessors own keys c) winners r (processLeaf g d r (stateIn g labels predecessors own keys c)))
+    (leaf : isLeaf d r ≡ true) {a : ℕ} (row : a ≡ arcEntry (t .regionRows) r) where
+  abbrev s : State
+  s = stateIn g labels predecessors own keys c
 
-    -- x is the label of the tail u, y the arc's length, and z the label of the head v
-    module _ {u v x y z : ℕ} (from : u ≡ rowTail (t .arcRows) a) (to : v ≡ rowHead (t .arcRows) a) (ex : x ≡ at labels u) (ey : y ≡ at (t .lengths) a)
-        (ez : z ≡ at labels v) where
-      is-sum : x + y ≡ sumBy g (arcOf d r) s
-      is-sum =
-          rw (ex, ey, is-tail from, P .represents .tabled .lengths)
-          (ap (λ (b : ℕ). at labels (tail g b) + len g b) is-arc)
+  -- what `lower_label` asks
+  pub leaf-head-rows : {v : ℕ} → v ≡ rowHead (t .arcRows) a → (v < length labels) × (v < length predecessors)
+  leaf-head-rows to =
+      let inside = head-in P leaf row to in (
+        omega (arith, inside, P .represents .labelled, length-take (g .nodes) labels),
+        omega (arith, inside, P .represents .fed, length-take (g .nodes) predecessors),
+      )
 
-      is-label : z ≡ label s (head g (arcOf d r))
-      is-label = ez ∙ ap (at labels) (is-head to) ∙ ap (λ (b : ℕ). at labels (head g b)) is-arc
+  -- x is the label of the tail u, y the arc's length, and z the label of the head v
+  module _ {u v x y z : ℕ} (from : u ≡ rowTail (t .arcRows) a) (to : v ≡ rowHead (t .arcRows) a) (ex : x ≡ at labels u) (ey : y ≡ at (t .lengths) a)
+      (ez : z ≡ at labels v) where
+    is-sum : x + y ≡ sumBy g (arcOf d r) s
+    is-sum =
+        rw (ex, ← getD-take (g .nodes) labels u 0 (tail-in P leaf row from), ey, P .represents .tabled .lengths a (arc-in P leaf row), is-tail P leaf row from)
+        (ap (λ (b : ℕ). at (take (g .nodes) labels) (tail g b) + len g b) (is-arc P leaf row))
 
-      -- where the sum is not below the head's label, the leaf's key alone changes
-      pub leaf-stays : z ≤ x + y → {n : Counts} → n ≡ leafCounted c (c .updates)
-          → Computed g d t (processLeaf g d r s) (stateOf labels predecessors (set own a top) keys n) winners
-      leaf-stays l counted = record {
-        result =
-            rw (counted, is-arc, add-one (c .leaves))
-            (sym (leaf-cleared g d r s ∙ ap (cleared (arcOf d r)) (relax-stays g d (arcOf d r) s (omega (arith, is-sum, is-label)))));
-        represents = record {
-          tabled = P .represents .tabled;
-          labelled = P .represents .labelled;
-          fed = P .represents .fed;
-          owned = length-set own a top ∙ P .represents .owned;
-          queues = P .represents .queues;
-        };
-      }
+    is-head-of : v ≡ head g (arcOf d r)
+    is-head-of = is-head P leaf row to ∙ ap (head g) (is-arc P leaf row)
 
-      module _ (l : x + y < z) where
-        is-lowered : processLeaf g d r s ≡ cleared (arcOf d r) (lowered g d (arcOf d r) s)
-        is-lowered = leaf-cleared g d r s ∙ ap (cleared (arcOf d r)) (relax-falls g d (arcOf d r) s (omega (arith, is-sum, is-label)))
+    is-label : z ≡ label s (head g (arcOf d r))
+    is-label = ez ∙ sym (getD-take (g .nodes) labels v 0 (head-in P leaf row to)) ∙ ap (at (take (g .nodes) labels)) is-head-of
 
-        is-head-of : v ≡ head g (arcOf d r)
-        is-head-of = is-head to ∙ ap (head g) is-arc
-
-        -- where it is, the head's outgoing arcs are updated
-        pub leaf-asks : UpdatingOutgoing g d (t .rows) (t .arcRows) (t .firsts) (queuesOf own keys (c .updates)) winners v (x + y)
-        leaf-asks = record {
-          updatable = updatable (P .represents);
-          links = P .represents .tabled .links;
-          in-range = node-in to;
-          small = rw (is-head-of, is-sum, ← ap (λ (w : State). w .queues .updates) is-lowered) (P .small .updates);
-        }
-
-        -- labels and predecessors as the code writes them
-        abbrev withQueues : Queues → State
-        withQueues q = record {
-          labels = set labels v (x + y);
-          predecessors = set predecessors v a;
-          queues = q;
-          rounds = c .rounds;
-          leaves = c .leaves;
-          inner = c .inner;
-        }
-
-        is-cleared : cleared a (withQueues (updateOutgoing d (g .tails) v (x + y) (queuesOf own keys (c .updates)))) ≡ processLeaf g d r s
-        is-cleared = rw (is-head-of, is-sum, is-arc) (sym is-lowered)
-
-        pub leaf-falls : {labels′ predecessors′ : List ℕ} → (labels′ ≡ set labels v (x + y)) × (predecessors′ ≡ set predecessors v a)
-            → {own′ keys′ winners′ : List ℕ} {updates : ℕ}
-            → Queued d (t .rows) (updateOutgoing d (g .tails) v (x + y) (queuesOf own keys (c .updates))) (queuesOf own′ keys′ updates) winners′
-            → length own′ ≡ length own → {n : Counts} → n ≡ leafCounted c updates
-            → Computed g d t (processLeaf g d r s) (stateOf labels′ predecessors′ (set own′ a top) keys′ n) winners′
-        leaf-falls low {own′} Q e counted = record {
+    -- where the sum is not below the head's label, the leaf's key alone changes
+    pub leaf-stays : z ≤ x + y → {n : Counts} → n ≡ leafCounted c (c .updates)
+        → Computed g d t (processLeaf g d r s) (stateIn g labels predecessors (set own a top) keys n) winners
+    leaf-stays l counted =
+        let written = take-set-lt (arcs g) own a top (arc-in P leaf row) in
+        record {
           result =
-              rw (low .0, low .1, counted, add-one (c .leaves)) (ap (λ (q : Queues). cleared a (withQueues q)) (Q .result) ∙ is-cleared);
+              rw (counted, written, is-arc P leaf row, add-one (c .leaves))
+              (sym (leaf-cleared g d r s ∙ ap (cleared (arcOf d r)) (relax-stays g d (arcOf d r) s (omega (arith, is-sum, is-label)))));
           represents = record {
             tabled = P .represents .tabled;
-            labelled = ap length (low .0) ∙ length-set labels v (x + y) ∙ P .represents .labelled;
-            fed = ap length (low .1) ∙ length-set predecessors v a ∙ P .represents .fed;
-            owned = length-set own′ a top ∙ e ∙ P .represents .owned;
-            queues = Q .valid;
+            labelled = P .represents .labelled;
+            fed = P .represents .fed;
+            owned = rw written (length-set (take (arcs g) own) a top ∙ P .represents .owned);
+            queues = P .represents .queues;
           };
         }
+
+    module _ (l : x + y < z) where
+      is-lowered : processLeaf g d r s ≡ cleared (arcOf d r) (lowered g d (arcOf d r) s)
+      is-lowered = leaf-cleared g d r s ∙ ap (cleared (arcOf d r)) (relax-falls g d (arcOf d r) s (omega (arith, is-sum, is-label)))
+
+      -- where it is, the head's outgoing arcs are updated
+      pub leaf-asks : UpdatingOutgoing g d (t .rows) (t .arcRows) (t .firsts) (queuesIn g own keys (c .updates)) winners v (x + y)
+      leaf-asks = record {
+        updatable = updatable (P .represents);
+        links = P .represents .tabled .links;
+        in-range = head-in P leaf row to;
+        small = rw (is-head-of, is-sum, ← ap (λ (w : State). w .queues .updates) is-lowered) (P .small .updates);
+      }
+
+      -- labels and predecessors as the code writes them
+      label-written : take (g .nodes) (set labels v (x + y)) ≡ set (take (g .nodes) labels) v (x + y)
+      label-written = take-set-lt (g .nodes) labels v (x + y) (head-in P leaf row to)
+
+      predecessor-written : take (g .nodes) (set predecessors v a) ≡ set (take (g .nodes) predecessors) v a
+      predecessor-written = take-set-lt (g .nodes) predecessors v a (head-in P leaf row to)
+
+      abbrev withQueues : Queues → State
+      withQueues q = record {
+        labels = set (take (g .nodes) labels) v (x + y);
+        predecessors = set (take (g .nodes) predecessors) v a;
+        queues = q;
+        rounds = c .rounds;
+        leaves = c .leaves;
+        inner = c .inner;
+      }
+
+      is-cleared : cleared a (withQueues (updateOutgoing d (g .tails) v (x + y) (queuesIn g own keys (c .updates)))) ≡ processLeaf g d r s
+      is-cleared = rw (is-head-of, is-sum, is-arc P leaf row) (sym is-lowered)
+
+      pub leaf-falls : {labels′ predecessors′ : List ℕ} → (labels′ ≡ set labels v (x + y)) × (predecessors′ ≡ set predecessors v a)
+          → (own′ : List ℕ) {keys′ winners′ : List ℕ} {updates : ℕ}
+          → Queued d (t .rows) (updateOutgoing d (g .tails) v (x + y) (queuesIn g own keys (c .updates))) (queuesIn g own′ keys′ updates) winners′
+          → {n : Counts} → n ≡ leafCounted c updates
+          → Computed g d t (processLeaf g d r s) (stateIn g labels′ predecessors′ (set own′ a top) keys′ n) winners′
+      leaf-falls low own′ Q counted =
+          let written = take-set-lt (arcs g) own′ a top (arc-in P leaf row) in
+          record {
+            result =
+                rw (low .0, low .1, label-written, predecessor-written, written, counted, add-one (c .leaves))
+                (ap (λ (q : Queues). cleared a (withQueues q)) (Q .result) ∙ is-cleared);
+            represents = record {
+              tabled = P .represents .tabled;
+              labelled = rw (low .0, label-written) (length-set (take (g .nodes) labels) v (x + y) ∙ P .represents .labelled);
+              fed = rw (low .1, predecessor-written) (length-set (take (g .nodes) predecessors) v a ∙ P .represents .fed);
+              owned =
+                  rw written
+                  (length-set (take (arcs g) own′) a top
+                  ∙ ap (λ (q : Queues). length (q .own)) (Q .result)
+                  ∙ outgoing-owned (updatable (P .represents)) v (x + y));
+              queues = Q .valid;
+            };
+          }

@@ -1,12 +1,12 @@
 -- The cycle of `process_inner` and `process_region` meets its contracts, by the measure of twice the region's height, and one more for `process_region`,
 -- which calls `process_inner` on the same region. The loop's invariant: the turns that are left lead to the same end. Assumes nothing.
 use Prim.Native.Nat.{ℕ, _+_, _*_, _<_}
-use mathlib.Core.Path.{sym, _∙_}
+use mathlib.Core.List.{List}
 use native.Mathlib.Omega.{arith}
 use Rattle.procedure.specs.Graph.{Graph, arcs}
 use Rattle.procedure.specs.Division.{Division}
 use Rattle.slices.specs.Tables.{tablesOf, heightEntry}
-use Rattle.slices.specs.States.{stateOf}
+use Rattle.slices.specs.States.{stateIn}
 use Rattle.engine.proofs.Loops.{
   Looping,
   turn,
@@ -50,54 +50,53 @@ use Rattle.queue.proofs.write.Reads as write-reads
 use Rattle.engine.proofs.+process_inner+process_region.{statement}
 use Rattle.engine.proofs.+process_inner+process_region.Tie.{close}
 
-abbrev μ-process-inner : Measures 11 process-inner-kinds.ps ℕ
-μ-process-inner κs a = heightEntry (a .1 .1 .1 .1 .1 .0 .now) (a .1 .1 .1 .1 .1 .1 .1 .1 .1 .1 .1 .0 .0) * 2
+abbrev μ-process-inner : Measures 10 process-inner-kinds.ps ℕ
+μ-process-inner κs a = heightEntry (a .1 .1 .1 .1 .1 .0 .now) (a .1 .1 .1 .1 .1 .1 .1 .1 .1 .1 .0 .0) * 2
 
-abbrev μ-process-region : Measures 11 process-region-kinds.ps ℕ
-μ-process-region κs a = heightEntry (a .1 .1 .1 .1 .1 .0 .now) (a .1 .1 .1 .1 .1 .1 .1 .1 .1 .1 .1 .0 .0) * 2 + 1
+abbrev μ-process-region : Measures 10 process-region-kinds.ps ℕ
+μ-process-region κs a = heightEntry (a .1 .1 .1 .1 .1 .0 .now) (a .1 .1 .1 .1 .1 .1 .1 .1 .1 .1 .0 .0) * 2 + 1
 
-abbrev process-inner-at : ℕ → In 11 process-inner-kinds.ps
+abbrev process-inner-at : ℕ → In 10 process-inner-kinds.ps
 process-inner-at t =
     and
-    11
+    10
     process-inner-kinds.ps
-    (is 11 process-inner-kinds.ps μ-process-inner t)
+    (is 10 process-inner-kinds.ps μ-process-inner t)
     process-inner.Pre
 
-abbrev process-inner-below : ℕ → In 11 process-inner-kinds.ps
+abbrev process-inner-below : ℕ → In 10 process-inner-kinds.ps
 process-inner-below t =
     and
-    11
+    10
     process-inner-kinds.ps
-    (falls 11 process-inner-kinds.ps _<_ μ-process-inner t)
+    (falls 10 process-inner-kinds.ps _<_ μ-process-inner t)
     process-inner.Pre
 
-abbrev process-region-at : ℕ → In 11 process-region-kinds.ps
+abbrev process-region-at : ℕ → In 10 process-region-kinds.ps
 process-region-at t =
     and
-    11
+    10
     process-region-kinds.ps
-    (is 11 process-region-kinds.ps μ-process-region t)
+    (is 10 process-region-kinds.ps μ-process-region t)
     process-region.Pre
 
-abbrev process-region-below : ℕ → In 11 process-region-kinds.ps
+abbrev process-region-below : ℕ → In 10 process-region-kinds.ps
 process-region-below t =
     and
-    11
+    10
     process-region-kinds.ps
-    (falls 11 process-region-kinds.ps _<_ μ-process-region t)
+    (falls 10 process-region-kinds.ps _<_ μ-process-region t)
     process-region.Pre
 
 abbrev process-inner-Inv-loop : process-inner-lts.InvT-loop
-process-inner-Inv-loop rows arcs firsts lengths spans regions labels₀ predecessors₀ own₀ keys₀ winners₀ r left₀ n₀ labels predecessors own keys winners left n =
-    (g : Graph) (d : Division) → Framed g d (tablesOf rows arcs firsts lengths spans regions) (r .0) left₀ (stateOf labels₀ predecessors₀ own₀ keys₀ n₀)
-    winners₀
-    → Looping g d (tablesOf rows arcs firsts lengths spans regions) (alive g d (r .0)) (turn g d (tablesOf rows arcs firsts lengths spans regions) (r .0)) left₀
-    (stateOf labels₀ predecessors₀ own₀ keys₀ n₀) left (stateOf labels predecessors own keys n) winners
+process-inner-Inv-loop rows arcs firsts lengths spans regions labels₀ predecessors₀ own₀ winners₀ r left₀ n₀ labels predecessors own winners left n =
+    (g : Graph) (d : Division) (keys₀ : List ℕ) → let t = tablesOf rows arcs firsts lengths spans regions in
+    let s₀ = stateIn g labels₀ predecessors₀ own₀ keys₀ n₀ in
+    Framed g d t (r .0) left₀ s₀ winners₀
+    → ((keys : List ℕ) × Looping g d t (alive g d (r .0)) (turn g d t (r .0)) left₀ s₀ left (stateIn g labels predecessors own keys n) winners)
 
 abbrev process-inner-μ-loop : process-inner-lts.MeasureT-loop
-process-inner-μ-loop rows arcs firsts lengths spans regions labels₀ predecessors₀ own₀ keys₀ winners₀ r left₀ n₀ labels predecessors own keys winners left n =
-    left
+process-inner-μ-loop rows arcs firsts lengths spans regions labels₀ predecessors₀ own₀ winners₀ r left₀ n₀ labels predecessors own winners left n = left
 
 abbrev process-inner-heard : ℕ → process-inner-lts.Claims
 process-inner-heard t = (
@@ -130,178 +129,118 @@ process-region-heard t = (
 process-inner-span-of-requires : (t : ℕ) → process-inner-lts.Need-span-of-requires (process-inner-heard t) (process-inner-at t)
     process-inner.Post process-inner-Inv-loop process-inner-μ-loop
 process-inner-span-of-requires t c κs =
-    let earlier = c .before .before .before .before in
-    let early = earlier .before .before .before .before in
-    let pre = early .before .before .before .pre in
-    span-asks (pre .1 .2) (pre .1 .3)
+    let pre = c .before .before .before .pre in
+    span-asks (pre .1 .3 .0) (pre .1 .3 .1)
 
 process-inner-count-inner-requires : (t : ℕ) → process-inner-lts.Need-count-inner-requires (process-inner-heard t) (process-inner-at t)
     process-inner.Post process-inner-Inv-loop process-inner-μ-loop
 process-inner-count-inner-requires t c κs =
     let earlier = c .before .before .before .before in
-    let early = earlier .before .before .before .before in
-    let pre = early .before .before .before .before .pre in
-    inner-count-fits (pre .1 .2) (pre .1 .3)
+    let pre = earlier .pre in
+    inner-count-fits (pre .1 .3 .0) (pre .1 .3 .1)
 
 process-inner-loop-holds : (t : ℕ) → process-inner-lts.Need-loop-holds (process-inner-heard t) (process-inner-at t)
     process-inner.Post process-inner-Inv-loop process-inner-μ-loop
-process-inner-loop-holds t c = λ g d F. framed-first F
+process-inner-loop-holds t c = λ g d keys F. (keys, framed-first F)
 
 process-inner-min-key-requires : (t : ℕ) → process-inner-lts.Need-min-key-requires (process-inner-heard t) (process-inner-at t)
     process-inner.Post process-inner-Inv-loop process-inner-μ-loop
 process-inner-min-key-requires t c κs =
-    let earlier = c .before .before .before .before .before .before .before .before in
-    let early = earlier .before .before .before .before .before .before .before .before in
-    let loop = c .before .before .before .loop in
-    let count-inner = c .before .before .before .before .count-inner in
-    let span-of = c .before .before .before .before .before .span-of in
-    let pre = early .before .pre in
+    let earlier = c .before .before .before .before in
+    let early = earlier .before .before .before .before in
+    let loop = earlier .loop in
+    let count-inner = earlier .before .count-inner in
+    let span-of = earlier .before .before .span-of in
+    let pre = early .before .before .pre in
     let G = pre .1 .0 in
     let D = pre .1 .1 in
-    let F = framed (pre .1 .2) (pre .1 .3) (span-of .ensures) (count-inner .ensures) in
-    let L = loop .inv G D F in
-    (D, L .represents .queues, F .in-range)
-
-process-inner-same-length : (t : ℕ) → process-inner-lts.Need-same-length (process-inner-heard t) (process-inner-at t)
-    process-inner.Post process-inner-Inv-loop process-inner-μ-loop
-process-inner-same-length t c =
-    let earlier = c .before .before .before .before .before .before .before .before in
-    let early = earlier .before .before .before .before .before .before .before .before in
-    let loop = c .before .before .before .before .before .loop in
-    let count-inner = c .before .before .before .before .before .before .count-inner in
-    let span-of = c .before .before .before .before .before .before .before .span-of in
-    let pre = early .before .before .before .pre in
-    loop .inv (pre .1 .0) (pre .1 .1) (framed (pre .1 .2) (pre .1 .3) (span-of .ensures) (count-inner .ensures)) .represents .labelled ∙ sym
-    (pre .1 .2 .represents .labelled)
-
-process-inner-same-length-2 : (t : ℕ) → process-inner-lts.Need-same-length-2 (process-inner-heard t) (process-inner-at t)
-    process-inner.Post process-inner-Inv-loop process-inner-μ-loop
-process-inner-same-length-2 t c =
-    let earlier = c .before .before .before .before .before .before .before .before in
-    let early = earlier .before .before .before .before .before .before .before .before in
-    let loop = c .before .before .before .before .before .loop in
-    let count-inner = c .before .before .before .before .before .before .count-inner in
-    let span-of = c .before .before .before .before .before .before .before .span-of in
-    let pre = early .before .before .before .pre in
-    loop .inv (pre .1 .0) (pre .1 .1) (framed (pre .1 .2) (pre .1 .3) (span-of .ensures) (count-inner .ensures)) .represents .fed ∙ sym
-    (pre .1 .2 .represents .fed)
-
-process-inner-same-length-3 : (t : ℕ) → process-inner-lts.Need-same-length-3 (process-inner-heard t) (process-inner-at t)
-    process-inner.Post process-inner-Inv-loop process-inner-μ-loop
-process-inner-same-length-3 t c =
-    let earlier = c .before .before .before .before .before .before .before .before in
-    let early = earlier .before .before .before .before .before .before .before .before in
-    let loop = c .before .before .before .before .before .loop in
-    let count-inner = c .before .before .before .before .before .before .count-inner in
-    let span-of = c .before .before .before .before .before .before .before .span-of in
-    let pre = early .before .before .before .pre in
-    loop .inv (pre .1 .0) (pre .1 .1) (framed (pre .1 .2) (pre .1 .3) (span-of .ensures) (count-inner .ensures)) .represents .owned ∙ sym
-    (pre .1 .2 .represents .owned)
-
-process-inner-same-length-4 : (t : ℕ) → process-inner-lts.Need-same-length-4 (process-inner-heard t) (process-inner-at t)
-    process-inner.Post process-inner-Inv-loop process-inner-μ-loop
-process-inner-same-length-4 t c =
-    let earlier = c .before .before .before .before .before .before .before .before in
-    let early = earlier .before .before .before .before .before .before .before .before in
-    let loop = c .before .before .before .before .before .loop in
-    let count-inner = c .before .before .before .before .before .before .count-inner in
-    let span-of = c .before .before .before .before .before .before .before .span-of in
-    let pre = early .before .before .before .pre in
-    loop .inv (pre .1 .0) (pre .1 .1) (framed (pre .1 .2) (pre .1 .3) (span-of .ensures) (count-inner .ensures)) .represents .queues .keyed ∙ sym
-    (pre .1 .2 .represents .queues .keyed)
-
-process-inner-same-length-5 : (t : ℕ) → process-inner-lts.Need-same-length-5 (process-inner-heard t) (process-inner-at t)
-    process-inner.Post process-inner-Inv-loop process-inner-μ-loop
-process-inner-same-length-5 t c =
-    let earlier = c .before .before .before .before .before .before .before .before in
-    let early = earlier .before .before .before .before .before .before .before .before in
-    let loop = c .before .before .before .before .before .loop in
-    let count-inner = c .before .before .before .before .before .before .count-inner in
-    let span-of = c .before .before .before .before .before .before .before .span-of in
-    let pre = early .before .before .before .pre in
-    loop .inv (pre .1 .0) (pre .1 .1) (framed (pre .1 .2) (pre .1 .3) (span-of .ensures) (count-inner .ensures)) .represents .queues .laid .seated .all ∙ sym
-    (pre .1 .2 .represents .queues .laid .seated .all)
+    let F = framed (pre .1 .3 .0) (pre .1 .3 .1) (span-of .ensures) (count-inner .ensures) in
+    let L = loop .inv G D (pre .1 .2) F in
+    (D, L .0, L .1 .represents .queues, F .in-range)
 
 process-inner-returns : (t : ℕ) → process-inner-lts.Need-returns (process-inner-heard t) (process-inner-at t)
     process-inner.Post process-inner-Inv-loop process-inner-μ-loop
 unfolding top
 process-inner-returns t c =
     let earlier = c .before .before .before .before in
-    let loop = earlier .before .loop in
-    let count-inner = earlier .before .before .count-inner in
-    let span-of = earlier .before .before .before .span-of in
-    λ g d P inner.
+    let early = earlier .before .before .before .before in
+    let loop = earlier .before .before .loop in
+    let count-inner = earlier .before .before .before .count-inner in
+    let span-of = early .span-of in
+    λ g d keys P inner.
     let F = framed P inner (span-of .ensures) (count-inner .ensures) in
-    let L = loop .inv g d F in
-    turns-worked P inner (span-of .ensures) (count-inner .ensures)
-    (turns-none F L (c .before .min-key .ensures d (L .represents .queues) inner _ _) (c .if1 .taken))
+    let L = loop .inv g d keys F in
+    let key = c .before .min-key .ensures d (L .0) (L .1 .represents .queues) (F .in-range) inner _ _ in
+    (L .0, turns-worked P inner (span-of .ensures) (count-inner .ensures) (turns-none F (L .1) key (c .if1 .taken)))
 
 process-inner-min-item-requires : (t : ℕ) → process-inner-lts.Need-min-item-requires (process-inner-heard t) (process-inner-at t)
     process-inner.Post process-inner-Inv-loop process-inner-μ-loop
 process-inner-min-item-requires t c κs =
-    let earlier = c .before .before .before .before .before .before .before .before in
-    let early = earlier .before .before .before .before .before .before .before .before in
-    let loop = c .before .before .before .before .before .before .loop in
-    let count-inner = c .before .before .before .before .before .before .before .count-inner in
-    let span-of = earlier .span-of in
-    let pre = early .before .before .before .before .pre in
+    let earlier = c .before .before .before .before in
+    let early = earlier .before .before .before .before in
+    let prior = early .before .before .before .before in
+    let loop = early .before .loop in
+    let count-inner = early .before .before .count-inner in
+    let span-of = early .before .before .before .span-of in
+    let pre = prior .before .before .before .pre in
     let G = pre .1 .0 in
     let D = pre .1 .1 in
-    let F = framed (pre .1 .2) (pre .1 .3) (span-of .ensures) (count-inner .ensures) in
-    let L = loop .inv G D F in
-    (D, _, L .represents .queues, F .in-range)
+    let F = framed (pre .1 .3 .0) (pre .1 .3 .1) (span-of .ensures) (count-inner .ensures) in
+    let L = loop .inv G D (pre .1 .2) F in
+    (D, L .0, L .1 .represents .queues, F .in-range)
 
 process-inner-process-region-requires : (t : ℕ) → process-inner-lts.Need-process-region-requires (process-inner-heard t) (process-inner-at t)
     process-inner.Post process-inner-Inv-loop process-inner-μ-loop
 unfolding top
 process-inner-process-region-requires t c κs =
-    let earlier = c .before .before .before .before .before .before .before .before in
-    let early = earlier .before .before .before .before .before .before .before .before in
-    let prior = early .before .before .before .before .before .before .before .before in
-    let min-item = c .before .before .before .before .before .min-item in
-    let if1 = c .before .before .before .before .before .before .before .if1 in
-    let min-key = earlier .min-key in
-    let loop-test = earlier .before .before .before .loop-test in
-    let loop = earlier .before .before .before .before .loop in
-    let count-inner = earlier .before .before .before .before .before .count-inner in
-    let span-of = earlier .before .before .before .before .before .before .span-of in
-    let pre = prior .before .before .pre in
+    let earlier = c .before .before .before .before in
+    let early = earlier .before .before .before .before in
+    let prior = early .before .before .before .before in
+    let first = prior .before .before .before .before in
+    let opening = first .before .before .before .before in
+    let min-item = earlier .min-item in
+    let if1 = early .if1 in
+    let min-key = early .before .min-key in
+    let loop-test = prior .before .loop-test in
+    let loop = prior .before .before .loop in
+    let count-inner = prior .before .before .before .count-inner in
+    let span-of = first .span-of in
+    let pre = opening .pre in
     let G = pre .1 .0 in
     let D = pre .1 .1 in
-    let F = framed (pre .1 .2) (pre .1 .3) (span-of .ensures) (count-inner .ensures) in
-    let L = loop .inv G D F in
-    let key = min-key .ensures D (L .represents .queues) (F .inner) _ _ in
-    let item = min-item .ensures D _ (L .represents .queues) in (
-      omega (arith, pre .0, child-lower F L key (loop-test .taken) (if1 .left) item),
-      (G, D, child-asks F L key (loop-test .taken) (if1 .left) item),
+    let F = framed (pre .1 .3 .0) (pre .1 .3 .1) (span-of .ensures) (count-inner .ensures) in
+    let L = loop .inv G D (pre .1 .2) F in
+    let key = min-key .ensures D (L .0) (L .1 .represents .queues) (F .in-range) (F .inner) _ _ in
+    let item = min-item .ensures D (L .0) (L .1 .represents .queues) (F .in-range) in (
+      omega (arith, pre .0, child-lower F (L .1) key (loop-test .taken) (if1 .left) item),
+      (G, D, L .0, child-asks F (L .1) key (loop-test .taken) (if1 .left) item),
     )
 
 process-inner-key-of-requires : (t : ℕ) → process-inner-lts.Need-key-of-requires (process-inner-heard t) (process-inner-at t)
     process-inner.Post process-inner-Inv-loop process-inner-μ-loop
 unfolding top
 process-inner-key-of-requires t c κs =
-    let earlier = c .before .before .before .before .before .before .before .before in
-    let early = earlier .before .before .before .before .before .before .before .before in
-    let prior = early .before .before .before .before .before .before .before .before in
-    let first = prior .before .before .before .before .before .before .before .before in
-    let process-region = earlier .before .before .before .before .before .process-region in
-    let min-item = early .before .before .before .min-item in
-    let if1 = early .before .before .before .before .before .if1 in
-    let min-key = early .before .before .before .before .before .before .min-key in
-    let loop-test = prior .before .loop-test in
-    let loop = prior .before .before .loop in
-    let count-inner = prior .before .before .before .count-inner in
-    let span-of = prior .before .before .before .before .span-of in
-    let pre = first .before .before .before .before .before .before .before .before .pre in
+    let earlier = c .before .before .before .before in
+    let early = earlier .before .before .before .before in
+    let prior = early .before .before .before .before in
+    let first = prior .before .before .before .before in
+    let opening = first .before .before .before .before in
+    let min-item = earlier .before .before .before .min-item in
+    let if1 = early .before .before .before .if1 in
+    let min-key = prior .min-key in
+    let loop-test = first .loop-test in
+    let loop = first .before .loop in
+    let count-inner = first .before .before .count-inner in
+    let span-of = first .before .before .before .span-of in
+    let pre = opening .before .before .before .pre in
     let G = pre .1 .0 in
     let D = pre .1 .1 in
-    let F = framed (pre .1 .2) (pre .1 .3) (span-of .ensures) (count-inner .ensures) in
-    let L = loop .inv G D F in
-    let key = min-key .ensures D (L .represents .queues) (F .inner) _ _ in
-    let item = min-item .ensures D _ (L .represents .queues) in
-    let asks = child-asks F L key (loop-test .taken) (if1 .left) item in
-    let W = process-region .ensures G D asks in
-    (arcs G, D, key-asks F L key (loop-test .taken) (if1 .left) item W)
+    let F = framed (pre .1 .3 .0) (pre .1 .3 .1) (span-of .ensures) (count-inner .ensures) in
+    let L = loop .inv G D (pre .1 .2) F in
+    let key = min-key .ensures D (L .0) (L .1 .represents .queues) (F .in-range) (F .inner) _ _ in
+    let item = min-item .ensures D (L .0) (L .1 .represents .queues) (F .in-range) in
+    let W = c .before .before .process-region .ensures G D (L .0) (child-asks F (L .1) key (loop-test .taken) (if1 .left) item) in
+    (arcs G, D, W .0, key-asks F (L .1) key (loop-test .taken) (if1 .left) item (W .1))
 
 process-inner-write-requires : (t : ℕ) → process-inner-lts.Need-write-requires (process-inner-heard t) (process-inner-at t)
     process-inner.Post process-inner-Inv-loop process-inner-μ-loop
@@ -310,270 +249,132 @@ process-inner-write-requires t c κs =
     let earlier = c .before .before .before .before .before .before .before .before in
     let early = earlier .before .before .before .before .before .before .before .before in
     let prior = early .before .before .before .before .before .before .before .before in
-    let first = prior .before .before .before .before .before .before .before .before in
-    let initial = first .before .before .before .before .before .before .before .before in
-    let process-region = early .process-region in
-    let min-item = early .before .before .before .before .before .before .min-item in
-    let if1 = prior .if1 in
-    let min-key = prior .before .min-key in
-    let loop-test = prior .before .before .before .before .loop-test in
-    let loop = prior .before .before .before .before .before .loop in
-    let count-inner = prior .before .before .before .before .before .before .count-inner in
-    let span-of = prior .before .before .before .before .before .before .before .span-of in
-    let pre = initial .before .before .before .pre in
+    let process-region = c .before .before .before .before .before .process-region in
+    let min-item = earlier .before .before .min-item in
+    let if1 = earlier .before .before .before .before .before .before .if1 in
+    let min-key = earlier .before .before .before .before .before .before .before .min-key in
+    let loop-test = early .before .before .before .loop-test in
+    let loop = early .before .before .before .before .loop in
+    let count-inner = early .before .before .before .before .before .count-inner in
+    let span-of = early .before .before .before .before .before .before .span-of in
+    let pre = prior .before .before .pre in
     let G = pre .1 .0 in
     let D = pre .1 .1 in
-    let F = framed (pre .1 .2) (pre .1 .3) (span-of .ensures) (count-inner .ensures) in
-    let L = loop .inv G D F in
-    let key = min-key .ensures D (L .represents .queues) (F .inner) _ _ in
-    let item = min-item .ensures D _ (L .represents .queues) in
-    let asks = child-asks F L key (loop-test .taken) (if1 .left) item in
-    let W = process-region .ensures G D asks in
-    (D, W .represents .queues, child-positive F L key (loop-test .taken) (if1 .left) item, child-in F L key (loop-test .taken) (if1 .left) item)
+    let F = framed (pre .1 .3 .0) (pre .1 .3 .1) (span-of .ensures) (count-inner .ensures) in
+    let L = loop .inv G D (pre .1 .2) F in
+    let key = min-key .ensures D (L .0) (L .1 .represents .queues) (F .in-range) (F .inner) _ _ in
+    let item = min-item .ensures D (L .0) (L .1 .represents .queues) (F .in-range) in
+    let W = process-region .ensures G D (L .0) (child-asks F (L .1) key (loop-test .taken) (if1 .left) item) in (
+      D,
+      W .0,
+      W .1 .represents .queues,
+      child-positive F (L .1) key (loop-test .taken) (if1 .left) item,
+      child-in F (L .1) key (loop-test .taken) (if1 .left) item,
+    )
 
 process-inner-sub-left : (t : ℕ) → process-inner-lts.Need-sub-left (process-inner-heard t) (process-inner-at t)
     process-inner.Post process-inner-Inv-loop process-inner-μ-loop
 process-inner-sub-left t c =
-    let earlier = c .before .before .before .before .before .before .before .before in
-    let early = earlier .before .before .before .before .before .before .before .before in
-    let prior = early .before .before .before .before .before .before .before .before in
-    let first = prior .before .before .before .before .before .before .before .before in
-    let loop-test = first .before .loop-test in
+    let earlier = c .before .before .before .before in
+    let early = earlier .before .before .before .before in
+    let prior = early .before .before .before .before in
+    let first = prior .before .before .before .before in
+    let opening = first .before .before .before .before in
+    let loop-test = opening .loop-test in
     omega (arith, loop-test .taken)
 
 process-inner-loop-less : (t : ℕ) → process-inner-lts.Need-loop-less (process-inner-heard t) (process-inner-at t)
     process-inner.Post process-inner-Inv-loop process-inner-μ-loop
 process-inner-loop-less t c =
-    let earlier = c .before .before .before .before .before .before .before .before in
-    let early = earlier .before .before .before .before .before .before .before .before in
-    let prior = early .before .before .before .before .before .before .before .before in
-    let first = prior .before .before .before .before .before .before .before .before in
-    let loop-test = first .before .loop-test in
+    let earlier = c .before .before .before .before in
+    let early = earlier .before .before .before .before in
+    let prior = early .before .before .before .before in
+    let first = prior .before .before .before .before in
+    let opening = first .before .before .before .before in
+    let loop-test = opening .loop-test in
     omega (arith, loop-test .taken)
 
 process-inner-loop-again : (t : ℕ) → process-inner-lts.Need-loop-again (process-inner-heard t) (process-inner-at t)
     process-inner.Post process-inner-Inv-loop process-inner-μ-loop
 unfolding top
 process-inner-loop-again t c =
-    let earlier = c .before .before .before .before .before .before .before .before in
-    let early = earlier .before .before .before .before .before .before .before .before in
-    let prior = early .before .before .before .before .before .before .before .before in
-    let first = prior .before .before .before .before .before .before .before .before in
-    let write = c .before .before .before .before .write in
-    let key-of = c .before .before .before .before .before .before .before .key-of in
-    let process-region = early .before .before .before .before .before .process-region in
-    let min-item = prior .before .before .before .min-item in
-    let if1 = prior .before .before .before .before .before .if1 in
-    let min-key = prior .before .before .before .before .before .before .min-key in
-    let loop-test = first .before .loop-test in
-    let loop = first .before .before .loop in
-    λ g d F.
-    let L = loop .inv g d F in
-    let key = min-key .ensures d (L .represents .queues) (F .inner) _ _ in
-    let item = min-item .ensures d _ (L .represents .queues) in
-    let W = process-region .ensures g d (child-asks F L key (loop-test .taken) (if1 .left) item) in
-    let new = key-of .ensures (arcs g) d _ (key-asks F L key (loop-test .taken) (if1 .left) item W) in
-    turned F L key (loop-test .taken) (if1 .left) item W new (write .ensures)
-
-process-inner-same-length-6 : (t : ℕ) → process-inner-lts.Need-same-length-6 (process-inner-heard t) (process-inner-at t)
-    process-inner.Post process-inner-Inv-loop process-inner-μ-loop
-process-inner-same-length-6 t c =
     let earlier = c .before .before .before .before in
     let early = earlier .before .before .before .before in
     let prior = early .before .before .before .before in
-    let span-of = c .before .before .before .span-of in
-    let pre = prior .before .before .before .pre in
-    c .before .loop .inv (pre .1 .0) (pre .1 .1) (framed (pre .1 .2) (pre .1 .3) (span-of .ensures)
-    (c .before .before .count-inner .ensures)) .represents .labelled ∙ sym (pre .1 .2 .represents .labelled)
-
-process-inner-same-length-7 : (t : ℕ) → process-inner-lts.Need-same-length-7 (process-inner-heard t) (process-inner-at t)
-    process-inner.Post process-inner-Inv-loop process-inner-μ-loop
-process-inner-same-length-7 t c =
-    let earlier = c .before .before .before .before in
-    let early = earlier .before .before .before .before in
-    let prior = early .before .before .before .before in
-    let span-of = c .before .before .before .span-of in
-    let pre = prior .before .before .before .pre in
-    c .before .loop .inv (pre .1 .0) (pre .1 .1) (framed (pre .1 .2) (pre .1 .3) (span-of .ensures)
-    (c .before .before .count-inner .ensures)) .represents .fed ∙ sym (pre .1 .2 .represents .fed)
-
-process-inner-same-length-8 : (t : ℕ) → process-inner-lts.Need-same-length-8 (process-inner-heard t) (process-inner-at t)
-    process-inner.Post process-inner-Inv-loop process-inner-μ-loop
-process-inner-same-length-8 t c =
-    let earlier = c .before .before .before .before in
-    let early = earlier .before .before .before .before in
-    let prior = early .before .before .before .before in
-    let span-of = c .before .before .before .span-of in
-    let pre = prior .before .before .before .pre in
-    c .before .loop .inv (pre .1 .0) (pre .1 .1) (framed (pre .1 .2) (pre .1 .3) (span-of .ensures)
-    (c .before .before .count-inner .ensures)) .represents .owned ∙ sym (pre .1 .2 .represents .owned)
-
-process-inner-same-length-9 : (t : ℕ) → process-inner-lts.Need-same-length-9 (process-inner-heard t) (process-inner-at t)
-    process-inner.Post process-inner-Inv-loop process-inner-μ-loop
-process-inner-same-length-9 t c =
-    let earlier = c .before .before .before .before in
-    let early = earlier .before .before .before .before in
-    let prior = early .before .before .before .before in
-    let span-of = c .before .before .before .span-of in
-    let pre = prior .before .before .before .pre in
-    c .before .loop .inv (pre .1 .0) (pre .1 .1) (framed (pre .1 .2) (pre .1 .3) (span-of .ensures)
-    (c .before .before .count-inner .ensures)) .represents .queues .keyed ∙ sym (pre .1 .2 .represents .queues .keyed)
-
-process-inner-same-length-10 : (t : ℕ) → process-inner-lts.Need-same-length-10 (process-inner-heard t) (process-inner-at t)
-    process-inner.Post process-inner-Inv-loop process-inner-μ-loop
-process-inner-same-length-10 t c =
-    let earlier = c .before .before .before .before in
-    let early = earlier .before .before .before .before in
-    let prior = early .before .before .before .before in
-    let span-of = c .before .before .before .span-of in
-    let pre = prior .before .before .before .pre in
-    c .before .loop .inv (pre .1 .0) (pre .1 .1) (framed (pre .1 .2) (pre .1 .3) (span-of .ensures)
-    (c .before .before .count-inner .ensures)) .represents .queues .laid .seated .all ∙ sym (pre .1 .2 .represents .queues .laid .seated .all)
+    let first = prior .before .before .before .before in
+    let opening = first .before .before .before .before in
+    let key-of = c .before .before .before .key-of in
+    let process-region = earlier .before .before .process-region in
+    let min-item = early .before .before .before .min-item in
+    let if1 = prior .before .before .before .if1 in
+    let min-key = first .min-key in
+    let loop-test = opening .loop-test in
+    let loop = opening .before .loop in
+    λ g d keys F.
+    let L = loop .inv g d keys F in
+    let key = min-key .ensures d (L .0) (L .1 .represents .queues) (F .in-range) (F .inner) _ _ in
+    let item = min-item .ensures d (L .0) (L .1 .represents .queues) (F .in-range) in
+    let W = process-region .ensures g d (L .0) (child-asks F (L .1) key (loop-test .taken) (if1 .left) item) in
+    let new = key-of .ensures (arcs g) d (W .0) _ (key-asks F (L .1) key (loop-test .taken) (if1 .left) item (W .1)) in
+    let inside = child-in F (L .1) key (loop-test .taken) (if1 .left) item in
+    let valid = c .write .ensures d (W .0) (W .1 .represents .queues) inside in
+    (_, turned F (L .1) key (loop-test .taken) (if1 .left) item (W .1) new valid)
 
 process-inner-returns-2 : (t : ℕ) → process-inner-lts.Need-returns-2 (process-inner-heard t) (process-inner-at t)
     process-inner.Post process-inner-Inv-loop process-inner-μ-loop
 process-inner-returns-2 t c =
+    let count-inner = c .before .before .count-inner in
     let span-of = c .before .before .before .span-of in
-    λ g d P inner.
-    turns-worked P inner (span-of .ensures) (c .before .before .count-inner .ensures)
-    (loop-spent (c .before .loop .inv g d (framed P inner (span-of .ensures) (c .before .before .count-inner .ensures))) (c .loop-test .left))
+    λ g d keys P inner.
+    let L = c .before .loop .inv g d keys (framed P inner (span-of .ensures) (count-inner .ensures)) in
+    (L .0, turns-worked P inner (span-of .ensures) (count-inner .ensures) (loop-spent (L .1) (c .loop-test .left)))
 
 process-region-arc-of-requires : (t : ℕ) → process-region-lts.Need-arc-of-requires (process-region-heard t) (process-region-at t) process-region.Post
 process-region-arc-of-requires t c κs =
-    let earlier = c .before .before .before .before in
-    let early = earlier .before .before .before .before in
-    let pre = early .before .before .before .pre in
-    omega (arith, pre .1 .2 .in-range, pre .1 .2 .represents .tabled .region-rows .all)
+    let pre = c .before .before .before .pre in
+    omega (arith, pre .1 .3 .in-range, pre .1 .3 .represents .tabled .region-rows .all)
 
 process-region-process-inner-requires : (t : ℕ) → process-region-lts.Need-process-inner-requires (process-region-heard t) (process-region-at t)
     process-region.Post
 process-region-process-inner-requires t c κs =
-    let earlier = c .before .before .before .before .before .before .before .before in
-    let early = earlier .before .before .before .before .before .before .before .before in
-    let if1 = c .before .before .before .before .before .if1 in
-    let arc-of = c .before .before .before .before .before .before .before .arc-of in
-    let pre = early .before .before .before .pre in
-    (omega (arith, pre .0), (pre .1 .0, pre .1 .1, pre .1 .2, region-inner (pre .1 .2) (arc-of .ensures) (if1 .taken)))
-
-process-region-same-length : (t : ℕ) → process-region-lts.Need-same-length (process-region-heard t) (process-region-at t) process-region.Post
-process-region-same-length t c =
     let earlier = c .before .before .before .before in
     let early = earlier .before .before .before .before in
-    let process-inner = early .before .before .process-inner in
-    process-inner .kept .1 .1 .1 .1 .1 .1 .0
-
-process-region-same-length-2 : (t : ℕ) → process-region-lts.Need-same-length-2 (process-region-heard t) (process-region-at t) process-region.Post
-process-region-same-length-2 t c =
-    let earlier = c .before .before .before .before in
-    let early = earlier .before .before .before .before in
-    let process-inner = early .before .before .process-inner in
-    process-inner .kept .1 .1 .1 .1 .1 .1 .1 .0
-
-process-region-same-length-3 : (t : ℕ) → process-region-lts.Need-same-length-3 (process-region-heard t) (process-region-at t) process-region.Post
-process-region-same-length-3 t c =
-    let earlier = c .before .before .before .before in
-    let early = earlier .before .before .before .before in
-    let process-inner = early .before .before .process-inner in
-    process-inner .kept .1 .1 .1 .1 .1 .1 .1 .1 .0
-
-process-region-same-length-4 : (t : ℕ) → process-region-lts.Need-same-length-4 (process-region-heard t) (process-region-at t) process-region.Post
-process-region-same-length-4 t c =
-    let earlier = c .before .before .before .before in
-    let early = earlier .before .before .before .before in
-    let process-inner = early .before .before .process-inner in
-    process-inner .kept .1 .1 .1 .1 .1 .1 .1 .1 .1 .0
-
-process-region-same-length-5 : (t : ℕ) → process-region-lts.Need-same-length-5 (process-region-heard t) (process-region-at t) process-region.Post
-process-region-same-length-5 t c =
-    let earlier = c .before .before .before .before in
-    let early = earlier .before .before .before .before in
-    let process-inner = early .before .before .process-inner in
-    process-inner .kept .1 .1 .1 .1 .1 .1 .1 .1 .1 .1 .0
+    let if1 = earlier .if1 in
+    let arc-of = earlier .before .before .arc-of in
+    let pre = early .before .before .pre in
+    let P = pre .1 .3 in
+    (omega (arith, pre .0), (pre .1 .0, pre .1 .1, pre .1 .2, (P, region-inner P (arc-of .ensures) (if1 .taken))))
 
 process-region-returns : (t : ℕ) → process-region-lts.Need-returns (process-region-heard t) (process-region-at t) process-region.Post
 process-region-returns t c =
-    let earlier = c .before .before .before .before .before .before .before .before in
-    let early = earlier .before .before .before .before .before .before .before .before in
-    let process-inner = earlier .before .before .process-inner in
-    let if1 = early .if1 in
-    let arc-of = early .before .before .arc-of in
-    λ g d P. process-inner .ensures g d P (region-inner P (arc-of .ensures) (if1 .taken))
+    let earlier = c .before .before .before .before in
+    let if1 = earlier .before .if1 in
+    let arc-of = earlier .before .before .before .arc-of in
+    λ g d keys P. c .process-inner .ensures g d keys P (region-inner P (arc-of .ensures) (if1 .taken))
 
 process-region-process-leaf-requires : (t : ℕ) → process-region-lts.Need-process-leaf-requires (process-region-heard t) (process-region-at t)
     process-region.Post
 process-region-process-leaf-requires t c κs =
-    let earlier = c .before .before .before .before .before .before .before .before in
-    let early = earlier .before .before .before .before .before .before .before .before in
-    let if1 = c .before .before .before .before .before .if1 in
-    let arc-of = c .before .before .before .before .before .before .before .arc-of in
-    let pre = early .before .before .before .pre in
-    let P = pre .1 .2 in
-    (pre .1 .0, pre .1 .1, _, leaf-asks P (arc-of .ensures) (if1 .left), region-leaf P (arc-of .ensures) (if1 .left))
-
-process-region-same-length-6 : (t : ℕ) → process-region-lts.Need-same-length-6 (process-region-heard t) (process-region-at t) process-region.Post
-process-region-same-length-6 t c =
     let earlier = c .before .before .before .before in
     let early = earlier .before .before .before .before in
-    let process-leaf = early .before .before .process-leaf in
-    process-leaf .kept .1 .1 .1 .1 .1 .0
-
-process-region-same-length-7 : (t : ℕ) → process-region-lts.Need-same-length-7 (process-region-heard t) (process-region-at t) process-region.Post
-process-region-same-length-7 t c =
-    let earlier = c .before .before .before .before in
-    let early = earlier .before .before .before .before in
-    let process-leaf = early .before .before .process-leaf in
-    process-leaf .kept .1 .1 .1 .1 .1 .1 .0
-
-process-region-same-length-8 : (t : ℕ) → process-region-lts.Need-same-length-8 (process-region-heard t) (process-region-at t) process-region.Post
-process-region-same-length-8 t c =
-    let earlier = c .before .before .before .before in
-    let early = earlier .before .before .before .before in
-    let process-leaf = early .before .before .process-leaf in
-    process-leaf .kept .1 .1 .1 .1 .1 .1 .1 .0
-
-process-region-same-length-9 : (t : ℕ) → process-region-lts.Need-same-length-9 (process-region-heard t) (process-region-at t) process-region.Post
-process-region-same-length-9 t c =
-    let earlier = c .before .before .before .before in
-    let early = earlier .before .before .before .before in
-    let process-leaf = early .before .before .process-leaf in
-    process-leaf .kept .1 .1 .1 .1 .1 .1 .1 .1 .0
-
-process-region-same-length-10 : (t : ℕ) → process-region-lts.Need-same-length-10 (process-region-heard t) (process-region-at t) process-region.Post
-process-region-same-length-10 t c =
-    let earlier = c .before .before .before .before in
-    let early = earlier .before .before .before .before in
-    let process-leaf = early .before .before .process-leaf in
-    process-leaf .kept .1 .1 .1 .1 .1 .1 .1 .1 .1 .0
+    let if1 = earlier .if1 in
+    let arc-of = earlier .before .before .arc-of in
+    let pre = early .before .before .pre in
+    let P = pre .1 .3 in
+    (pre .1 .0, pre .1 .1, _, pre .1 .2, (leaf-asks P (arc-of .ensures) (if1 .left), region-leaf P (arc-of .ensures) (if1 .left)))
 
 process-region-returns-2 : (t : ℕ) → process-region-lts.Need-returns-2 (process-region-heard t) (process-region-at t) process-region.Post
 process-region-returns-2 t c =
-    let earlier = c .before .before .before .before .before .before .before .before in
-    let early = earlier .before .before .before .before .before .before .before .before in
-    let process-leaf = earlier .before .before .process-leaf in
-    let if1 = early .if1 in
-    let arc-of = early .before .before .arc-of in
-    λ g d P.
-    leaf-worked P (arc-of .ensures) (if1 .left)
-    (process-leaf .ensures g d _ (leaf-asks P (arc-of .ensures) (if1 .left)) (region-leaf P (arc-of .ensures) (if1 .left)))
+    let earlier = c .before .before .before .before in
+    let if1 = earlier .before .if1 in
+    let arc-of = earlier .before .before .before .arc-of in
+    λ g d keys P.
+    let W = c .process-leaf .ensures g d _ keys (leaf-asks P (arc-of .ensures) (if1 .left)) (region-leaf P (arc-of .ensures) (if1 .left)) in
+    (W .0, leaf-worked P (arc-of .ensures) (if1 .left) (W .1))
 
 pub +process-inner+process-region-spec : {M : Type 1} → statement M
 +process-inner+process-region-spec =
-    close μ-process-inner μ-process-region (λ t. process-inner-lts.spec (
-      span-of-reads.Asked,
-      span-of-reads.Learnt,
-      count-inner-reads.Asked,
-      count-inner-reads.Learnt,
-      min-key-reads.Asked,
-      min-key-reads.Learnt,
-      min-item-reads.Asked,
-      min-item-reads.Learnt,
-      process-region-below t,
-      process-region.Post,
-      key-of-reads.Asked,
-      key-of-reads.Learnt,
-      write-reads.Asked,
-      write-reads.Learnt,
-    )
+    close μ-process-inner μ-process-region (λ t. process-inner-lts.spec (process-inner-heard t)
     (process-inner-at t)
     process-inner.Post
     process-inner-Inv-loop
@@ -582,11 +383,6 @@ pub +process-inner+process-region-spec : {M : Type 1} → statement M
     (process-inner-count-inner-requires t)
     (process-inner-loop-holds t)
     (process-inner-min-key-requires t)
-    (process-inner-same-length t)
-    (process-inner-same-length-2 t)
-    (process-inner-same-length-3 t)
-    (process-inner-same-length-4 t)
-    (process-inner-same-length-5 t)
     (process-inner-returns t)
     (process-inner-min-item-requires t)
     (process-inner-process-region-requires t)
@@ -595,34 +391,12 @@ pub +process-inner+process-region-spec : {M : Type 1} → statement M
     (process-inner-sub-left t)
     (process-inner-loop-less t)
     (process-inner-loop-again t)
-    (process-inner-same-length-6 t)
-    (process-inner-same-length-7 t)
-    (process-inner-same-length-8 t)
-    (process-inner-same-length-9 t)
-    (process-inner-same-length-10 t)
     (process-inner-returns-2 t))
-    λ t. process-region-lts.spec (
-      arc-of-reads.Asked,
-      arc-of-reads.Learnt,
-      process-inner-below t,
-      process-inner.Post,
-      process-leaf-reads.Asked,
-      process-leaf-reads.Learnt,
-    )
+    λ t. process-region-lts.spec (process-region-heard t)
     (process-region-at t)
     process-region.Post
     (process-region-arc-of-requires t)
     (process-region-process-inner-requires t)
-    (process-region-same-length t)
-    (process-region-same-length-2 t)
-    (process-region-same-length-3 t)
-    (process-region-same-length-4 t)
-    (process-region-same-length-5 t)
     (process-region-returns t)
     (process-region-process-leaf-requires t)
-    (process-region-same-length-6 t)
-    (process-region-same-length-7 t)
-    (process-region-same-length-8 t)
-    (process-region-same-length-9 t)
-    (process-region-same-length-10 t)
     (process-region-returns-2 t)

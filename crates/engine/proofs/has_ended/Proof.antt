@@ -7,12 +7,20 @@ use Rattle.engine.proofs.has_ended.Statement.{statement}
 use Rattle.engine.proofs.has_ended.Tie as tie
 
 min-key-requires : tie.Need-min-key-requires
-min-key-requires c κs = search needs
+min-key-requires c κs =
+    let pre = c .before .before .pre in
+    let Q = pre .2 in
+    (pre .0, pre .1, Q, Q .laid .planned .counted .numbered .root)
 
 returns : tie.Need-returns
 unfolding top
-returns c = λ g d labels predecessors own counts Q inner. ended-by-key g d (stateOf labels predecessors own _ counts) _
-    (c .min-key .ensures d Q inner own (counts .updates))
+returns c =
+    λ g d labels predecessors own keys counts Q inner. ended-by-key g d (stateOf labels predecessors own keys counts) _
+    (c .min-key .ensures d keys Q (Q .laid .planned .counted .numbered .root) inner own (counts .updates))
 
 pub has-ended-spec : {M : Type 1} → statement M
-has-ended-spec = tie.close (tie.spec min-key-requires returns)
+has-ended-spec =
+    tie.close
+    (tie.spec
+    min-key-requires
+    returns)

@@ -1,5 +1,6 @@
 -- `key_of` meets its contract: a leaf's key is its arc's own, an inner region's that of the queue. Assumes nothing.
 use borrow.Author.Needs.{needs}
+use native.Mathlib.Omega.{arith}
 use Rattle.engine.proofs.Regions.{key-inner, own-key-in, own-key}
 use Rattle.engine.proofs.key_of.Statement.{statement}
 use Rattle.engine.proofs.key_of.Tie as tie
@@ -8,31 +9,41 @@ arc-of-requires : tie.Need-arc-of-requires
 arc-of-requires c κs = search needs
 
 min-key-requires : tie.Need-min-key-requires
-min-key-requires c κs = search needs
+min-key-requires c κs =
+    let earlier = c .before .before .before .before in
+    let pre = earlier .before .before .pre in
+    (pre .1, pre .2, pre .3 .queues, pre .3 .in-range)
 
 returns : tie.Need-returns
 returns c =
-    let arc-of = c .before .before .before .arc-of in
-    λ m d updates K. c .min-key .ensures d (K .queues) (key-inner K (arc-of .ensures) (c .before .if1 .taken)) _ updates
+    let earlier = c .before .before .before .before in
+    let if1 = c .before .before .before .if1 in
+    let arc-of = earlier .before .arc-of in
+    λ m d keys updates K. c .min-key .ensures d keys (K .queues) (K .in-range) (key-inner K (arc-of .ensures) (if1 .taken)) _ updates
 
 cast-i : tie.Need-cast-i
 cast-i c = search needs
 
 mul-result : tie.Need-mul-result
-mul-result c = search needs
-
-shared-slice-read-result : tie.Need-shared-slice-read-result
-shared-slice-read-result c =
+mul-result c =
     let earlier = c .before .before .before .before in
-    let early = earlier .before .before .before .before in
-    let arc-of = earlier .arc-of in
-    let pre = early .before .before .pre in
-    own-key-in (pre .2) (arc-of .ensures) (c .before .before .if1 .left)
+    let arc-of = c .before .before .before .arc-of in
+    let pre = earlier .before .pre in
+    omega (arith, own-key-in (pre .3) (arc-of .ensures) (c .before .if1 .left))
+
+element-copy-out-result : tie.Need-element-copy-out-result
+element-copy-out-result c =
+    let earlier = c .before .before .before .before in
+    let arc-of = c .before .before .before .arc-of in
+    let pre = earlier .before .pre in
+    own-key-in (pre .3) (arc-of .ensures) (c .before .if1 .left)
 
 returns-2 : tie.Need-returns-2
 returns-2 c =
-    let arc-of = c .before .before .before .before .arc-of in
-    λ m d updates K. own-key K (arc-of .ensures) (c .before .before .if1 .left) updates
+    let earlier = c .before .before .before .before in
+    let arc-of = earlier .arc-of in
+    let args = earlier .before .before .args in
+    λ m d keys updates K. own-key (args .own .now) K (arc-of .ensures) (c .before .before .if1 .left) updates
 
 pub key-of-spec : {M : Type 1} → statement M
 key-of-spec =
@@ -43,5 +54,5 @@ key-of-spec =
     returns
     cast-i
     mul-result
-    shared-slice-read-result
+    element-copy-out-result
     returns-2)

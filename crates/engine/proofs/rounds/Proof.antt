@@ -1,170 +1,91 @@
 -- `rounds` meets its contract. The loop's invariant: the rounds that are left lead to the same end. Assumes nothing.
 use Prim.Native.Nat.{ℕ}
 use mathlib.Core.Path.{_≡_, sym, _∙_}
+use mathlib.Core.List.{List}
 use native.Mathlib.Omega.{arith}
-use Rattle.procedure.specs.Graph.{Graph, arcs}
+use Rattle.procedure.specs.Graph.{Graph}
 use Rattle.procedure.specs.Division.{Division}
 use Rattle.slices.specs.Tables.{tablesOf}
-use Rattle.slices.specs.States.{stateOf, Represents}
+use Rattle.slices.specs.States.{stateIn, Represents}
 use Rattle.engine.proofs.Loops.{Looping, loop-spent, running, rounds-first, rounds-ended, next-asks, rounds-step}
 use Rattle.procedure.specs.Procedure.{round, after}
 use Rattle.engine.proofs.rounds.Statement.{statement}
 use Rattle.engine.proofs.rounds.Tie as tie
 
 abbrev Inv-loop : tie.InvT-loop
-Inv-loop rows arcs firsts lengths spans regions labels₀ predecessors₀ own₀ keys₀ winners₀ limit left₀ n₀ labels predecessors own keys winners left n =
-    (g : Graph) (d : Division) (k : ℕ) → Represents g d (tablesOf rows arcs firsts lengths spans regions) (stateOf labels₀ predecessors₀ own₀ keys₀ n₀)
-    winners₀ → (stateOf labels₀ predecessors₀ own₀ keys₀ n₀) ≡ after g d spans k
-    → Looping g d (tablesOf rows arcs firsts lengths spans regions) (running g d) (round g d spans) left₀ (stateOf labels₀ predecessors₀ own₀ keys₀ n₀) left
-    (stateOf labels predecessors own keys n) winners
+Inv-loop rows arcs firsts lengths spans regions labels₀ predecessors₀ own₀ winners₀ limit left₀ n₀ labels predecessors own winners left n =
+    (g : Graph) (d : Division) (k : ℕ) (keys₀ : List ℕ) → let t = tablesOf rows arcs firsts lengths spans regions in
+    let s₀ = stateIn g labels₀ predecessors₀ own₀ keys₀ n₀ in
+    Represents g d t s₀ winners₀ → s₀ ≡ after g d spans k
+    → ((keys : List ℕ) × Looping g d t (running g d) (round g d spans) left₀ s₀ left (stateIn g labels predecessors own keys n) winners)
 
 abbrev μ-loop : tie.MeasureT-loop
-μ-loop rows arcs firsts lengths spans regions labels₀ predecessors₀ own₀ keys₀ winners₀ limit left₀ n₀ labels predecessors own keys winners left n = left
+μ-loop rows arcs firsts lengths spans regions labels₀ predecessors₀ own₀ winners₀ limit left₀ n₀ labels predecessors own winners left n = left
 
 loop-holds : tie.Need-loop-holds Inv-loop μ-loop
-loop-holds c = λ g d k R e. rounds-first R
+loop-holds c = λ g d k keys R e. (keys, rounds-first R)
 
 has-ended-requires : tie.Need-has-ended-requires Inv-loop μ-loop
 has-ended-requires c κs =
     let earlier = c .before .before .before .before in
-    let early = earlier .before .before .before .before in
-    let prior = early .before .before .before .before in
-    let loop = c .before .before .before .loop in
-    let pre = prior .before .before .before .pre in
-    (pre .1, loop .inv (pre .0) (pre .1) (pre .2) (pre .3) (pre .4) .represents .queues)
-
-same-length : tie.Need-same-length Inv-loop μ-loop
-same-length c =
-    let earlier = c .before .before .before .before .before .before .before .before in
-    let early = earlier .before .before .before .before .before .before .before .before in
-    let loop = c .before .before .before .before .before .loop in
-    let pre = early .before .pre in
-    loop .inv (pre .0) (pre .1) (pre .2) (pre .3) (pre .4) .represents .labelled ∙ sym (pre .3 .labelled)
-
-same-length-2 : tie.Need-same-length-2 Inv-loop μ-loop
-same-length-2 c =
-    let earlier = c .before .before .before .before .before .before .before .before in
-    let early = earlier .before .before .before .before .before .before .before .before in
-    let loop = c .before .before .before .before .before .loop in
-    let pre = early .before .pre in
-    loop .inv (pre .0) (pre .1) (pre .2) (pre .3) (pre .4) .represents .fed ∙ sym (pre .3 .fed)
-
-same-length-3 : tie.Need-same-length-3 Inv-loop μ-loop
-same-length-3 c =
-    let earlier = c .before .before .before .before .before .before .before .before in
-    let early = earlier .before .before .before .before .before .before .before .before in
-    let loop = c .before .before .before .before .before .loop in
-    let pre = early .before .pre in
-    loop .inv (pre .0) (pre .1) (pre .2) (pre .3) (pre .4) .represents .owned ∙ sym (pre .3 .owned)
-
-same-length-4 : tie.Need-same-length-4 Inv-loop μ-loop
-same-length-4 c =
-    let earlier = c .before .before .before .before .before .before .before .before in
-    let early = earlier .before .before .before .before .before .before .before .before in
-    let loop = c .before .before .before .before .before .loop in
-    let pre = early .before .pre in
-    loop .inv (pre .0) (pre .1) (pre .2) (pre .3) (pre .4) .represents .queues .keyed ∙ sym (pre .3 .queues .keyed)
-
-same-length-5 : tie.Need-same-length-5 Inv-loop μ-loop
-same-length-5 c =
-    let earlier = c .before .before .before .before .before .before .before .before in
-    let early = earlier .before .before .before .before .before .before .before .before in
-    let loop = c .before .before .before .before .before .loop in
-    let pre = early .before .pre in
-    loop .inv (pre .0) (pre .1) (pre .2) (pre .3) (pre .4) .represents .queues .laid .seated .all ∙ sym (pre .3 .queues .laid .seated .all)
+    let pre = earlier .before .pre in
+    let L = c .before .before .loop .inv (pre .0) (pre .1) (pre .2) (pre .3) (pre .4 .0) (pre .4 .1) in
+    (pre .1, L .0, L .1 .represents .queues)
 
 returns : tie.Need-returns Inv-loop μ-loop
 returns c =
     let earlier = c .before .before .before .before in
-    let loop = earlier .before .loop in
-    λ g d k R e.
-    let L = loop .inv g d k R e in
-    rounds-ended L (sym (c .before .has-ended .ensures g d _ _ _ _ (L .represents .queues) (R .tabled .ok .division .root-inner)) ∙ c .if1 .taken)
+    let loop = earlier .loop in
+    λ g d k keys R e.
+    let L = loop .inv g d k keys R e in
+    let told = c .before .has-ended .ensures g d _ _ _ (L .0) _ (L .1 .represents .queues) (R .tabled .ok .division .root-inner) in
+    (L .0, rounds-ended (L .1) (sym told ∙ c .if1 .taken))
 
 round-requires : tie.Need-round-requires Inv-loop μ-loop
 round-requires c κs =
-    let earlier = c .before .before .before .before .before .before .before .before in
-    let early = earlier .before .before .before .before .before .before .before .before in
-    let if1 = c .before .before .before .before .before .if1 in
-    let has-ended = c .before .before .before .before .before .before .has-ended in
-    let loop-test = earlier .before .loop-test in
-    let loop = earlier .before .before .loop in
-    let pre = early .before .before .before .before .before .before .pre in
-    let R = pre .3 in
-    let L = loop .inv (pre .0) (pre .1) (pre .2) (pre .3) (pre .4) in
-    let going = sym (has-ended .ensures (pre .0) (pre .1) _ _ _ _ (L .represents .queues) (R .tabled .ok .division .root-inner)) ∙ if1 .left in
-    (pre .0, pre .1, next-asks L (loop-test .taken) going (pre .2) (pre .4))
+    let earlier = c .before .before .before .before in
+    let early = earlier .before .before .before .before in
+    let if1 = earlier .if1 in
+    let has-ended = earlier .before .has-ended in
+    let loop-test = earlier .before .before .before .loop-test in
+    let loop = early .loop in
+    let pre = early .before .before .before .pre in
+    let R = pre .4 .0 in
+    let L = loop .inv (pre .0) (pre .1) (pre .2) (pre .3) R (pre .4 .1) in
+    let told = has-ended .ensures (pre .0) (pre .1) _ _ _ (L .0) _ (L .1 .represents .queues) (R .tabled .ok .division .root-inner) in
+    (pre .0, pre .1, L .0, next-asks (L .1) (loop-test .taken) (sym told ∙ if1 .left) (pre .2) (pre .4 .1))
 
 sub-left : tie.Need-sub-left Inv-loop μ-loop
 sub-left c =
-    let earlier = c .before .before .before .before .before .before .before .before in
-    let early = earlier .before .before .before .before .before .before .before .before in
-    let loop-test = early .before .before .before .before .loop-test in
+    let earlier = c .before .before .before .before in
+    let early = earlier .before .before .before .before in
+    let loop-test = early .loop-test in
     omega (arith, loop-test .taken)
 
 loop-less : tie.Need-loop-less Inv-loop μ-loop
 loop-less c =
-    let earlier = c .before .before .before .before .before .before .before .before in
-    let early = earlier .before .before .before .before .before .before .before .before in
-    let loop-test = early .before .before .before .before .loop-test in
+    let earlier = c .before .before .before .before in
+    let early = earlier .before .before .before .before in
+    let loop-test = early .loop-test in
     omega (arith, loop-test .taken)
 
 loop-again : tie.Need-loop-again Inv-loop μ-loop
 loop-again c =
-    let earlier = c .before .before .before .before .before .before .before .before in
-    let early = earlier .before .before .before .before .before .before .before .before in
-    let round = earlier .before .before .round in
-    let if1 = early .if1 in
-    let has-ended = early .before .has-ended in
-    let loop-test = early .before .before .before .before .loop-test in
-    let loop = early .before .before .before .before .before .loop in
-    λ g d k R e.
-    let L = loop .inv g d k R e in
-    let going = sym (has-ended .ensures g d _ _ _ _ (L .represents .queues) (R .tabled .ok .division .root-inner)) ∙ if1 .left in
-    rounds-step L (loop-test .taken) going (round .ensures g d (next-asks L (loop-test .taken) going k e))
-
-same-length-6 : tie.Need-same-length-6 Inv-loop μ-loop
-same-length-6 c =
     let earlier = c .before .before .before .before in
     let early = earlier .before .before .before .before in
-    let prior = early .before .before .before .before in
-    let pre = prior .before .pre in
-    c .before .loop .inv (pre .0) (pre .1) (pre .2) (pre .3) (pre .4) .represents .labelled ∙ sym (pre .3 .labelled)
-
-same-length-7 : tie.Need-same-length-7 Inv-loop μ-loop
-same-length-7 c =
-    let earlier = c .before .before .before .before in
-    let early = earlier .before .before .before .before in
-    let prior = early .before .before .before .before in
-    let pre = prior .before .pre in
-    c .before .loop .inv (pre .0) (pre .1) (pre .2) (pre .3) (pre .4) .represents .fed ∙ sym (pre .3 .fed)
-
-same-length-8 : tie.Need-same-length-8 Inv-loop μ-loop
-same-length-8 c =
-    let earlier = c .before .before .before .before in
-    let early = earlier .before .before .before .before in
-    let prior = early .before .before .before .before in
-    let pre = prior .before .pre in
-    c .before .loop .inv (pre .0) (pre .1) (pre .2) (pre .3) (pre .4) .represents .owned ∙ sym (pre .3 .owned)
-
-same-length-9 : tie.Need-same-length-9 Inv-loop μ-loop
-same-length-9 c =
-    let earlier = c .before .before .before .before in
-    let early = earlier .before .before .before .before in
-    let prior = early .before .before .before .before in
-    let pre = prior .before .pre in
-    c .before .loop .inv (pre .0) (pre .1) (pre .2) (pre .3) (pre .4) .represents .queues .keyed ∙ sym (pre .3 .queues .keyed)
-
-same-length-10 : tie.Need-same-length-10 Inv-loop μ-loop
-same-length-10 c =
-    let earlier = c .before .before .before .before in
-    let early = earlier .before .before .before .before in
-    let prior = early .before .before .before .before in
-    let pre = prior .before .pre in
-    c .before .loop .inv (pre .0) (pre .1) (pre .2) (pre .3) (pre .4) .represents .queues .laid .seated .all ∙ sym (pre .3 .queues .laid .seated .all)
+    let if1 = earlier .before .if1 in
+    let has-ended = earlier .before .before .has-ended in
+    let loop-test = early .loop-test in
+    let loop = early .before .loop in
+    λ g d k keys R e.
+    let L = loop .inv g d k keys R e in
+    let told = has-ended .ensures g d _ _ _ (L .0) _ (L .1 .represents .queues) (R .tabled .ok .division .root-inner) in
+    let going = sym told ∙ if1 .left in
+    let W = c .round .ensures g d (L .0) (next-asks (L .1) (loop-test .taken) going k e) in
+    (W .0, rounds-step (L .1) (loop-test .taken) going (W .1))
 
 returns-2 : tie.Need-returns-2 Inv-loop μ-loop
-returns-2 c = λ g d k R e. loop-spent (c .before .loop .inv g d k R e) (c .loop-test .left)
+returns-2 c = λ g d k keys R e. let L = c .before .loop .inv g d k keys R e in (L .0, loop-spent (L .1) (c .loop-test .left))
 
 pub rounds-spec : {M : Type 1} → statement M
 rounds-spec =
@@ -174,19 +95,9 @@ rounds-spec =
     μ-loop
     loop-holds
     has-ended-requires
-    same-length
-    same-length-2
-    same-length-3
-    same-length-4
-    same-length-5
     returns
     round-requires
     sub-left
     loop-less
     loop-again
-    same-length-6
-    same-length-7
-    same-length-8
-    same-length-9
-    same-length-10
     returns-2)
