@@ -1,6 +1,6 @@
 -- What the code of the updates rests on: an update of an item writes and counts, and stops or climbs as the smallest keys say; that of an arc begins at
 -- its own key; those of a node's outgoing arcs are a walk along links. Assumes nothing.
-use Prim.Native.Nat.{ℕ, suc, _+_, _*_, _-_, _^_, _≤_, _<_}
+use Prim.Native.Nat.{ℕ, suc, _+_, _-_, _^_, _≤_, _<_}
 use mathlib.Core.Bool.{true, false, true≢false}
 use mathlib.Core.Path.{_≡_, refl, sym, ap, _∙_}
 use mathlib.Core.Logic.{_≢_, ⊎-elim}

@@ -1,5 +1,4 @@
 -- `has_ended` meets its contract. Assumes nothing.
-use borrow.Author.Needs.{needs}
 use Rattle.slices.specs.States.{stateOf}
 use Rattle.engine.proofs.Regions.{ended-by-key}
 use Rattle.sheet.specs.Words.{top}

@@ -1,5 +1,4 @@
 -- `round` meets its contract: a round is one working of region 0, which is inner. Assumes nothing.
-use borrow.Author.Needs.{needs}
 use Rattle.engine.proofs.Loops.{round-asks, round-count-fits, round-made}
 use Rattle.engine.proofs.round.Statement.{statement}
 use Rattle.engine.proofs.round.Tie as tie

@@ -1,5 +1,4 @@
 -- `run_arrays` meets its contract: what is laid out is what the run asks, and an array has its length. Assumes nothing.
-use borrow.Author.Needs.{needs}
 use Prim.Native.Nat.{_*_}
 use mathlib.Core.Path.{_∙_}
 use native.Mathlib.Omega.{arith}

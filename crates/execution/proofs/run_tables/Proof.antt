@@ -1,5 +1,4 @@
 -- `run_tables` meets its contract: the start, the rounds, and the table of the state that they leave. Assumes nothing.
-use borrow.Author.Needs.{needs}
 use mathlib.Core.Path.{sym, _∙_}
 use native.Mathlib.Omega.{arith}
 use Rattle.procedure.specs.OfSheet.{graphOf, divisionOf}
