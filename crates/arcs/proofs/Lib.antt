@@ -1,3 +1,2 @@
-pub mod Lengths
-pub mod Degrees
+pub mod Flags
 pub mod Stops

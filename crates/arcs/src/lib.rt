@@ -1,6 +1,5 @@
 // The refusals of a sheet's arcs: 8 to 10, and of refusal 3 what it asks of an arc's words.
 ghost use mathlib.Core.Path.{_≡_};
-ghost use mathlib.Core.Bool.{false};
 ghost use lib.Dec.{leb};
 ghost use Prim.Native.Nat.{_≤_, _<_};
 ghost use Rattle.indices.specs.Tests.{any};
@@ -9,7 +8,7 @@ ghost use Rattle.sheet.specs.Sections.{Located, nodeCount, arcCount};
 ghost use Rattle.sheet.specs.Arcs.{endOf};
 ghost use Rattle.sheet.specs.Answer.{numbered, accepted, lowest};
 ghost use Rattle.refusals.specs.Form.{arcBits};
-ghost use Rattle.refusals.specs.Fields.{endOutside, endsOutside, tooManyAtNode};
+ghost use Rattle.refusals.specs.Fields.{endOutside};
 ghost use Rattle.refusals.specs.Judgement.{arcRefusals};
 ghost use Rattle.arcs.specs.Fields.{fieldRefusals};
 use sheet::Arc;
@@ -51,53 +50,31 @@ fn ends_outside(s: &[u8], at: Sections, a: Arc) -> bool
     end_outside(s, at, a, true)
 }
 
-// Refusals 8 and 9 in one pass: the number, or 0. An end outside decides at once, a length above its limit only after the last arc.
+// Refusals 8 and 9: the number, or 0. Both are looked for in one pass over the arcs, and 8 goes before 9.
 fn field_refusal(s: &[u8], at: Sections) -> u8
     requires { ⌜ Located (now s) at × (arcCount (now s) ≤ mostArcs) ⌝ }
     ensures { λ r. ⌜ numbered r ≡ lowest (fieldRefusals (now (s .entry))) accepted ⌝ }
 {
     let arcs = at.arcs as u16;
-    let mut found: u8 = 0;
+    let mut outside = false;
+    let mut long = false;
     let mut a: u16 = 0;
     while a < arcs {
         if ends_outside(s, at, Arc(a)) {
-            return 8;
+            outside = true;
         }
         if sheet::length_at(s, at, Arc(a)) > sheet::MOST_LENGTH {
-            found = 9;
+            long = true;
         }
         a += 1;
     }
-    found
-}
-
-// Refusal 10: some node is the tail of more arcs than it may be, or the head.
-fn crowded_nodes(s: &[u8], at: Sections) -> bool
-    requires { ⌜ Located (now s) at × (arcCount (now s) ≤ mostArcs) × (nodeCount (now s) ≤ mostNodes) × (endsOutside (now s) ≡ false) ⌝ }
-    ensures { λ r. ⌜ r ≡ tooManyAtNode (now (s .entry)) ⌝ }
-{
-    let mut tails = [0u8; 1024];
-    let mut heads = [0u8; 1024];
-    let arcs = at.arcs as u16;
-    let mut a: u16 = 0;
-    while a < arcs {
-        let tail = sheet::end_at(s, at, Arc(a), false);
-        let head = sheet::end_at(s, at, Arc(a), true);
-        let v = tail.0 as usize;
-        let w = head.0 as usize;
-        let x = tails[v];
-        let y = heads[w];
-        if x >= sheet::MOST_ARCS_EACH_WAY {
-            return true;
-        }
-        if y >= sheet::MOST_ARCS_EACH_WAY {
-            return true;
-        }
-        tails[v] = x + 1;
-        heads[w] = y + 1;
-        a += 1;
+    if outside {
+        return 8;
     }
-    false
+    if long {
+        return 9;
+    }
+    0
 }
 
 // Refusals 8 to 10: the number, or 0.
@@ -109,7 +86,7 @@ pub fn arc_refusal(s: &[u8], at: Sections) -> u8
     if field != 0 {
         return field;
     }
-    if crowded_nodes(s, at) {
+    if degrees::crowded_nodes(s, at) {
         return 10;
     }
     0

@@ -1,41 +1,35 @@
--- `field_refusal` meets its contract: no arc passed has an end outside, and a length above its limit is remembered. Assumes nothing.
+-- `field_refusal` meets its contract: the two flags say what was found among the arcs passed. Assumes nothing.
 use Prim.Native.Nat.{_-_, _≤_}
-use mathlib.Core.Bool.{false}
 use mathlib.Core.Logic.{⊎-elim}
-use mathlib.Core.Path.{_≡_, sym, _∙_}
+use mathlib.Core.Path.{_≡_, sym, ap, _∙_}
+use borrow.Author.Tests.{lt-ltb, le-ltb}
 use native.Mathlib.Omega.{arith}
+use lib.Dec.{ltb}
 use Rattle.indices.specs.Tests.{any}
-use Rattle.indices.proofs.Tests.{any-none, any-more, any-hit}
+use Rattle.indices.proofs.Tests.{any-none}
+use Rattle.sheet.specs.Limits.{mostLength}
 use Rattle.sheet.specs.Sections.{arcCount}
-use Rattle.refusals.specs.Fields.{endOutside, endsOutside}
-use Rattle.arcs.proofs.Lengths.{remembered, none-passed, long-passed, short-passed, all-passed}
+use Rattle.refusals.specs.Fields.{endOutside, endsOutside, tooLong, lengthsOutside}
+use Rattle.arcs.proofs.Flags.{flag-set, flag-kept}
 use Rattle.arcs.proofs.field_refusal.Statement.{statement}
 use Rattle.arcs.proofs.field_refusal.Tie as tie
 
 abbrev Inv-loop : tie.InvT-loop
-Inv-loop s at arcs found₀ a₀ found a = (a ≤ arcCount s) × (any (endOutside s) a ≡ false) × (found ≡ remembered s a)
+Inv-loop s at arcs outside₀ long₀ a₀ outside long a = (a ≤ arcCount s) × (outside ≡ any (endOutside s) a) × (long ≡ any (tooLong s) a)
 
 abbrev μ-loop : tie.MeasureT-loop
-μ-loop s at arcs found₀ a₀ found a = arcCount s - a
+μ-loop s at arcs outside₀ long₀ a₀ outside long a = arcCount s - a
 
 cast-arcs : tie.Need-cast-arcs Inv-loop μ-loop
 cast-arcs c = omega arith
 
 loop-holds : tie.Need-loop-holds Inv-loop μ-loop
-loop-holds c = (omega arith, any-none _, none-passed _)
+loop-holds c = (omega arith, sym (any-none _), sym (any-none _))
 
 ends-outside-requires : tie.Need-ends-outside-requires Inv-loop μ-loop
 ends-outside-requires c κs =
     let pre = c .before .before .before .before .pre in
     (pre .0, omega arith)
-
-returns : tie.Need-returns Inv-loop μ-loop
-unfolding endsOutside
-returns c =
-    let loop = c .before .before .before .loop in
-    let entry = c .before .before .before .before in
-    let s = entry .before .before .args .s .now in
-    rw (any-hit (endOutside s) (loop .a) (arcCount s) (omega arith) (sym (c .before .ends-outside .ensures) ∙ c .if1 .taken))
 
 length-at-requires : tie.Need-length-at-requires Inv-loop μ-loop
 length-at-requires c κs =
@@ -50,23 +44,44 @@ loop-less c = omega arith
 
 loop-again : tie.Need-loop-again Inv-loop μ-loop
 loop-again c =
-    let ends-outside = c .before .before .before .ends-outside in
+    let ends-outside = c .before .before .before .ends-outside .ensures in
+    let length = ap (ltb mostLength) (sym (c .before .length-at .ensures)) in
     let entry = c .before .before .before .before in
     let loop = entry .before .loop in (
       omega arith,
-      any-more _ _ (loop .inv .1) (sym (ends-outside .ensures) ∙ c .before .before .if1 .left),
       ⊎-elim
-          (λ w. w .1 ∙ long-passed _ (loop .a) (omega (arith, w .0 .taken, c .before .length-at .ensures)))
-          (λ w. w .1 ∙ loop .inv .2 ∙ short-passed _ (loop .a) (omega (arith, w .0 .left, c .before .length-at .ensures)))
+          (λ w. flag-set _ (loop .a) _ (w .1) (sym ends-outside ∙ w .0 .taken))
+          (λ w. flag-kept _ (loop .a) _ (w .1 ∙ loop .inv .1) (sym ends-outside ∙ w .0 .left))
+          (c .before .before .if1 .came),
+      ⊎-elim
+          (λ w. flag-set _ (loop .a) _ (w .1) (length ∙ lt-ltb _ _ (w .0 .taken)))
+          (λ w. flag-kept _ (loop .a) _ (w .1 ∙ loop .inv .2) (length ∙ le-ltb _ _ (w .0 .left)))
           (c .if2 .came),
     )
 
-returns-2 : tie.Need-returns-2 Inv-loop μ-loop
+-- after the last arc
+ends-found : (c : tie.After-loop Inv-loop μ-loop) → endsOutside (c .before .before .before .before .args .s .now) ≡ c .before .loop .outside
 unfolding endsOutside
-returns-2 c =
+ends-found c =
     let start = c .before .before .before .before in
     let done : c .before .loop .a ≡ arcCount (start .args .s .now) = omega (arith, start .pre .0 .arcs-all) in
-    all-passed _ _ (rw done at (c .before .loop .inv .1)) (rw done at (c .before .loop .inv .2))
+    sym (rw done at (c .before .loop .inv .1))
+
+lengths-found : (c : tie.After-loop Inv-loop μ-loop) → lengthsOutside (c .before .before .before .before .args .s .now) ≡ c .before .loop .long
+unfolding lengthsOutside
+lengths-found c =
+    let start = c .before .before .before .before in
+    let done : c .before .loop .a ≡ arcCount (start .args .s .now) = omega (arith, start .pre .0 .arcs-all) in
+    sym (rw done at (c .before .loop .inv .2))
+
+returns : tie.Need-returns Inv-loop μ-loop
+returns c = rw (ends-found (c .before) ∙ c .if3 .taken)
+
+returns-2 : tie.Need-returns-2 Inv-loop μ-loop
+returns-2 c = rw (ends-found (c .before .before) ∙ c .before .if3 .left, lengths-found (c .before .before) ∙ c .if4 .taken)
+
+returns-3 : tie.Need-returns-3 Inv-loop μ-loop
+returns-3 c = rw (ends-found (c .before .before) ∙ c .before .if3 .left, lengths-found (c .before .before) ∙ c .if4 .left)
 
 pub field-refusal-spec : {M : Type 1} → statement M
 field-refusal-spec =
@@ -77,9 +92,10 @@ field-refusal-spec =
     cast-arcs
     loop-holds
     ends-outside-requires
-    returns
     length-at-requires
     add-a
     loop-less
     loop-again
-    returns-2)
+    returns
+    returns-2
+    returns-3)

@@ -9,9 +9,9 @@ use Rattle.indices.proofs.Tally.{tally-none}
 use Rattle.sheet.specs.Limits.{mostArcsEachWay}
 use Rattle.sheet.specs.Sections.{arcCount}
 use Rattle.refusals.specs.Fields.{endsAt}
-use Rattle.arcs.proofs.Degrees.{one-too-many, one-more, none-too-many}
-use Rattle.arcs.proofs.crowded_nodes.Statement.{statement}
-use Rattle.arcs.proofs.crowded_nodes.Tie as tie
+use Rattle.degrees.proofs.Degrees.{one-too-many, one-more, none-too-many}
+use Rattle.degrees.proofs.crowded_nodes.Statement.{statement}
+use Rattle.degrees.proofs.crowded_nodes.Tie as tie
 
 abbrev Inv-loop : tie.InvT-loop
 Inv-loop s at tails₀ heads₀ arcs a₀ tails heads a =
