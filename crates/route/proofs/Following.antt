@@ -22,8 +22,8 @@ use Rattle.shortest.proofs.Chains.{chain-home, chain-arc, chain-from, chain-rea
 use Rattle.answers.specs.Tables.{labelIn, predecessorIn}
 use Rattle.answers.specs.Routes.{ShortestTable, routeTo}
 use Rattle.answers.proofs.Routes.{shortest-agrees}
-use Rattle.table_form.specs.Fitting.{labels, predecessors, nodeBefore}
-use Rattle.table_form.proofs.Columns.{label-there, predecessor-there}
+use Rattle.lent_table.specs.Fitting.{labels, predecessors, nodeBefore}
+use Rattle.lent_table.proofs.Columns.{label-there, predecessor-there}
 use Rattle.route.specs.Ready.{Ready, Reached}
 
 -- a node that is not the number read as the source's is not the source

@@ -15,8 +15,8 @@ use Rattle.refusals.specs.Judgement.{Accepted}
 use Rattle.answers.specs.Tables.{tableLength, wrongLength, labelIn}
 use Rattle.answers.specs.Routes.{nodeOutside, tableRefusals, routeTo, foundRoute, routeAnswer, leftBy, bufferAfter, TableKnown}
 use Rattle.answers.proofs.Routes.{after-sheet, table-known}
-use Rattle.table_form.specs.Fitting.{Fitting}
-use Rattle.table_test.specs.Checks.{stateNumbered}
+use Rattle.lent_table.specs.Fitting.{Fitting}
+use Rattle.table_test.specs.Numbers.{stateNumbered}
 use Rattle.route.specs.Ready.{Ready}
 
 -- what a stage may take from those before it: the node is one, and the table has its length and passed the last test

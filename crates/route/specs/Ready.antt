@@ -9,7 +9,7 @@ use Rattle.sheet.specs.Words.{top}
 use Rattle.sheet.specs.Sections.{nodeCount}
 use Rattle.answers.specs.Tables.{labelIn}
 use Rattle.answers.specs.Routes.{notShortest}
-use Rattle.table_form.specs.Fitting.{Fitting}
+use Rattle.lent_table.specs.Fitting.{Fitting}
 
 -- 24 does not apply
 pub record Ready (b : List ℕ) (at : Sections) (table : List ℕ) : Type 0 where

@@ -37,7 +37,7 @@ fn count_arcs(s: &[u8], at: Sections, table: &[u32], v: Node) -> usize
     let mut u = v;
     let mut arcs: usize = 0;
     while u.0 as u32 != home {
-        u = table_form::previous(s, at, table, u);
+        u = lent_table::previous(s, at, table, u);
         arcs += 1;
     }
     arcs
@@ -53,8 +53,8 @@ fn write_arcs(s: &[u8], at: Sections, table: &[u32], v: Node, arcs: usize, buffe
     let mut left = arcs;
     while 0 < left {
         let place = left - 1;
-        buffer[place] = table_form::predecessor_of(table, u);
-        u = table_form::previous(s, at, table, u);
+        buffer[place] = lent_table::predecessor_of(table, u);
+        u = lent_table::previous(s, at, table, u);
         left -= 1;
     }
 }
@@ -65,7 +65,7 @@ fn find_route(s: &[u8], at: Sections, table: &[u32], v: Node, buffer: &mut [u32]
     ensures { λ r. ⌜ (said r ≡ foundRoute (now (s .entry)) (now (table .entry)) (v .0) (now (buffer .entry)))
         × (now (buffer .exit) ≡ leftBy (now (s .entry)) (now (table .entry)) (said r) (v .0) (now (buffer .entry))) ⌝ }
 {
-    if table_form::label_of(table, v) == table_form::NONE {
+    if lent_table::label_of(table, v) == lent_table::NONE {
         return Routed::NoRoute;
     }
     let arcs = count_arcs(s, at, table, v);
@@ -86,7 +86,7 @@ fn answer(s: &[u8], table: &[u32], node: u32, buffer: &mut [u32]) -> Routed
     if node_outside(s, node) {
         return Routed::Refused(Fault::Input(15));
     }
-    if table_form::wrong_length(s, table) {
+    if lent_table::wrong_length(s, table) {
         return Routed::Refused(Fault::State(21));
     }
     let at = sheet::find_sections(s);
