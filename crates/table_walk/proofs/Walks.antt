@@ -116,23 +116,26 @@ module _ {b table : List ℕ} where
         (pred (nodeCount b)) v (l, r)
 
     -- the source leads back, and has the first stamp
-    pub stamps-start : Stamped b table (set (blank 1024) (source b) 1) 0
-    stamps-start = record {
-      long = simp (length-set, length-replicate);
-      home = getD-set-same (blank 1024) (source b) 1 0 there;
-      low = λ w lw. set-elim (λ (x : ℕ). x ≤ 1) (blank 1024) (source b) w 1 0 there (λ _. omega arith) (λ _. omega (arith, zero-at w lw));
-      led = λ w lw. set-elim (λ (x : ℕ). x ≢ 0 → leads b table w ≡ true) (blank 1024) (source b) w 1 0 there (λ e _. rw e source-led)
+    pub stamps-start : {stamps : List ℕ} {h : ℕ} → stamps ≡ blank 1024 → h ≡ source b → Stamped b table (set stamps h 1) 0
+    stamps-start {stamps} {h} e eh = record {
+      long = simp length-set long;
+      home = ap (at (set stamps h 1)) (sym eh) ∙ getD-set-same stamps h 1 0 there;
+      low = λ w lw. set-elim (λ (x : ℕ). x ≤ 1) stamps h w 1 0 there (λ _. omega arith) (λ _. omega (arith, zero-at w lw));
+      led = λ w lw. set-elim (λ (x : ℕ). x ≢ 0 → leads b table w ≡ true) stamps h w 1 0 there (λ same _. rw (same, eh) source-led)
           (λ _ s. absurd (s (zero-at w lw)));
     }
       where
         source-led : leads b table (source b) ≡ true
         source-led = depth-led (0, home (omega (arith, graph-nodes b, source-in b (F .fitting .accepted))) (sym (graph-source b)))
 
-        there : source b < length (blank 1024)
-        there = simp length-replicate (omega (arith, source-in b (F .fitting .accepted), few-nodes b (F .fitting .accepted)))
+        long : length stamps ≡ 1024
+        long = ap length e ∙ length-replicate {A = ℕ} 1024 0
 
-        zero-at : (w : ℕ) → w < nodeCount b → _≡_ {A = ℕ} (at (blank 1024) w) 0
-        zero-at w lw = getD-replicate 1024 w 0 0 (omega (arith, few-nodes b (F .fitting .accepted)))
+        there : h < length stamps
+        there = omega (arith, long, eh, source-in b (F .fitting .accepted), few-nodes b (F .fitting .accepted))
+
+        zero-at : (w : ℕ) → w < nodeCount b → at stamps w ≡ 0
+        zero-at w lw = ap (λ (l : List ℕ). at l w) e ∙ getD-replicate {A = ℕ} 1024 w 0 0 (omega (arith, few-nodes b (F .fitting .accepted)))
 
     module _ {stamps : List ℕ} {v u : ℕ} (W : Walking b table stamps v u) where
       u-in : u < length stamps

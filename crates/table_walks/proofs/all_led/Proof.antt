@@ -51,7 +51,7 @@ loop-holds : tie.Need-loop-holds Inv-loop μ-loop
 loop-holds c =
     let earlier = c .before .before .before .before in
     let pre = earlier .pre in
-    (omega arith, all-none _, rw (pre .1, c .before .source-number .ensures) (stamps-start (pre .0)))
+    (omega arith, all-none _, stamps-start (pre .0) (pre .1) (c .before .source-number .ensures))
 
 node-led-requires : tie.Need-node-led-requires Inv-loop μ-loop
 node-led-requires c κs =
