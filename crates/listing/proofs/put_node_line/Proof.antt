@@ -1,7 +1,7 @@
 -- `put_node_line` meets its contract: each part is written after the parts before it. Assumes nothing.
 use native.Mathlib.Omega.{arith}
 use Rattle.listing.specs.Listing.{nodeLine}
-use Rattle.listing.proofs.Writing.{wrote-then, room-before, room-after, byte-room}
+use Rattle.text.proofs.Writing.{wrote-then, room-before, room-after, byte-room}
 use borrow.Author.Needs.{needs}
 use Rattle.listing.proofs.put_node_line.Statement.{statement}
 use Rattle.listing.proofs.put_node_line.Tie as tie

@@ -2,9 +2,9 @@
 use Prim.Native.Nat.{zero-le, _-_, _≤_}
 use mathlib.Core.Path.{refl}
 use native.Mathlib.Omega.{arith}
-use Rattle.listing.specs.Written.{Wrote}
+use Rattle.text.specs.Written.{Wrote}
 use Rattle.listing.specs.Listing.{nodeLines}
-use Rattle.listing.proofs.Writing.{length-wrote, wrote-none, wrote-then}
+use Rattle.text.proofs.Writing.{length-wrote, wrote-none, wrote-then}
 use Rattle.listing.proofs.Lines.{line-room, line-more, all-lines}
 use Rattle.listing.proofs.put_node_lines.Statement.{statement}
 use Rattle.listing.proofs.put_node_lines.Tie as tie

@@ -2,10 +2,10 @@
 use Prim.Native.Nat.{zero-le, _+_, _-_, _≤_}
 use native.Mathlib.Omega.{arith}
 use lib.ListN.{length, take}
-use Rattle.listing.proofs.Writing.{length-wrote, wrote-none, byte-more, all-bytes}
-use Rattle.listing.specs.Written.{Wrote}
-use Rattle.listing.proofs.put_text.Statement.{statement}
-use Rattle.listing.proofs.put_text.Tie as tie
+use Rattle.text.proofs.Writing.{length-wrote, wrote-none, byte-more, all-bytes}
+use Rattle.text.specs.Written.{Wrote}
+use Rattle.text.proofs.put_text.Statement.{statement}
+use Rattle.text.proofs.put_text.Tie as tie
 
 abbrev Inv-loop : tie.InvT-loop
 Inv-loop text out₀ at i₀ out i = (i ≤ length text) × Wrote out₀ at (take i text) out (at + i)

@@ -1,16 +1,16 @@
 -- `put_number` meets its contract, by the measure of the number: the digits of its tenth, then its last. Assumes nothing.
 use native.Mathlib.Omega.{arith}
 use mathlib.Core.Path.{_∙_}
-use Rattle.listing.proofs.Numbers.{digit-room, wrote-digit, tenth-room, last-room, wrote-last}
+use Rattle.text.proofs.Numbers.{digit-room, wrote-digit, tenth-room, last-room, wrote-last}
 use Prim.Native.Nat.{ℕ, _<_}
 use borrow.Fn.Kinds.{In}
 use borrow.Fn.PlainCycle.{Measures, is, falls, and}
-use Rattle.listing.proofs.put_number.Reads as put-number
-use Rattle.listing.proofs.put_number.Kinds as put-number-kinds
-use Rattle.listing.proofs.+put_number.Lts-put_number as put-number-lts
-use Rattle.listing.proofs.put_digit.Reads as put-digit-reads
-use Rattle.listing.proofs.+put_number.{statement}
-use Rattle.listing.proofs.+put_number.Tie.{close}
+use Rattle.text.proofs.put_number.Reads as put-number
+use Rattle.text.proofs.put_number.Kinds as put-number-kinds
+use Rattle.text.proofs.+put_number.Lts-put_number as put-number-lts
+use Rattle.text.proofs.put_digit.Reads as put-digit-reads
+use Rattle.text.proofs.+put_number.{statement}
+use Rattle.text.proofs.+put_number.Tie.{close}
 
 abbrev μ-put-number : Measures 1 put-number-kinds.ps ℕ
 μ-put-number κs a = a .0

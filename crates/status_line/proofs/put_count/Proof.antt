@@ -1,8 +1,8 @@
 -- `put_count` meets its contract: the name, then the number. Assumes nothing.
-use Rattle.listing.proofs.Writing.{wrote-then, room-before, room-after}
+use Rattle.text.proofs.Writing.{wrote-then, room-before, room-after}
 use borrow.Author.Needs.{needs}
-use Rattle.listing.proofs.put_count.Statement.{statement}
-use Rattle.listing.proofs.put_count.Tie as tie
+use Rattle.status_line.proofs.put_count.Statement.{statement}
+use Rattle.status_line.proofs.put_count.Tie as tie
 
 put-text-requires : tie.Need-put-text-requires
 put-text-requires c κs =

@@ -9,9 +9,9 @@ use native.Mathlib.Omega.{arith}
 use borrow.Author.Tests.{lt-ltb, le-ltb}
 use lib.ListN.{length, length-append}
 use Rattle.indices.proofs.Steps.{lt-or-le}
-use Rattle.listing.specs.Text.{digit, lastDigits, decimal}
-use Rattle.listing.specs.Written.{Room, Wrote}
-use Rattle.listing.proofs.Writing.{wrote-then, room-before, room-after, byte-room}
+use Rattle.text.specs.Text.{digit, lastDigits, decimal}
+use Rattle.text.specs.Written.{Room, Wrote}
+use Rattle.text.proofs.Writing.{wrote-then, room-before, room-after, byte-room}
 
 one-digit : (most n : ℕ) → n < 10 → lastDigits (suc most) n ≡ digit n ∷ []
 unfolding lastDigits

@@ -1,9 +1,9 @@
 -- `put_payload` meets its contract: the space, then the field. Assumes nothing.
-use Rattle.listing.specs.Listing.{spaced}
-use Rattle.listing.proofs.Writing.{wrote-then, room-before, room-after, byte-room}
+use Rattle.table_fields.specs.Fields.{spaced}
+use Rattle.text.proofs.Writing.{wrote-then, room-before, room-after, byte-room}
 use borrow.Author.Needs.{needs}
-use Rattle.listing.proofs.put_payload.Statement.{statement}
-use Rattle.listing.proofs.put_payload.Tie as tie
+use Rattle.table_fields.proofs.put_payload.Statement.{statement}
+use Rattle.table_fields.proofs.put_payload.Tie as tie
 
 put-byte-requires : tie.Need-put-byte-requires
 unfolding spaced

@@ -1,9 +1,9 @@
 -- `put_status` meets its contract: the form of a status that the test chose. Assumes nothing.
 use mathlib.Core.Path.{sym, _∙_}
-use Rattle.listing.proofs.Lines.{status-ended, status-paused}
+use Rattle.status_line.proofs.StatusLine.{status-ended, status-paused}
 use borrow.Author.Needs.{needs}
-use Rattle.listing.proofs.put_status.Statement.{statement}
-use Rattle.listing.proofs.put_status.Tie as tie
+use Rattle.status_line.proofs.put_status.Statement.{statement}
+use Rattle.status_line.proofs.put_status.Tie as tie
 
 payload-at-requires : tie.Need-payload-at-requires
 payload-at-requires c κs = search needs

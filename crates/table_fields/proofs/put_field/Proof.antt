@@ -1,9 +1,9 @@
 -- `put_field` meets its contract: the form of a field that the test chose. Assumes nothing.
-use Rattle.listing.proofs.Writing.{byte-room}
-use Rattle.listing.proofs.Lines.{field-none, field-number}
+use Rattle.text.proofs.Writing.{byte-room}
+use Rattle.table_fields.proofs.Fields.{field-none, field-number}
 use borrow.Author.Needs.{needs}
-use Rattle.listing.proofs.put_field.Statement.{statement}
-use Rattle.listing.proofs.put_field.Tie as tie
+use Rattle.table_fields.proofs.put_field.Statement.{statement}
+use Rattle.table_fields.proofs.put_field.Tie as tie
 
 put-byte-requires : tie.Need-put-byte-requires
 put-byte-requires c κs =

@@ -1,10 +1,10 @@
 -- `put_status_line` meets its contract: each part is written after the parts before it. Assumes nothing.
-use Rattle.listing.specs.Listing.{counted, statusLine}
-use Rattle.listing.proofs.Writing.{wrote-then, room-before, room-after, byte-room}
+use Rattle.status_line.specs.StatusLine.{counted, statusLine}
+use Rattle.text.proofs.Writing.{wrote-then, room-before, room-after, byte-room}
 use native.Mathlib.Omega.{arith}
 use borrow.Author.Needs.{needs}
-use Rattle.listing.proofs.put_status_line.Statement.{statement}
-use Rattle.listing.proofs.put_status_line.Tie as tie
+use Rattle.status_line.proofs.put_status_line.Statement.{statement}
+use Rattle.status_line.proofs.put_status_line.Tie as tie
 
 put-status-requires : tie.Need-put-status-requires
 unfolding statusLine counted
