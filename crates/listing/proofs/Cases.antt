@@ -10,7 +10,8 @@ use Rattle.procedure.proofs.Cases.{Shown, show, run, runToEnd, cases as ran}
 use Rattle.text.specs.Text.{ascii, lastDigits, decimal}
 use Rattle.table_fields.specs.Fields.{field, spaced}
 use Rattle.status_line.specs.StatusLine.{status, counted, statusLine}
-use Rattle.listing.specs.Listing.{nodeLine, nodeLines, listingOf, refusedLine}
+use Rattle.node_lines.specs.NodeLines.{nodeLine, nodeLines}
+use Rattle.listing.specs.Listing.{listingOf, refusedLine}
 
 -- the listing of a state of a hall of so many nodes
 abbrev listed : Shown → ℕ → List ℕ

@@ -1,65 +1,30 @@
--- Laws of the lines of a listing: one line more, how long each may be, and what has room. Assumes nothing.
-use Prim.Native.Nat.{ℕ, zero, suc, _+_, _*_, _≤_, _<_}
-use mathlib.Core.Path.{_≡_}
-use mathlib.Core.List.{List, _++_}
-use native.Mathlib.Numerals.{add-one}
+-- What a buffer has room for: the listing, and the line of a refusal. Assumes nothing.
+use Prim.Native.Nat.{ℕ, _+_, _*_, _≤_, _<_}
+use mathlib.Core.List.{List}
 use native.Mathlib.Omega.{arith}
 use lib.ListN.{length, length-append}
-use Rattle.answers.specs.Tables.{labelIn, predecessorIn}
 use Rattle.status_line.specs.StatusLine.{statusLine}
-use Rattle.listing.specs.Listing.{nodeLine, nodeLines, listingOf, mostListing, refusedLine}
+use Rattle.node_lines.specs.NodeLines.{nodeLines}
+use Rattle.listing.specs.Listing.{listingOf, mostListing, refusedLine}
 use Rattle.text.specs.Written.{Room, Wrote}
 use Rattle.text.proofs.Writing.{length-wrote}
 use Rattle.text.proofs.Numbers.{decimal-within}
-use Rattle.table_fields.proofs.Fields.{spaced-within}
 use Rattle.status_line.proofs.StatusLine.{status-line-within}
+use Rattle.node_lines.proofs.NodeLines.{node-lines-within}
 
--- a line more
-pub line-more : (table : List ℕ) (v : ℕ) → nodeLines table (v + 1) ≡ nodeLines table v ++ nodeLine table v
-unfolding nodeLines
-line-more table v = rw add-one
+-- what a buffer for the longest listing has room for
+module _ (table : List ℕ) {buffer : List ℕ} (long : mostListing ≤ length buffer) where
+  pub status-line-room : Room buffer 0 (statusLine table)
+  status-line-room = record { fits = omega (arith, status-line-within table) }
 
-module _ (table : List ℕ) where
-  node-line-within : (v : ℕ) → v < 1024 → length (nodeLine table v) ≤ 25
-  unfolding nodeLine
-  node-line-within v small =
-      simp length-append
-      (omega (
-        arith,
-        decimal-within 3 v (omega arith),
-        spaced-within (labelIn table v) (omega arith),
-        spaced-within (predecessorIn table v) (omega arith),
-      ))
+  pub node-lines-fit : {after : List ℕ} {at nodes : ℕ} → Wrote buffer 0 (statusLine table) after at → nodes ≤ 1024
+      → at + 25 * nodes ≤ length after
+  node-lines-fit w few = omega (arith, length-wrote w, status-line-within table)
 
-  node-lines-within : (v : ℕ) → v ≤ 1024 → length (nodeLines table v) ≤ 25 * v
-  unfolding nodeLines
-  node-lines-within zero small = omega arith
-  node-lines-within (suc v) small =
-      simp length-append (omega (arith, node-line-within v (omega arith), node-lines-within v (omega arith)))
-
-  -- what a buffer for the longest listing has room for
-  module _ {buffer : List ℕ} (long : mostListing ≤ length buffer) where
-    pub status-line-room : Room buffer 0 (statusLine table)
-    status-line-room = record { fits = omega (arith, status-line-within table) }
-
-    pub node-lines-fit : {after : List ℕ} {at nodes : ℕ} → Wrote buffer 0 (statusLine table) after at → nodes ≤ 1024
-        → at + 25 * nodes ≤ length after
-    node-lines-fit w few = omega (arith, length-wrote w, status-line-within table)
-
-    pub listing-room : (nodes : ℕ) → nodes ≤ 1024 → Room buffer 0 (listingOf table nodes)
-    unfolding listingOf
-    listing-room nodes few =
-        record { fits = omega (arith, length-append (statusLine table) (nodeLines table nodes), status-line-within table, node-lines-within nodes few) }
-
-module _ (table : List ℕ) {before after : List ℕ} {at next : ℕ} {v nodes : ℕ} (w : Wrote before at (nodeLines table v) after next) where
-  -- a line more has room
-  pub line-room : v < nodes → nodes ≤ 1024 → at + 25 * nodes ≤ length before → Room after next (nodeLine table v)
-  line-room inside small fits =
-      record { fits = omega (arith, length-wrote w, node-lines-within table v (omega arith), node-line-within table v (omega arith)) }
-
-  -- after the last node all lines are written
-  pub all-lines : v ≤ nodes → nodes ≤ v → Wrote before at (nodeLines table nodes) after next
-  all-lines low high = let e : v ≡ nodes = omega arith in rw e at w
+  pub listing-room : (nodes : ℕ) → nodes ≤ 1024 → Room buffer 0 (listingOf table nodes)
+  unfolding listingOf
+  listing-room nodes few =
+      record { fits = omega (arith, length-append (statusLine table) (nodeLines table nodes), status-line-within table, node-lines-within table nodes few) }
 
 refused-within : (n : ℕ) → n < 256 → length (refusedLine n) ≤ 12
 unfolding refusedLine

@@ -1,24 +1,13 @@
 -- What `marks` prints, as bytes: the listing of an answer table, and a refusal. Definitions; assumes nothing.
-use Prim.Native.Nat.{ℕ, zero, suc}
-use mathlib.Core.List.{List, [], _++_}
-use Rattle.answers.specs.Tables.{labelIn, predecessorIn}
+use Prim.Native.Nat.{ℕ}
+use mathlib.Core.List.{List, _++_}
 use Rattle.text.specs.Text.{ascii, decimal}
-use Rattle.table_fields.specs.Fields.{spaced}
 use Rattle.status_line.specs.StatusLine.{statusLine}
+use Rattle.node_lines.specs.NodeLines.{nodeLines}
 
-module _ (table : List ℕ) where
-  -- "Then per node: node, distance, feeding arc"
-  unfoldable pub nodeLine : ℕ → List ℕ
-  nodeLine v = decimal v ++ spaced (labelIn table v) ++ spaced (predecessorIn table v) ++ ascii "\n"
-
-  -- the lines of the nodes below n
-  unfoldable pub nodeLines : ℕ → List ℕ
-  nodeLines zero = []
-  nodeLines (suc v) = nodeLines v ++ nodeLine v
-
-  -- the listing of a table of n nodes
-  unfoldable pub listingOf : ℕ → List ℕ
-  listingOf n = statusLine table ++ nodeLines n
+-- the listing of a table of n nodes
+unfoldable pub listingOf : List ℕ → ℕ → List ℕ
+listingOf table n = statusLine table ++ nodeLines table n
 
 -- No listing has more bytes: 107 in its first line and 25 in that of each of 1,024 nodes.
 abbrev pub mostListing : ℕ

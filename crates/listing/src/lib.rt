@@ -1,39 +1,13 @@
 // The text that `marks` prints, written into a lent buffer: the listing of an answer table, or a refusal.
 ghost use mathlib.Core.Path.{_≡_};
-ghost use Prim.Native.Nat.{_+_, _*_, _≤_};
+ghost use Prim.Native.Nat.{_≤_};
 ghost use lib.ListN.{length};
 ghost use Rattle.answers.specs.Tables.{tableLength};
-ghost use Rattle.listing.specs.Listing.{nodeLine, nodeLines, listingOf, mostListing, refusedLine};
-ghost use Rattle.text.specs.Written.{Room, Wrote};
+ghost use Rattle.listing.specs.Listing.{listingOf, mostListing, refusedLine};
 ghost use Rattle.listing.specs.Written.{Filled};
 
 // No listing has more bytes, as specs/Listing.antt says.
 pub const MOST_LISTING: usize = 25707;
-
-fn put_node_line(table: &[u32], v: usize, out: &mut [u8], at: usize) -> usize
-    requires { ⌜ (tableLength v + 2 ≤ length (now table)) × Room (now out) at (nodeLine (now table) v) ⌝ }
-    ensures { λ r. ⌜ Wrote (now (out .entry)) at (nodeLine (now (table .entry)) v) (now (out .exit)) r ⌝ }
-{
-    let word = 9 + 2 * v;
-    let distance = text::put_number(v as u64, out, at);
-    let arc = table_fields::put_payload(table, word, out, distance);
-    let line_end = table_fields::put_payload(table, word + 1, out, arc);
-    text::put_byte(b'\n', out, line_end)
-}
-
-// The lines of the first nodes.
-fn put_node_lines(table: &[u32], nodes: usize, out: &mut [u8], at: usize) -> usize
-    requires { ⌜ (tableLength nodes ≤ length (now table)) × (nodes ≤ 1024) × (at + 25 * nodes ≤ length (now out)) ⌝ }
-    ensures { λ r. ⌜ Wrote (now (out .entry)) at (nodeLines (now (table .entry)) nodes) (now (out .exit)) r ⌝ }
-{
-    let mut next = at;
-    let mut v = 0;
-    while v < nodes {
-        next = put_node_line(table, v, out, next);
-        v += 1;
-    }
-    next
-}
 
 // Writes the listing of a table of so many nodes to the front of the buffer, and returns how many bytes it has.
 pub fn write_listing(table: &[u32], nodes: usize, out: &mut [u8]) -> usize
@@ -41,7 +15,7 @@ pub fn write_listing(table: &[u32], nodes: usize, out: &mut [u8]) -> usize
     ensures { λ r. ⌜ Filled (now (out .entry)) (listingOf (now (table .entry)) nodes) (now (out .exit)) r ⌝ }
 {
     let at = status_line::put_status_line(table, out, 0);
-    put_node_lines(table, nodes, out, at)
+    node_lines::put_node_lines(table, nodes, out, at)
 }
 
 // Writes the line of a refusal to the front of the buffer, and returns how many bytes it has.

@@ -3,11 +3,11 @@ use Prim.Native.Nat.{zero-le, _-_, _≤_}
 use mathlib.Core.Path.{refl}
 use native.Mathlib.Omega.{arith}
 use Rattle.text.specs.Written.{Wrote}
-use Rattle.listing.specs.Listing.{nodeLines}
+use Rattle.node_lines.specs.NodeLines.{nodeLines}
 use Rattle.text.proofs.Writing.{length-wrote, wrote-none, wrote-then}
-use Rattle.listing.proofs.Lines.{line-room, line-more, all-lines}
-use Rattle.listing.proofs.put_node_lines.Statement.{statement}
-use Rattle.listing.proofs.put_node_lines.Tie as tie
+use Rattle.node_lines.proofs.NodeLines.{line-room, line-more, all-lines}
+use Rattle.node_lines.proofs.put_node_lines.Statement.{statement}
+use Rattle.node_lines.proofs.put_node_lines.Tie as tie
 
 abbrev Inv-loop : tie.InvT-loop
 Inv-loop table nodes out₀ at next₀ v₀ out next v = (v ≤ nodes) × Wrote out₀ at (nodeLines table v) out next

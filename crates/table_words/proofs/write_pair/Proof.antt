@@ -1,8 +1,8 @@
 -- `write_pair` meets its contract. Assumes nothing.
 use borrow.Author.Needs.{needs}
 use native.Mathlib.Numerals.{add-one}
-use Rattle.table.proofs.write_pair.Statement.{statement}
-use Rattle.table.proofs.write_pair.Tie as tie
+use Rattle.table_words.proofs.write_pair.Statement.{statement}
+use Rattle.table_words.proofs.write_pair.Tie as tie
 
 mul-table : tie.Need-mul-table
 mul-table c = search needs

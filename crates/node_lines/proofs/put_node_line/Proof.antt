@@ -1,10 +1,10 @@
 -- `put_node_line` meets its contract: each part is written after the parts before it. Assumes nothing.
 use native.Mathlib.Omega.{arith}
-use Rattle.listing.specs.Listing.{nodeLine}
+use Rattle.node_lines.specs.NodeLines.{nodeLine}
 use Rattle.text.proofs.Writing.{wrote-then, room-before, room-after, byte-room}
 use borrow.Author.Needs.{needs}
-use Rattle.listing.proofs.put_node_line.Statement.{statement}
-use Rattle.listing.proofs.put_node_line.Tie as tie
+use Rattle.node_lines.proofs.put_node_line.Statement.{statement}
+use Rattle.node_lines.proofs.put_node_line.Tie as tie
 
 mul-word : tie.Need-mul-word
 mul-word c = search needs

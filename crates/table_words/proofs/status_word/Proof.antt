@@ -1,7 +1,7 @@
 -- `status_word` meets its contract. Assumes nothing.
 use borrow.Author.Needs.{needs}
-use Rattle.table.proofs.status_word.Statement.{statement}
-use Rattle.table.proofs.status_word.Tie as tie
+use Rattle.table_words.proofs.status_word.Statement.{statement}
+use Rattle.table_words.proofs.status_word.Tie as tie
 
 word-requires : tie.Need-word-requires
 word-requires c κs = search needs

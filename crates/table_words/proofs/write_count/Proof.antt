@@ -1,7 +1,7 @@
 -- `write_count` meets its contract. Assumes nothing.
 use borrow.Author.Needs.{needs}
-use Rattle.table.proofs.write_count.Statement.{statement}
-use Rattle.table.proofs.write_count.Tie as tie
+use Rattle.table_words.proofs.write_count.Statement.{statement}
+use Rattle.table_words.proofs.write_count.Tie as tie
 
 cast-high : tie.Need-cast-high
 cast-high c = search needs

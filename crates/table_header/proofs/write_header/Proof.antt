@@ -2,8 +2,8 @@
 use borrow.Author.Needs.{needs}
 use native.Mathlib.Omega.{arith}
 use lib.ListN.{length-set}
-use Rattle.table.proofs.write_header.Statement.{statement}
-use Rattle.table.proofs.write_header.Tie as tie
+use Rattle.table_header.proofs.write_header.Statement.{statement}
+use Rattle.table_header.proofs.write_header.Tie as tie
 
 status-word-requires : tie.Need-status-word-requires
 status-word-requires c κs = search needs
