@@ -8,9 +8,9 @@ use native.Mathlib.Omega.{arith}
 use lib.ListN.{length}
 use Rattle.indices.specs.Tests.{any}
 use Rattle.indices.proofs.Tests.{any-none, any-more, any-hit, any-end}
-use Rattle.case_lines.specs.Filling.{changedAt, changed}
-use Rattle.case_lines.proofs.some_changed.Statement.{statement}
-use Rattle.case_lines.proofs.some_changed.Tie as tie
+use Rattle.filling.specs.Filling.{changedAt, changed}
+use Rattle.filling.proofs.some_changed.Statement.{statement}
+use Rattle.filling.proofs.some_changed.Tie as tie
 
 abbrev Inv-loop : tie.InvT-loop
 Inv-loop words i₀ i = (i ≤ length words) × (any (changedAt words) i ≡ false)
