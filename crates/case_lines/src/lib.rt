@@ -1,12 +1,12 @@
 // The lines of a test program. A case is a line of standard input: fields with a space between two of them, each bytes in hexadecimal
 // digits or a number in decimal digits, '-' where it is empty. The line printed for it is put together in a buffer.
-use libc::STDIN_FILENO;
-use sheet::Fault;
 ghost use mathlib.Core.Path.{_≡_};
 ghost use mathlib.Core.Bool.{true, false};
 ghost use Prim.Native.Nat.{_≤_};
 ghost use Rattle.io.specs.Counts.{Counts};
-ghost use Rattle.case_lines.specs.Filling.{changed};
+pub use filling::FILLING;
+use libc::STDIN_FILENO;
+use sheet::Fault;
 
 // How many bytes of input are read at a time.
 pub const BLOCK: usize = 4096;
@@ -250,23 +250,14 @@ pub fn read_number(block: &mut [u8; BLOCK], place: Place, most: u32) -> Number
             }
             return given_number(value, after_field(taken));
         };
-        let longer = longer_number(value, digit);
-        if longer > most as u64 {
+        if !case_numbers::has_longer(value, digit, most) {
             return given_number(0, unreadable(taken.place));
         }
-        value = longer as u32;
+        value = value * 10 + digit as u32;
         place = taken.place;
         digits += 1;
     }
     given_number(value, after_field(take_sign(block, place)))
-}
-
-// A number with one digit more, or one above every number of 32 bits where the digit is not decimal.
-fn longer_number(value: u32, digit: u8) -> u64 {
-    if digit > 9 {
-        return u64::MAX;
-    }
-    value as u64 * 10 + digit as u64
 }
 
 // The place after the line. A line with fields left is unreadable. A proved loop has to end, so it counts down from a number that no run uses up.
@@ -363,28 +354,11 @@ pub fn put_fault(line: &mut [u8], at: usize, fault: Fault) -> usize
     }
 }
 
-// The word that words lent to a call hold before it, of a kind that no answer has.
-pub const FILLING: u32 = 3318072773;
-
-// Whether a call has changed words that held it.
-fn some_changed(words: &[u32]) -> bool
-    ensures { λ r. ⌜ r ≡ changed (now (words .entry)) ⌝ }
-{
-    let mut i = 0;
-    while i < words.len() {
-        if words[i] != FILLING {
-            return true;
-        }
-        i += 1;
-    }
-    false
-}
-
 // Puts whether words that held the filling have changed, and the line's end.
 pub fn put_changed(line: &mut [u8], at: usize, words: &[u32]) -> usize
     ensures { λ r. ⌜ Counts r (now (line .exit)) ⌝ }
 {
-    if some_changed(words) {
+    if filling::some_changed(words) {
         return put(line, at, b", changed\n");
     }
     put(line, at, b", unchanged\n")

@@ -7,8 +7,11 @@ use Rattle.sheet.specs.Words.{top}
 use Rattle.sheet.specs.Samples.{hallA, oneNode}
 use Rattle.procedure.specs.Table.{nodeWords, tableOf}
 use Rattle.procedure.proofs.Cases.{Shown, show, run, runToEnd, cases as ran}
-use Rattle.listing.specs.Text.{ascii, lastDigits, decimal}
-use Rattle.listing.specs.Listing.{field, spaced, status, counted, statusLine, nodeLine, nodeLines, listingOf, refusedLine}
+use Rattle.text.specs.Text.{ascii, lastDigits, decimal}
+use Rattle.table_fields.specs.Fields.{field, spaced}
+use Rattle.status_line.specs.StatusLine.{status, counted, statusLine}
+use Rattle.node_lines.specs.NodeLines.{nodeLine, nodeLines}
+use Rattle.listing.specs.Listing.{listingOf, refusedLine}
 
 -- the listing of a state of a hall of so many nodes
 abbrev listed : Shown → ℕ → List ℕ

@@ -1,4 +1,3 @@
-pub mod Writing
-pub mod Numbers
-pub mod Lines
 pub mod Cases
+pub mod Lines
+pub mod Writing

@@ -16,7 +16,7 @@ use Rattle.procedure.specs.Routes.{followed}
 use Rattle.procedure.proofs.OfSheet.{graph-nodes}
 use Rattle.answers.specs.Tables.{labelIn}
 use Rattle.answers.specs.Routes.{routeRefusals, routeTo, foundRoute, routeAnswer}
-use Rattle.pigrozk.specs.Codes.{arcsOf}
+use Rattle.codes.specs.Codes.{arcsOf}
 
 -- followed back for n steps, at most n arcs are met
 followed-within : (g : Graph) (predecessors : List ℕ) (n v : ℕ) → length (followed g predecessors n v) ≤ n

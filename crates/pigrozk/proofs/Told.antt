@@ -15,7 +15,7 @@ use Rattle.refusals.specs.Judgement.{formRefusals, countRefusals, arcRefusals, 
 use Rattle.answers.specs.Tables.{labelIn}
 use Rattle.answers.specs.Runs.{endedAfter, runRefusals, runAnswer}
 use Rattle.answers.specs.Routes.{tableRefusals, routeRefusals, routeTo, foundRoute, routeAnswer}
-use Rattle.pigrozk.specs.Codes.{codeOf, answerOf}
+use Rattle.codes.specs.Codes.{codeOf, answerOf}
 
 -- equal answers have one code
 pub same-code : {code : ℕ} {a same : Answer} → code ≡ codeOf a → a ≡ same → code ≡ codeOf same

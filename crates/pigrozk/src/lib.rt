@@ -1,80 +1,21 @@
 // The library for C and Rust: the four calls, each answered by one number.
 ghost use mathlib.Core.Path.{_≡_};
-ghost use Prim.Native.Nat.{_<_};
 ghost use lib.ListN.{length};
 ghost use Rattle.sheet.specs.Sections.{nodeCount};
-ghost use Rattle.sheet.specs.Answer.{numberOf, refusalOf, ended};
+ghost use Rattle.sheet.specs.Answer.{ended};
 ghost use Rattle.refusals.specs.Judgement.{judgement, Accepted};
 ghost use Rattle.procedure.specs.Procedure.{enoughRounds};
 ghost use Rattle.answers.specs.Tables.{tableLength};
 ghost use Rattle.answers.specs.Runs.{runAnswer, tableAfter, Delivered};
 ghost use Rattle.answers.specs.Routes.{routeAnswer, bufferAfter, TableKnown};
-ghost use Rattle.judge.specs.Said.{said as saidByJudge};
-ghost use Rattle.run.specs.Said.{said as saidByRun};
-ghost use Rattle.route.specs.Said.{said as saidByRoute};
-ghost use Rattle.pigrozk.specs.Codes.{codeOf, arcsOf};
-use judge::Judged;
-use route::Routed;
-use run::Ran;
-use sheet::Fault;
-
-const ACCEPTED: u32 = 256;
-
-const PAUSED: u32 = 257;
-
-const ENDED: u32 = 258;
-
-const NO_ROUTE: u32 = 259;
-
-// The code of the empty route; that of a longer one is higher by the count of its arcs.
-const ROUTE: u32 = 65536;
-
-// The number of a refusal.
-fn fault_code(fault: Fault) -> u32
-    ensures { λ r. ⌜ r ≡ numberOf (refusalOf fault) ⌝ }
-{
-    match fault {
-        Fault::Input(n) => n as u32,
-        Fault::State(n) => n as u32,
-    }
-}
-
-fn judged_code(judged: Judged) -> u32
-    ensures { λ r. ⌜ r ≡ codeOf (saidByJudge judged) ⌝ }
-{
-    match judged {
-        Judged::Accepted => ACCEPTED,
-        Judged::Refused(fault) => fault_code(fault),
-    }
-}
-
-fn ran_code(ran: Ran) -> u32
-    ensures { λ r. ⌜ r ≡ codeOf (saidByRun ran) ⌝ }
-{
-    match ran {
-        Ran::Ended => ENDED,
-        Ran::Paused => PAUSED,
-        Ran::Refused(fault) => fault_code(fault),
-    }
-}
-
-fn routed_code(routed: Routed) -> u32
-    requires { ⌜ arcsOf (saidByRoute routed) < 268435456 ⌝ }
-    ensures { λ r. ⌜ r ≡ codeOf (saidByRoute routed) ⌝ }
-{
-    match routed {
-        Routed::Route(arcs) => ROUTE + arcs,
-        Routed::NoRoute => NO_ROUTE,
-        Routed::Refused(fault) => fault_code(fault),
-    }
-}
+ghost use Rattle.codes.specs.Codes.{codeOf};
 
 // Judges a sheet.
 #[no_mangle]
 pub extern "C" fn pigrozk_judge(sheet: &[u8]) -> u32
     ensures { λ r. ⌜ r ≡ codeOf (judgement (now (sheet .entry))) ⌝ }
 {
-    judged_code(judge::judge(sheet))
+    codes::judged_code(judge::judge(sheet))
 }
 
 // Runs a sheet to its end: the answer's code, and every word of the table afterwards. Where the sheet is accepted and the table has the right length,
@@ -86,7 +27,7 @@ pub extern "C" fn pigrozk_run(sheet: &[u8], table: &mut [u32]) -> u32
         × (Accepted (now (sheet .entry)) → length (now (table .entry)) ≡ tableLength (nodeCount (now (sheet .entry)))
         → Delivered (now (sheet .entry)) enoughRounds (now (table .exit)) × (r ≡ codeOf ended)) ⌝ }
 {
-    ran_code(run::run(sheet, table))
+    codes::ran_code(run::run(sheet, table))
 }
 
 // Runs a sheet for at most so many rounds: the answer's code, and every word of the table afterwards. Where the sheet is accepted and the table has
@@ -98,7 +39,7 @@ pub extern "C" fn pigrozk_run_limited(sheet: &[u8], rounds: u32, table: &mut [u3
         × (Accepted (now (sheet .entry)) → length (now (table .entry)) ≡ tableLength (nodeCount (now (sheet .entry)))
         → Delivered (now (sheet .entry)) rounds (now (table .exit))) ⌝ }
 {
-    ran_code(run::run_limited(sheet, rounds, table))
+    codes::ran_code(run::run_limited(sheet, rounds, table))
 }
 
 // Reads the route to a node: the answer's code, every word of the buffer afterwards, and what the answer says of the table.
@@ -108,5 +49,5 @@ pub extern "C" fn pigrozk_route(sheet: &[u8], table: &[u32], node: u32, buffer: 
         × (now (buffer .exit) ≡ bufferAfter (now (sheet .entry)) (now (table .entry)) node (now (buffer .entry)))
         × TableKnown (now (sheet .entry)) (now (table .entry)) (routeAnswer (now (sheet .entry)) (now (table .entry)) node (now (buffer .entry))) ⌝ }
 {
-    routed_code(route::route(sheet, table, node, buffer))
+    codes::routed_code(route::route(sheet, table, node, buffer))
 }

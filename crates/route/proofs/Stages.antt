@@ -1,23 +1,22 @@
 -- The stages of the answer for an accepted sheet: a refusal that applies stops it, and where none does the search for the route decides. Assumes nothing.
-use Prim.Native.Nat.{ℕ, zero, suc, _≤_, _<_}
+use Prim.Native.Nat.{ℕ, zero, suc, _<_}
 use mathlib.Core.Bool.{true, false}
 use mathlib.Core.Path.{_≡_, refl, sym, ap, _∙_}
 use mathlib.Core.Logic.{_≢_}
-use mathlib.Core.List.{List, _++_}
-use borrow.Author.Tests.{eq-eqb, ne-eqb, lt-ltb, le-ltb, leb-false, eqb-true, not-false}
-use lib.ListN.{length, drop}
+use mathlib.Core.List.{List}
+use borrow.Author.Tests.{leb-false, eqb-true, not-false}
+use lib.ListN.{length}
 use Rattle.sheet.specs.declared.Sections.{Sections}
-use Rattle.sheet.specs.Words.{top}
 use Rattle.sheet.specs.Sections.{Located, nodeCount}
-use Rattle.sheet.specs.Answer.{Refusal, input, state, Answer, accepted, route, noRoute, refused, lowest}
+use Rattle.sheet.specs.Answer.{input, state, Answer, accepted, refused, lowest}
 use Rattle.sheet.proofs.Lowest.{lowest-clear, lowest-stop, clear-at}
 use Rattle.refusals.specs.Judgement.{Accepted}
-use Rattle.answers.specs.Tables.{tableLength, wrongLength, labelIn}
-use Rattle.answers.specs.Routes.{nodeOutside, tableRefusals, routeTo, foundRoute, routeAnswer, leftBy, bufferAfter, TableKnown}
+use Rattle.answers.specs.Tables.{tableLength, wrongLength}
+use Rattle.answers.specs.Routes.{nodeOutside, tableRefusals, foundRoute, routeAnswer, leftBy, bufferAfter, TableKnown}
 use Rattle.answers.proofs.Routes.{after-sheet, table-known}
-use Rattle.table_form.specs.Fitting.{Fitting}
-use Rattle.table_test.specs.Checks.{stateNumbered}
-use Rattle.route.specs.Ready.{Ready}
+use Rattle.lent_table.specs.Fitting.{Fitting}
+use Rattle.table_test.specs.Numbers.{stateNumbered}
+use Rattle.route_arcs.specs.Ready.{Ready}
 
 -- what a stage may take from those before it: the node is one, and the table has its length and passed the last test
 pub node-below : (b : List ℕ) (node : ℕ) → nodeOutside b node ≡ false → node < nodeCount b
@@ -59,34 +58,6 @@ module _ (b table : List ℕ) (node : ℕ) (buffer : List ℕ) where
 
         pub route-decides : lowest (tableRefusals b table) accepted ≡ accepted → foundRoute b table node buffer ≡ routeAnswer b table node buffer
         route-decides e = sym (then-table ∙ lowest-clear (tableRefusals b table) _ e)
-
-  -- THE SEARCH FOR THE ROUTE, by the node's label x: no route, a buffer that is too short for n arcs, a route of n arcs
-  module _ {x : ℕ} (ex : x ≡ labelIn table node) where
-    pub found-none : x ≡ top → noRoute ≡ foundRoute b table node buffer
-    unfolding foundRoute
-    found-none e = rw (eq-eqb (labelIn table node) top (sym ex ∙ e))
-
-    module _ (reached : x ≢ top) {n : ℕ} (all : n ≡ length (routeTo b table node)) where
-      pub found-short : length buffer < n → refused (state 25) ≡ foundRoute b table node buffer
-      unfolding foundRoute
-      found-short l = rw (← ex, ne-eqb x top reached, ← all, lt-ltb (length buffer) n l)
-
-      pub found-route : n ≤ length buffer → route n ≡ foundRoute b table node buffer
-      unfolding foundRoute
-      found-route l = rw (← ex, ne-eqb x top reached, ← all, le-ltb (length buffer) n l)
-
-  -- what is left in the buffer
-  pub left-none : buffer ≡ leftBy b table noRoute node buffer
-  unfolding leftBy
-  left-none = refl
-
-  pub left-refused : (r : Refusal) → buffer ≡ leftBy b table (refused r) node buffer
-  unfolding leftBy
-  left-refused r = refl
-
-  pub left-route : (n : ℕ) → n ≡ length (routeTo b table node) → routeTo b table node ++ drop n buffer ≡ leftBy b table (route n) node buffer
-  unfolding leftBy
-  left-route n e = ap (λ (k : ℕ). routeTo b table node ++ drop k buffer) e
 
   -- the right answer leaves the right buffer, and tells of the table
   module _ (a : Answer) (same : a ≡ routeAnswer b table node buffer) where

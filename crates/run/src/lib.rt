@@ -1,63 +1,17 @@
 // The two run calls: a sheet run to its end, or for at most so many rounds.
 ghost use mathlib.Core.Path.{_≡_};
 ghost use lib.ListN.{length};
-ghost use Rattle.indices.specs.Steps.{if_then_else_};
 ghost use Rattle.sheet.specs.Sections.{nodeCount};
-ghost use Rattle.sheet.specs.Answer.{ended, paused};
+ghost use Rattle.sheet.specs.Answer.{ended};
 ghost use Rattle.refusals.specs.Judgement.{Accepted};
 ghost use Rattle.procedure.specs.Procedure.{enoughRounds};
 ghost use Rattle.answers.specs.Tables.{tableLength};
 ghost use Rattle.answers.specs.Runs.{runAnswer, tableAfter, Delivered};
-ghost use Rattle.run.specs.Said.{said};
-use judge::Judged;
-use sheet::Fault;
-
-pub enum Ran {
-    Ended,
-    Paused,
-    Refused(Fault),
-}
+ghost use Rattle.run_answer.specs.Said.{said};
+pub use run_answer::Ran;
 
 // More rounds than any run has: 2^56.
 const ENOUGH_ROUNDS: u64 = 72057594037927936;
-
-// How many words of a table stand before those of the nodes.
-const HEADER: usize = 9;
-
-fn status(over: bool) -> Ran
-    ensures { λ r. ⌜ said r ≡ (if over then ended else paused) ⌝ }
-{
-    if over {
-        return Ran::Ended;
-    }
-    Ran::Paused
-}
-
-// Runs an accepted sheet for at most `limit` rounds.
-fn run_accepted(sheet: &[u8], limit: u64, table: &mut [u32]) -> Ran
-    requires { ⌜ Accepted (now sheet) ⌝ }
-    ensures { λ r. ⌜ (said r ≡ runAnswer (now (sheet .entry)) limit (now (table .entry)))
-        × (now (table .exit) ≡ tableAfter (now (sheet .entry)) limit (now (table .entry))) ⌝ }
-{
-    let at = sheet::find_sections(sheet);
-    let nodes = sheet::node_count(sheet) as usize;
-    if table.len() != HEADER + 2 * nodes {
-        return Ran::Refused(Fault::State(21));
-    }
-    status(execution::run_accepted(sheet, at, limit, table))
-}
-
-// Runs a sheet for at most `limit` rounds.
-fn run_rounds(sheet: &[u8], limit: u64, table: &mut [u32]) -> Ran
-    ensures { λ r. ⌜ (said r ≡ runAnswer (now (sheet .entry)) limit (now (table .entry)))
-        × (now (table .exit) ≡ tableAfter (now (sheet .entry)) limit (now (table .entry))) ⌝ }
-{
-    let judged = judge::judge(sheet);
-    match judged {
-        Judged::Refused(fault) => Ran::Refused(fault),
-        Judged::Accepted => run_accepted(sheet, limit, table),
-    }
-}
 
 // Runs a sheet to its end: the answer, and every word of the table afterwards. Where the sheet is accepted and the table has the right length, the
 // run has ended, its counts are small and its distances are shortest.
@@ -67,7 +21,7 @@ pub fn run(sheet: &[u8], table: &mut [u32]) -> Ran
         × (Accepted (now (sheet .entry)) → length (now (table .entry)) ≡ tableLength (nodeCount (now (sheet .entry)))
         → Delivered (now (sheet .entry)) enoughRounds (now (table .exit)) × (said r ≡ ended)) ⌝ }
 {
-    run_rounds(sheet, ENOUGH_ROUNDS, table)
+    run_rounds::run_rounds(sheet, ENOUGH_ROUNDS, table)
 }
 
 // Runs a sheet for at most so many rounds: the answer, and every word of the table afterwards. Where the sheet is accepted and the table has the
@@ -78,5 +32,5 @@ pub fn run_limited(sheet: &[u8], rounds: u32, table: &mut [u32]) -> Ran
         × (Accepted (now (sheet .entry)) → length (now (table .entry)) ≡ tableLength (nodeCount (now (sheet .entry)))
         → Delivered (now (sheet .entry)) rounds (now (table .exit))) ⌝ }
 {
-    run_rounds(sheet, rounds as u64, table)
+    run_rounds::run_rounds(sheet, rounds as u64, table)
 }

@@ -10,8 +10,10 @@ use Rattle.procedure.specs.OfSheet.{graphOf}
 use Rattle.procedure.proofs.OfSheet.{graph-nodes, graph-arcs}
 use Rattle.shortest.specs.TableTest.{unfedTest, fedTest, settled?}
 use Rattle.answers.specs.Routes.{notShortest}
-use Rattle.table_form.specs.Fitting.{labels, predecessors}
-use Rattle.table_test.specs.Checks.{sourceFits, nodeFits, arcRelaxed, nodeLed}
+use Rattle.lent_table.specs.Fitting.{labels, predecessors}
+use Rattle.table_arcs.specs.Checks.{sourceFits, arcRelaxed}
+use Rattle.table_nodes.specs.Checks.{nodeFits}
+use Rattle.table_walk.specs.Checks.{nodeLed}
 
 -- both tests of all indices are each test of all
 all-both : (p q : ℕ → Bool) (n : ℕ) → all (λ i. p i && q i) n ≡ all p n && all q n

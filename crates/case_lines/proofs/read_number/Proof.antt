@@ -1,6 +1,8 @@
 -- `read_number` meets its contract: the number read so far is not above the limit, and the digits left fall. Assumes nothing.
 use Prim.Native.Nat.{_≤_, _-_}
 use borrow.Author.Needs.{needs}
+use borrow.Author.Tests.{not-false}
+use native.Mathlib.Omega.{arith}
 use Rattle.case_lines.proofs.read_number.Statement.{statement}
 use Rattle.case_lines.proofs.read_number.Tie as tie
 
@@ -43,8 +45,8 @@ given-number-requires-2 c κs = search needs
 returns-3 : tie.Need-returns-3 Inv-loop μ-loop
 returns-3 c = search needs
 
-longer-number-requires : tie.Need-longer-number-requires Inv-loop μ-loop
-longer-number-requires c κs = search needs
+has-longer-requires : tie.Need-has-longer-requires Inv-loop μ-loop
+has-longer-requires c κs = search needs
 
 unreadable-requires-2 : tie.Need-unreadable-requires-2 Inv-loop μ-loop
 unreadable-requires-2 c κs = search needs
@@ -55,8 +57,14 @@ given-number-requires-3 c κs = search needs
 returns-4 : tie.Need-returns-4 Inv-loop μ-loop
 returns-4 c = search needs
 
+mul-value : tie.Need-mul-value Inv-loop μ-loop
+mul-value c = omega (arith, c .before .has-longer .ensures (not-false _ (c .if3 .left)))
+
 cast-value : tie.Need-cast-value Inv-loop μ-loop
 cast-value c = search needs
+
+add-value : tie.Need-add-value Inv-loop μ-loop
+add-value c = omega (arith, c .before .has-longer .ensures (not-false _ (c .if3 .left)))
 
 add-digits : tie.Need-add-digits Inv-loop μ-loop
 add-digits c = search needs
@@ -65,7 +73,7 @@ loop-less : tie.Need-loop-less Inv-loop μ-loop
 loop-less c = search needs
 
 loop-again : tie.Need-loop-again Inv-loop μ-loop
-loop-again c = search needs
+loop-again c = c .before .before .has-longer .ensures (not-false _ (c .before .if3 .left))
 
 take-sign-requires-2 : tie.Need-take-sign-requires-2 Inv-loop μ-loop
 take-sign-requires-2 c κs = search needs
@@ -96,11 +104,13 @@ read-number-spec =
     after-field-requires
     given-number-requires-2
     returns-3
-    longer-number-requires
+    has-longer-requires
     unreadable-requires-2
     given-number-requires-3
     returns-4
+    mul-value
     cast-value
+    add-value
     add-digits
     loop-less
     loop-again

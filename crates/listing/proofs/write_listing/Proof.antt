@@ -2,7 +2,8 @@
 use mathlib.Core.Path.{refl}
 use native.Mathlib.Omega.{arith}
 use Rattle.listing.specs.Listing.{listingOf}
-use Rattle.listing.proofs.Writing.{wrote-then, filled}
+use Rattle.text.proofs.Writing.{wrote-then}
+use Rattle.listing.proofs.Writing.{filled}
 use Rattle.listing.proofs.Lines.{status-line-room, node-lines-fit, listing-room}
 use borrow.Author.Needs.{needs}
 use Rattle.listing.proofs.write_listing.Statement.{statement}

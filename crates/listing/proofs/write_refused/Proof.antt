@@ -1,7 +1,8 @@
 -- `write_refused` meets its contract: the word, the number and the line end have room and are written one after another. Assumes nothing.
 use mathlib.Core.Path.{refl}
 use Rattle.listing.specs.Listing.{refusedLine}
-use Rattle.listing.proofs.Writing.{wrote-then, room-before, room-after, byte-room, filled}
+use Rattle.text.proofs.Writing.{wrote-then, room-before, room-after, byte-room}
+use Rattle.listing.proofs.Writing.{filled}
 use Rattle.listing.proofs.Lines.{refused-room}
 use borrow.Author.Needs.{needs}
 use Rattle.listing.proofs.write_refused.Statement.{statement}

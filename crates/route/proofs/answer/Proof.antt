@@ -1,8 +1,9 @@
 -- `answer` meets its contract: the stages in turn, each where none before it applies. Assumes nothing.
 use mathlib.Core.Path.{sym, ap, _∙_}
 use Rattle.refusals.proofs.Accepted.{front-there, few-nodes}
-use Rattle.table_test.specs.Checks.{stateNumbered}
-use Rattle.route.proofs.Stages.{node-below, table-fits, table-ready, node-stops, length-stops, table-stops, route-decides, left-refused}
+use Rattle.table_test.specs.Numbers.{stateNumbered}
+use Rattle.route.proofs.Stages.{node-below, table-fits, table-ready, node-stops, length-stops, table-stops, route-decides}
+use Rattle.found_route.proofs.Found.{left-refused}
 use borrow.Author.Needs.{needs}
 use native.Mathlib.Omega.{arith}
 use Rattle.route.proofs.answer.Statement.{statement}

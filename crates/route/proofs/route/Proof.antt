@@ -2,7 +2,8 @@
 use mathlib.Core.Path.{sym, ap, _∙_}
 use Rattle.judge.specs.Said.{said as saidByJudge}
 use Rattle.answers.proofs.Routes.{sheet-stops}
-use Rattle.route.proofs.Stages.{left-refused, left-after, answer-known}
+use Rattle.found_route.proofs.Found.{left-refused}
+use Rattle.route.proofs.Stages.{left-after, answer-known}
 use borrow.Author.Needs.{needs}
 use Rattle.route.proofs.route.Statement.{statement}
 use Rattle.route.proofs.route.Tie as tie

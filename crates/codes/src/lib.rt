@@ -1,0 +1,63 @@
+// The number by which the library for C and Rust gives an answer.
+ghost use mathlib.Core.Path.{_≡_};
+ghost use Prim.Native.Nat.{_<_};
+ghost use Rattle.sheet.specs.Answer.{numberOf, refusalOf};
+ghost use Rattle.judge.specs.Said.{said as saidByJudge};
+ghost use Rattle.run_answer.specs.Said.{said as saidByRun};
+ghost use Rattle.route_answer.specs.Said.{said as saidByRoute};
+ghost use Rattle.codes.specs.Codes.{codeOf, arcsOf};
+use judge::Judged;
+use route_answer::Routed;
+use run_answer::Ran;
+use sheet::Fault;
+
+const ACCEPTED: u32 = 256;
+
+const PAUSED: u32 = 257;
+
+const ENDED: u32 = 258;
+
+const NO_ROUTE: u32 = 259;
+
+// The code of the empty route; that of a longer one is higher by the count of its arcs.
+const ROUTE: u32 = 65536;
+
+// The number of a refusal.
+fn fault_code(fault: Fault) -> u32
+    ensures { λ r. ⌜ r ≡ numberOf (refusalOf fault) ⌝ }
+{
+    match fault {
+        Fault::Input(n) => n as u32,
+        Fault::State(n) => n as u32,
+    }
+}
+
+pub fn judged_code(judged: Judged) -> u32
+    ensures { λ r. ⌜ r ≡ codeOf (saidByJudge judged) ⌝ }
+{
+    match judged {
+        Judged::Accepted => ACCEPTED,
+        Judged::Refused(fault) => fault_code(fault),
+    }
+}
+
+pub fn ran_code(ran: Ran) -> u32
+    ensures { λ r. ⌜ r ≡ codeOf (saidByRun ran) ⌝ }
+{
+    match ran {
+        Ran::Ended => ENDED,
+        Ran::Paused => PAUSED,
+        Ran::Refused(fault) => fault_code(fault),
+    }
+}
+
+pub fn routed_code(routed: Routed) -> u32
+    requires { ⌜ arcsOf (saidByRoute routed) < 268435456 ⌝ }
+    ensures { λ r. ⌜ r ≡ codeOf (saidByRoute routed) ⌝ }
+{
+    match routed {
+        Routed::Route(arcs) => ROUTE + arcs,
+        Routed::NoRoute => NO_ROUTE,
+        Routed::Refused(fault) => fault_code(fault),
+    }
+}

@@ -1,0 +1,71 @@
+-- `find_route` meets its contract: unreached, too long for the buffer, or written. Assumes nothing.
+use mathlib.Core.Path.{_∙_}
+use Rattle.sheet.specs.Words.{top}
+use Rattle.route_arcs.proofs.Following.{node-reached}
+use Rattle.found_route.proofs.Found.{found-none, found-short, found-route, left-none, left-refused, left-route}
+use borrow.Author.Needs.{needs}
+use native.Mathlib.Omega.{arith}
+use Rattle.found_route.proofs.find_route.Statement.{statement}
+use Rattle.found_route.proofs.find_route.Tie as tie
+
+label-of-requires : tie.Need-label-of-requires
+label-of-requires c κs =
+    let pre = c .before .before .before .pre in
+    omega (arith, pre .0 .fitting .sized, pre .1)
+
+returns : tie.Need-returns
+unfolding top
+returns c = (found-none _ _ _ _ (c .before .label-of .ensures) (c .if1 .taken), left-none _ _ _ _)
+
+count-arcs-requires : tie.Need-count-arcs-requires
+unfolding top
+count-arcs-requires c κs =
+    let earlier = c .before .before .before .before in
+    let pre = earlier .before .pre in
+    (pre .0, node-reached (pre .1) (c .before .label-of .ensures) (c .if1 .left))
+
+returns-2 : tie.Need-returns-2
+unfolding top
+returns-2 c =
+    let label-of = c .before .before .before .label-of in
+    (found-short _ _ _ _ (label-of .ensures) (c .before .before .if1 .left) (c .before .count-arcs .ensures .0) (c .if2 .taken), left-refused _ _ _ _ _)
+
+cast-count : tie.Need-cast-count
+cast-count c = search needs
+
+write-arcs-requires : tie.Need-write-arcs-requires
+unfolding top
+write-arcs-requires c κs =
+    let earlier = c .before .before .before .before in
+    let early = earlier .before .before .before .before in
+    let pre = early .pre in
+    let label-of = earlier .label-of in
+    let if1 = c .before .before .before .if1 in
+    (pre .0, node-reached (pre .1) (label-of .ensures) (if1 .left), c .before .before .count-arcs .ensures .0, c .before .if2 .left)
+
+same-length : tie.Need-same-length
+same-length c = search needs
+
+returns-3 : tie.Need-returns-3
+unfolding top
+returns-3 c =
+    let earlier = c .before .before .before .before in
+    let count-arcs = earlier .before .count-arcs in
+    let label-of = earlier .before .before .before .label-of in
+    let if1 = earlier .before .before .if1 in
+    let if2 = earlier .if2 in
+    let all = count-arcs .ensures .0 in
+    (found-route _ _ _ _ (label-of .ensures) (if1 .left) all (if2 .left), c .before .before .write-arcs .ensures ∙ left-route _ _ _ _ _ all)
+
+pub find-route-spec : {M : Type 1} → statement M
+find-route-spec =
+    tie.close
+    (tie.spec
+    label-of-requires
+    returns
+    count-arcs-requires
+    returns-2
+    cast-count
+    write-arcs-requires
+    same-length
+    returns-3)

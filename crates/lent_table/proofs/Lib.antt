@@ -1,0 +1,2 @@
+pub mod AtArcs
+pub mod Columns

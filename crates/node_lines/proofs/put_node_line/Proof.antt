@@ -1,0 +1,79 @@
+-- `put_node_line` meets its contract: each part is written after the parts before it. Assumes nothing.
+use native.Mathlib.Omega.{arith}
+use Rattle.node_lines.specs.NodeLines.{nodeLine}
+use Rattle.text.proofs.Writing.{wrote-then, room-before, room-after, byte-room}
+use borrow.Author.Needs.{needs}
+use Rattle.node_lines.proofs.put_node_line.Statement.{statement}
+use Rattle.node_lines.proofs.put_node_line.Tie as tie
+
+mul-word : tie.Need-mul-word
+mul-word c = search needs
+
+add-word : tie.Need-add-word
+add-word c = search needs
+
+put-number-requires : tie.Need-put-number-requires
+unfolding nodeLine
+put-number-requires c κs =
+    let pre = c .before .before .before .pre in
+    room-before _ (room-before _ (room-before _ (pre .1)))
+
+put-payload-requires : tie.Need-put-payload-requires
+unfolding nodeLine
+put-payload-requires c κs =
+    let put-number = c .before .before .before .put-number in
+    let pre = c .before .before .before .before .before .before .before .pre in
+    (omega (arith, pre .0), room-after (put-number .ensures) (room-before _ (room-before _ (pre .1))))
+
+add-put-payload : tie.Need-add-put-payload
+add-put-payload c = search needs
+
+put-payload-requires-2 : tie.Need-put-payload-requires-2
+unfolding nodeLine
+put-payload-requires-2 c κs =
+    let earlier = c .before .before .before .before .before .before .before .before in
+    let put-payload = c .before .before .before .put-payload in
+    let put-number = c .before .before .before .before .before .before .before .put-number in
+    let pre = earlier .before .before .before .pre in
+    let distance = wrote-then (put-number .ensures) (put-payload .ensures) in
+    (omega (arith, pre .0), room-after distance (room-before _ (pre .1)))
+
+put-byte-requires : tie.Need-put-byte-requires
+unfolding nodeLine
+put-byte-requires c κs =
+    let earlier = c .before .before .before .before .before .before .before .before in
+    let put-payload2 = c .before .before .before .put-payload2 in
+    let put-payload = c .before .before .before .before .before .before .before .put-payload in
+    let put-number = earlier .before .before .before .put-number in
+    let pre = earlier .before .before .before .before .before .before .before .pre in
+    let distance = wrote-then (put-number .ensures) (put-payload .ensures) in
+    let arc = wrote-then distance (put-payload2 .ensures) in
+    byte-room (room-after arc (pre .1))
+
+same-length : tie.Need-same-length
+same-length c = search needs
+
+returns : tie.Need-returns
+unfolding nodeLine
+returns c =
+    let earlier = c .before .before .before .before .before .before .before .before in
+    let put-payload2 = c .before .before .before .before .before .before .put-payload2 in
+    let put-payload = earlier .before .before .put-payload in
+    let put-number = earlier .before .before .before .before .before .before .put-number in
+    let distance = wrote-then (put-number .ensures) (put-payload .ensures) in
+    let arc = wrote-then distance (put-payload2 .ensures) in
+    wrote-then arc (c .before .before .put-byte .ensures)
+
+pub put-node-line-spec : {M : Type 1} → statement M
+put-node-line-spec =
+    tie.close
+    (tie.spec
+    mul-word
+    add-word
+    put-number-requires
+    put-payload-requires
+    add-put-payload
+    put-payload-requires-2
+    put-byte-requires
+    same-length
+    returns)

@@ -1,0 +1,22 @@
+-- What the functions that follow predecessors ask of a sheet, a table and a node. Definitions; assumes nothing.
+use Prim.Native.Nat.{ℕ, _<_}
+use mathlib.Core.Bool.{false}
+use mathlib.Core.Path.{_≡_}
+use mathlib.Core.Logic.{_≢_}
+use mathlib.Core.List.{List}
+use Rattle.sheet.specs.declared.Sections.{Sections}
+use Rattle.sheet.specs.Words.{top}
+use Rattle.sheet.specs.Sections.{nodeCount}
+use Rattle.answers.specs.Tables.{labelIn}
+use Rattle.answers.specs.Routes.{notShortest}
+use Rattle.lent_table.specs.Fitting.{Fitting}
+
+-- 24 does not apply
+pub record Ready (b : List ℕ) (at : Sections) (table : List ℕ) : Type 0 where
+  pub fitting : Fitting b at table
+  pub passed : notShortest b table ≡ false
+
+-- a node that is reached
+pub record Reached (b table : List ℕ) (v : ℕ) : Type 0 where
+  pub inside : v < nodeCount b
+  pub labelled : labelIn table v ≢ top

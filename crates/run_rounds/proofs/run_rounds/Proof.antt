@@ -1,0 +1,46 @@
+-- `run_rounds` meets its contract: the judge's refusal, or the run of the accepted sheet. Assumes nothing.
+use borrow.Author.Needs.{needs}
+use mathlib.Core.Path.{sym, ap, _∙_}
+use Rattle.judge.specs.Said.{said as judged-says}
+use Rattle.answers.proofs.Outcome.{refused-sheet}
+use Rattle.run_rounds.proofs.run_rounds.Statement.{statement}
+use Rattle.run_rounds.proofs.run_rounds.Tie as tie
+
+judge-requires : tie.Need-judge-requires
+judge-requires c κs = search needs
+
+enum-known-judged : tie.Need-enum-known-judged
+enum-known-judged c = search needs
+
+enum-told : tie.Need-enum-told
+enum-told c = search needs
+
+run-accepted-requires : tie.Need-run-accepted-requires
+run-accepted-requires c κs =
+    let judge = c .before .before .before .judge in
+    sym (judge .ensures) ∙ ap judged-says (c .before .enum-told .given .1)
+
+returns : tie.Need-returns
+returns c =
+    let earlier = c .before .before .before .before in
+    let args = earlier .before .before .args in
+    let judge = c .before .before .before .judge in
+    refused-sheet (args .sheet .now) (args .limit) (args .table .now) _ (sym (judge .ensures) ∙ ap judged-says (c .before .judged .given .1))
+
+same-length : tie.Need-same-length
+same-length c = c .before .before .run-accepted .kept .1 .1 .0
+
+returns-2 : tie.Need-returns-2
+returns-2 c = c .before .before .run-accepted .ensures
+
+pub run-rounds-spec : {M : Type 1} → statement M
+run-rounds-spec =
+    tie.close
+    (tie.spec
+    judge-requires
+    enum-known-judged
+    enum-told
+    run-accepted-requires
+    returns
+    same-length
+    returns-2)

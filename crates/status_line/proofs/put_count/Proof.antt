@@ -1,0 +1,34 @@
+-- `put_count` meets its contract: the name, then the number. Assumes nothing.
+use Rattle.text.proofs.Writing.{wrote-then, room-before, room-after}
+use borrow.Author.Needs.{needs}
+use Rattle.status_line.proofs.put_count.Statement.{statement}
+use Rattle.status_line.proofs.put_count.Tie as tie
+
+put-text-requires : tie.Need-put-text-requires
+put-text-requires c κs =
+    let pre = c .before .before .before .before .pre in
+    room-before _ (pre .2)
+
+count-at-requires : tie.Need-count-at-requires
+count-at-requires c κs = search needs
+
+put-number-requires : tie.Need-put-number-requires
+put-number-requires c κs =
+    let earlier = c .before .before .before .before .before .before .before .before in
+    let put-text = c .before .before .before .before .put-text in
+    let pre = earlier .before .pre in
+    rw (c .before .count-at .ensures) (room-after (put-text .ensures) (pre .2))
+
+same-length : tie.Need-same-length
+same-length c = search needs
+
+returns : tie.Need-returns
+returns c =
+    let count-at = c .before .before .before .before .count-at in
+    let put-text = c .before .before .before .before .before .before .before .put-text in
+    wrote-then (put-text .ensures) (rw (count-at .ensures) at (c .before .before .put-number .ensures))
+
+pub put-count-spec : {M : Type 1} → statement M
+put-count-spec =
+    tie.close
+    (tie.spec put-text-requires count-at-requires put-number-requires same-length returns)

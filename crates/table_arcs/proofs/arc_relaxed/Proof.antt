@@ -1,0 +1,68 @@
+-- `arc_relaxed` meets its contract: the labels at its ends and its length. Assumes nothing.
+use Rattle.sheet.specs.Words.{top}
+use Rattle.refusals.proofs.Accepted.{tail-in, head-in, length-short}
+use Rattle.table_arcs.proofs.Checked.{relaxed-unreached, relaxed-compared}
+use borrow.Author.Needs.{needs}
+use native.Mathlib.Omega.{arith}
+use Rattle.table_arcs.proofs.arc_relaxed.Statement.{statement}
+use Rattle.table_arcs.proofs.arc_relaxed.Tie as tie
+
+end-at-requires : tie.Need-end-at-requires
+end-at-requires c κs = search needs
+
+label-of-requires : tie.Need-label-of-requires
+label-of-requires c κs =
+    let pre = c .before .before .before .pre in
+    omega (arith, pre .0 .sized, c .end-at .ensures .0, tail-in _ (pre .0 .accepted) _ (pre .1))
+
+returns : tie.Need-returns
+unfolding top
+returns c =
+    let earlier = c .before .before .before .before in
+    let pre = earlier .before .pre in
+    relaxed-unreached (pre .0) (pre .1) (c .before .before .end-at .ensures .0) (c .before .label-of .ensures) (c .if1 .taken)
+
+end-at-requires-2 : tie.Need-end-at-requires-2
+end-at-requires-2 c κs = search needs
+
+label-of-requires-2 : tie.Need-label-of-requires-2
+label-of-requires-2 c κs =
+    let earlier = c .before .before .before .before in
+    let pre = earlier .before .before .pre in
+    omega (arith, pre .0 .sized, c .end-at2 .ensures .0, head-in _ (pre .0 .accepted) _ (pre .1))
+
+length-at-requires : tie.Need-length-at-requires
+length-at-requires c κs = search needs
+
+add-result : tie.Need-add-result
+add-result c =
+    let earlier = c .before .before .before .before in
+    let early = earlier .before .before .before .before in
+    let label-of = earlier .label-of in
+    let pre = early .pre in
+    omega (arith, label-of .ensures, c .length-at .ensures, length-short _ (pre .0 .accepted) _ (pre .1))
+
+returns-2 : tie.Need-returns-2
+unfolding top
+returns-2 c =
+    let earlier = c .before .before .before .before in
+    let early = earlier .before .before .before .before in
+    let pre = early .pre in
+    let end-at = earlier .before .end-at in
+    let label-of = earlier .label-of in
+    let if1 = c .before .before .before .if1 in
+    relaxed-compared (pre .0) (pre .1) (end-at .ensures .0) (label-of .ensures) (if1 .left) (c .length-at .ensures)
+    (c .before .before .end-at2 .ensures .0) (c .before .label-of2 .ensures)
+
+pub arc-relaxed-spec : {M : Type 1} → statement M
+arc-relaxed-spec =
+    tie.close
+    (tie.spec
+    end-at-requires
+    label-of-requires
+    returns
+    end-at-requires-2
+    label-of-requires-2
+    length-at-requires
+    add-result
+    returns-2)

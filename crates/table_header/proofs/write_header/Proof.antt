@@ -1,0 +1,88 @@
+-- `write_header` meets its contract: the words are written from the front. Assumes nothing.
+use borrow.Author.Needs.{needs}
+use native.Mathlib.Omega.{arith}
+use lib.ListN.{length-set}
+use Rattle.table_header.proofs.write_header.Statement.{statement}
+use Rattle.table_header.proofs.write_header.Tie as tie
+
+status-word-requires : tie.Need-status-word-requires
+status-word-requires c κs = search needs
+
+slice-write-table : tie.Need-slice-write-table
+slice-write-table c = search needs
+
+write-count-requires : tie.Need-write-count-requires
+write-count-requires c κs =
+    let pre = c .before .before .before .pre in
+    (simp length-set (omega (arith, pre .0)), pre .1 .rounds)
+
+write-count-requires-2 : tie.Need-write-count-requires-2
+write-count-requires-2 c κs =
+    let earlier = c .before .before .before .before in
+    let pre = earlier .before .before .before .pre in
+    let write-count = c .before .before .before .write-count in
+    let args = earlier .before .before .before .args in
+    let status-word = earlier .before .status-word in
+    (omega (arith, pre .0, write-count .kept .0, length-set (args .table .now) 0 (status-word .result)), pre .1 .leaves)
+
+write-count-requires-3 : tie.Need-write-count-requires-3
+write-count-requires-3 c κs =
+    let earlier = c .before .before .before .before in
+    let early = earlier .before .before .before .before in
+    let pre = early .before .before .before .pre in
+    let write-count = earlier .before .before .before .write-count in
+    let write-count2 = c .before .before .before .write-count2 in
+    let args = early .before .before .before .args in
+    let status-word = early .before .status-word in
+    (omega (arith, pre .0, write-count .kept .0, write-count2 .kept .0, length-set (args .table .now) 0 (status-word .result)), pre .1 .inner)
+
+write-count-requires-4 : tie.Need-write-count-requires-4
+write-count-requires-4 c κs =
+    let earlier = c .before .before .before .before in
+    let early = earlier .before .before .before .before in
+    let prior = early .before .before .before .before in
+    let args = prior .before .before .before .args in
+    let status-word = prior .before .status-word in
+    let pre = prior .before .before .before .pre in
+    let write-count = early .before .before .before .write-count in
+    let write-count2 = earlier .before .before .before .write-count2 in
+    let write-count3 = c .before .before .before .write-count3 in
+    let long = length-set (args .table .now) 0 (status-word .result) in
+    (omega (arith, pre .0, write-count .kept .0, write-count2 .kept .0, write-count3 .kept .0), pre .1 .updates)
+
+same-length : tie.Need-same-length
+same-length c =
+    let earlier = c .before .before .before .before .before .before .before .before in
+    let early = earlier .before .before .before .before .before .before .before .before in
+    let args = early .before .before .args in
+    let status-word = early .status-word in
+    let write-count = earlier .before .before .before .before .before .before .write-count in
+    let write-count2 = earlier .before .before .write-count2 in
+    let write-count3 = c .before .before .before .before .before .before .write-count3 in
+    let long = length-set (args .table .now) 0 (status-word .result) in
+    omega (arith, write-count .kept .0, write-count2 .kept .0, write-count3 .kept .0, c .before .before .write-count4 .kept .0)
+
+returns : tie.Need-returns
+returns c =
+    let earlier = c .before .before .before .before in
+    let early = earlier .before .before .before .before in
+    let prior = early .before .before .before .before in
+    let first = prior .before .before .before .before in
+    let write-count3 = earlier .before .before .write-count3 in
+    let write-count2 = early .before .before .write-count2 in
+    let write-count = prior .before .before .write-count in
+    let status-word = first .status-word in
+    cc (c .before .before .write-count4 .ensures, write-count3 .ensures, write-count2 .ensures, write-count .ensures, status-word .ensures)
+
+pub write-header-spec : {M : Type 1} → statement M
+write-header-spec =
+    tie.close
+    (tie.spec
+    status-word-requires
+    slice-write-table
+    write-count-requires
+    write-count-requires-2
+    write-count-requires-3
+    write-count-requires-4
+    same-length
+    returns)

@@ -1,0 +1,57 @@
+-- `wrong_counts` meets its contract: the words passed are of their kind. Assumes nothing.
+use Prim.Native.Nat.{_-_, _≤_}
+use mathlib.Core.Path.{_≡_, sym, _∙_}
+use mathlib.Core.Bool.{false}
+use Rattle.indices.specs.Tests.{any}
+use Rattle.indices.proofs.Tests.{any-none, any-more, any-hit, any-end}
+use Rattle.answers.specs.Routes.{wrongCount}
+use native.Mathlib.Omega.{arith}
+use Rattle.table_kinds.proofs.wrong_counts.Statement.{statement}
+use Rattle.table_kinds.proofs.wrong_counts.Tie as tie
+
+abbrev Inv-loop : tie.InvT-loop
+Inv-loop table i₀ i = (i ≤ 8) × (any (wrongCount table) i ≡ false)
+
+abbrev μ-loop : tie.MeasureT-loop
+μ-loop table i₀ i = 8 - i
+
+loop-holds : tie.Need-loop-holds Inv-loop μ-loop
+loop-holds c = (omega arith, any-none _)
+
+add-wrong-kind : tie.Need-add-wrong-kind Inv-loop μ-loop
+add-wrong-kind c = omega arith
+
+wrong-kind-requires : tie.Need-wrong-kind-requires Inv-loop μ-loop
+wrong-kind-requires c κs = omega arith
+
+returns : tie.Need-returns Inv-loop μ-loop
+returns c = sym (any-hit _ _ _ (omega arith) (sym (c .before .wrong-kind .ensures) ∙ c .if1 .taken))
+
+add-i : tie.Need-add-i Inv-loop μ-loop
+add-i c = omega arith
+
+loop-less : tie.Need-loop-less Inv-loop μ-loop
+loop-less c = omega arith
+
+loop-again : tie.Need-loop-again Inv-loop μ-loop
+loop-again c =
+    let loop = c .before .before .before .loop in
+    (omega arith, any-more _ _ (loop .inv .1) (sym (c .before .wrong-kind .ensures) ∙ c .if1 .left))
+
+returns-2 : tie.Need-returns-2 Inv-loop μ-loop
+returns-2 c = sym (any-end _ _ _ (omega arith) (c .before .loop .inv .1))
+
+pub wrong-counts-spec : {M : Type 1} → statement M
+wrong-counts-spec =
+    tie.close
+    (tie.spec
+    Inv-loop
+    μ-loop
+    loop-holds
+    add-wrong-kind
+    wrong-kind-requires
+    returns
+    add-i
+    loop-less
+    loop-again
+    returns-2)

@@ -1,0 +1,78 @@
+-- `wrong_node` meets its contract: the two kinds, and then the predecessor. Assumes nothing.
+use mathlib.Core.Path.{sym, _∙_}
+use borrow.Author.Tests.{lt-ltb, le-ltb}
+use Rattle.sheet.specs.Words.{top}
+use Rattle.answers.specs.Routes.{wrongNode}
+use borrow.Author.Needs.{needs}
+use Rattle.table_kinds.proofs.wrong_node.Statement.{statement}
+use Rattle.table_kinds.proofs.wrong_node.Tie as tie
+
+cast-i : tie.Need-cast-i
+cast-i c = search needs
+
+mul-i : tie.Need-mul-i
+mul-i c = search needs
+
+add-i : tie.Need-add-i
+add-i c = search needs
+
+wrong-kind-requires : tie.Need-wrong-kind-requires
+wrong-kind-requires c κs = search needs
+
+returns : tie.Need-returns
+unfolding wrongNode
+returns c = rw (sym (c .before .wrong-kind .ensures) ∙ c .if1 .taken)
+
+add-wrong-kind : tie.Need-add-wrong-kind
+add-wrong-kind c = search needs
+
+wrong-kind-requires-2 : tie.Need-wrong-kind-requires-2
+wrong-kind-requires-2 c κs = search needs
+
+returns-2 : tie.Need-returns-2
+unfolding wrongNode
+returns-2 c =
+    let wrong-kind = c .before .before .before .wrong-kind in
+    let label = sym (wrong-kind .ensures) ∙ c .before .before .if1 .left in
+    rw (label, sym (c .before .wrong-kind2 .ensures) ∙ c .if2 .taken)
+
+predecessor-of-requires : tie.Need-predecessor-of-requires
+predecessor-of-requires c κs = search needs
+
+returns-3 : tie.Need-returns-3
+unfolding wrongNode
+returns-3 c =
+    let earlier = c .before .before .before .before in
+    let wrong-kind = earlier .before .wrong-kind in
+    let if1 = earlier .if1 in
+    let wrong-kind2 = c .before .before .before .wrong-kind2 in
+    let label = sym (wrong-kind .ensures) ∙ if1 .left in
+    let arc = sym (wrong-kind2 .ensures) ∙ c .before .before .if2 .left in
+    rw (label, arc, ← c .before .predecessor-of .ensures, lt-ltb _ _ (c .if3 .taken))
+
+returns-4 : tie.Need-returns-4
+unfolding wrongNode top
+returns-4 c =
+    let earlier = c .before .before .before .before in
+    let wrong-kind = earlier .before .wrong-kind in
+    let if1 = earlier .if1 in
+    let wrong-kind2 = c .before .before .before .wrong-kind2 in
+    let label = sym (wrong-kind .ensures) ∙ if1 .left in
+    let arc = sym (wrong-kind2 .ensures) ∙ c .before .before .if2 .left in
+    rw (label, arc, ← c .before .predecessor-of .ensures, le-ltb _ _ (c .if3 .left))
+
+pub wrong-node-spec : {M : Type 1} → statement M
+wrong-node-spec =
+    tie.close
+    (tie.spec
+    cast-i
+    mul-i
+    add-i
+    wrong-kind-requires
+    returns
+    add-wrong-kind
+    wrong-kind-requires-2
+    returns-2
+    predecessor-of-requires
+    returns-3
+    returns-4)
