@@ -1,5 +1,5 @@
-// Tries each case of standard input, a line whose first field says the call: 1 the judge, 2 a run, 3 the route reader, 4 the listing. It prints what the
-// call answers, or `unreadable` of a line that is no case.
+// Tries each case of standard input, a line whose first field is the number of its call: 1 the judge, 2 a run, 3 the route reader, 4 the listing. It
+// prints what the call answers, and `unreadable` for a line that is no case.
 use case_lines::BLOCK;
 use case_lines::Place;
 use libc::STDOUT_FILENO;
@@ -7,7 +7,7 @@ use libc::STDOUT_FILENO;
 // The longest sheet, in bytes. A case with a longer one is unreadable.
 const ROOM: usize = 65536;
 
-// The place after a line of no call.
+// The place after a line that names no call.
 fn no_case(block: &mut [u8; BLOCK], place: Place) -> Place {
     let after = case_lines::end_line(block, place);
     Place {

@@ -1,4 +1,4 @@
-// A case of the judge: the sheet of a line, judged, and the answer printed as a line.
+// A case of the judge: a sheet. The line printed for it has the answer.
 use case_lines::BLOCK;
 use case_lines::Place;
 use judge::Judged;
@@ -22,6 +22,7 @@ fn put_answer(line: &mut [u8], answer: Judged) -> usize
     }
 }
 
+// Prints an answer that is put together in a line.
 fn print_in(line: &mut [u8], answer: Judged) {
     let end = put_answer(line, answer);
     io::write_all(STDOUT_FILENO, &line[..end]);

@@ -1,4 +1,4 @@
-// A case of the listing: what `marks` prints of the sheet of a line.
+// A case of the listing: a sheet. What is printed for it is what `marks` prints.
 use case_lines::BLOCK;
 use case_lines::Place;
 ghost use mathlib.Core.Path.{_≡_};

@@ -1,5 +1,5 @@
-// A case of the route reader: a line of a sheet, a table's words, a node and the buffer's length, and printed as a line: the number of arcs and the arcs
-// as words, no route, or the refusal; and whether the rest of the buffer, or all of it, has changed.
+// A case of the route reader: a sheet, a table's words, a node and the buffer's length. The line printed for it has the number of arcs and the arcs as
+// words, no route, or the refusal; and whether the rest of the buffer, or all of it, has changed.
 use case_lines::BLOCK;
 use case_lines::FILLING;
 use case_lines::Place;
@@ -123,7 +123,7 @@ fn read_wanted(block: &mut [u8; BLOCK], place: Place, size: usize) -> Wanted
     }
 }
 
-// Reads a case into buffers for its table.
+// Reads a case, its table into buffers, and prints its line.
 fn case_in(
     block: &mut [u8; BLOCK],
     place: Place,

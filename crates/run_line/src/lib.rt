@@ -1,5 +1,5 @@
-// A case of a run: a line of a sheet, a limit of rounds ('-' for none) and the table's length, run, and printed as a line: the answer and the table's
-// words, or the refusal and whether the table has changed.
+// A case of a run: a sheet, a limit of rounds ('-' for none) and the table's length. The line printed for it has the answer and the table's words, or the
+// refusal and whether the table has changed.
 use case_lines::BLOCK;
 use case_lines::FILLING;
 use case_lines::Number;
