@@ -1,4 +1,4 @@
-"""What the scripts that write cases share: reading the vectors, holding lines to what is stated, and writing the files of a program."""
+"""What the cases of the four calls share: reading the vectors, holding lines to what is stated, and gathering the lines of a call."""
 import sys
 from collections import Counter
 from pathlib import Path
@@ -35,8 +35,8 @@ def hold(family, case, line, stated):
         sys.exit('%s: expected is %s, stated is %s: %s' % (family.__name__, line[:99], stated[:99], case[:300]))
 
 
-def write_cases(crate, vectors, families, checked, kind):
-    """Writes the lines of the vectors and, each once, of the cases of all families, where they are not too many; prints how many there are."""
+def lines_of(vectors, families, checked, kind):
+    """The lines of the vectors and, each once, of the cases of all families, where they are not too many; prints how many there are."""
     lines, seen = [], set()
     for family in vectors + families:
         before = len(lines)
@@ -45,11 +45,9 @@ def write_cases(crate, vectors, families, checked, kind):
                 lines.append((case, line))
             seen.add(case)
         print('%s: %d cases' % (family.__name__, len(lines) - before))
-    files = {name: ''.join(pair[at] + '\n' for pair in lines) for at, name in enumerate(('stdin', 'stdout'))}
-    for name, text in files.items():
-        if len(text) > MOST_BYTES:
-            sys.exit('%s has %d bytes' % (name, len(text)))
-    for name, text in files.items():
-        (ROOT / 'crates' / crate / name).write_text(text)
-    print('%d cases, %d and %d bytes' % (len(lines), len(files['stdin']), len(files['stdout'])))
+    sizes = [sum(len(pair[at]) + 1 for pair in lines) for at in range(2)]
+    if max(sizes) > MOST_BYTES:
+        sys.exit('%d and %d bytes' % tuple(sizes))
+    print('%d cases, %d and %d bytes' % (len(lines), *sizes))
     print(', '.join('%s: %d' % pair for pair in sorted(Counter(kind(line) for _, line in lines).items())))
+    return lines

@@ -1,12 +1,11 @@
-"""Writes the cases of crates/judge_cases: stdin, a sheet in hexadecimal a line, and stdout, the answer expected to each.
+"""The cases of the judge: a sheet in hexadecimal, and the answer expected to it.
 
 The judge of tests/paper.py has to agree with every line of tests/judge_vectors.txt and with each answer that a case states; otherwise
-the script stops and writes nothing.
-Run it by `python3 tests/judge_cases.py`: it writes the same files each time.
+the script stops.
 """
 import sys
 
-from cases import bytes_in, data, digits_of, hold, write_cases
+from cases import bytes_in, data, digits_of, hold, lines_of
 from paper import applies, judge
 from sheets import (
     FAULTS, HALL_A, Chance, alternate, chain, changed, damaged, flat, halving, inner, leaf, many_chains, one_deep, packed, random_words,
@@ -260,5 +259,5 @@ def checked(family):
         yield case, line
 
 
-if __name__ == '__main__':
-    write_cases('judge_cases', [vectors], FAMILIES, checked, str)
+def lines():
+    return lines_of([vectors], FAMILIES, checked, str)

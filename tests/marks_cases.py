@@ -1,11 +1,10 @@
-"""Writes the cases of crates/marks_cases: stdin, a sheet in hexadecimal a line, and stdout, what `marks` prints of each.
+"""The cases of the listing: a sheet in hexadecimal, and what `marks` prints of it.
 
 What is expected comes from tests/procedure.py. It has to agree with every line of tests/marks_vectors.txt and with each text that a case
-states, and what is printed of an ended run has to be shortest. Otherwise the script stops and writes nothing.
-Run it by `python3 tests/marks_cases.py`: it writes the same files each time.
+states, and what is printed of an ended run has to be shortest. Otherwise the script stops.
 """
 
-from cases import bytes_in, data, digits_of, hold, write_cases
+from cases import bytes_in, data, digits_of, hold, lines_of
 from procedure import printed
 from sheets import (
     FAULTS, HALL_A, Chance, balanced, chain, changed, divided, flat, halving, ladder, one_deep, packed, random_arcs, random_regions, two_each_way,
@@ -90,5 +89,5 @@ def kind(text):
     return text if text.startswith('refused') else text.split(' ')[0]
 
 
-if __name__ == '__main__':
-    write_cases('marks_cases', [vectors], FAMILIES, checked, kind)
+def lines():
+    return lines_of([vectors], FAMILIES, checked, kind)

@@ -1,11 +1,10 @@
-"""Writes the cases of crates/route_cases: stdin, a line of a sheet and a table's words in hexadecimal, a node and the buffer's length, and stdout,
-the route, 'no route' or the refusal expected.
+"""The cases of the route reader: a sheet and a table's words in hexadecimal, a node and the buffer's length, and the route, 'no route' or the refusal
+expected.
 
 What is expected comes from the route reader of tests/procedure.py. It has to agree with every line of tests/route_vectors.txt and with each answer that
-a case states; otherwise the script stops and writes nothing.
-Run it by `python3 tests/route_cases.py`: it writes the same files each time.
+a case states; otherwise the script stops.
 """
-from cases import bytes_in, data, digits_of, digits_of_words, hold, words_in, write_cases
+from cases import bytes_in, data, digits_of, digits_of_words, hold, lines_of, words_in
 from procedure import HEADER, NONE, Hall, distances, route, tables
 from sheets import (
     FAULTS, HALL_A, Chance, balanced, chain, changed, divided, flat, halving, ladder, one_deep, packed, random_arcs, random_regions,
@@ -330,5 +329,5 @@ def kind(line):
     return 'route' if line.startswith('route') else line.split(',')[0]
 
 
-if __name__ == '__main__':
-    write_cases('route_cases', [vectors], FAMILIES, checked, kind)
+def lines():
+    return lines_of([vectors], FAMILIES, checked, kind)

@@ -1,14 +1,13 @@
-"""Writes the cases of crates/run_cases: stdin, a line of a sheet in hexadecimal, a limit of rounds ('-' for none) and the table's length, and
-stdout, the answer and the table expected, or the refusal.
+"""The cases of a run: a sheet in hexadecimal, a limit of rounds ('-' for none) and the table's length, and the answer and the table expected, or the
+refusal.
 
 What is expected comes from tests/procedure.py. It has to agree with every line of tests/limited_vectors.txt and tests/marks_vectors.txt
 and with each answer that a case states; every ended table has to hold the distances found a second way, and on small halls the run without heaps has
-to make the same tables. Otherwise the script stops and writes nothing.
-Run it by `python3 tests/run_cases.py`: it writes the same files each time.
+to make the same tables. Otherwise the script stops.
 """
 import sys
 
-from cases import bytes_in, data, digits_of, digits_of_words, hold, write_cases
+from cases import bytes_in, data, digits_of, digits_of_words, hold, lines_of
 from paper import judge
 from procedure import HEADER, Hall, PlainRun, distances, printed, shortest, table_refusal, table_size, tables
 from sheets import (
@@ -232,5 +231,5 @@ def kind(line):
     return line.split(',')[0] if line.startswith('refused') else line.split(' ')[0]
 
 
-if __name__ == '__main__':
-    write_cases('run_cases', [limited_vectors, marks_vectors], FAMILIES, checked, kind)
+def lines():
+    return lines_of([limited_vectors, marks_vectors], FAMILIES, checked, kind)

@@ -4,23 +4,15 @@ ghost use lib.ListN.{length};
 ghost use Rattle.answers.specs.Tables.{tableLength};
 ghost use Rattle.listing.specs.Listing.{mostListing};
 use libc::STDIN_FILENO;
-use libc::STDOUT_FILENO;
 
 // One word more than the longest sheet has: longer input is refused for its size, whatever follows.
 const ROOM: usize = 32832;
-
-fn print_report(sheet: &[u8], table: &mut [u32], out: &mut [u8])
-    requires { ⌜ (tableLength 1024 ≤ length (now table)) × (mostListing ≤ length (now out)) ⌝ }
-{
-    let size = report::report(sheet, table, out);
-    io::write_all(STDOUT_FILENO, &out[..size]);
-}
 
 fn read_and_print(sheet: &mut [u8], table: &mut [u32], out: &mut [u8])
     requires { ⌜ (tableLength 1024 ≤ length (now table)) × (mostListing ≤ length (now out)) ⌝ }
 {
     let size = io::read_full(STDIN_FILENO, sheet);
-    print_report(&sheet[..size], table, out);
+    report::print_report(&sheet[..size], table, out);
 }
 
 fn main() {

@@ -11,6 +11,7 @@ ghost use Rattle.listing.specs.Listing.{listingOf, mostListing};
 ghost use Rattle.listing.specs.Written.{Filled};
 ghost use Rattle.report.specs.Report.{endTable, Reported};
 use judge::Judged;
+use libc::STDOUT_FILENO;
 use sheet::Fault;
 
 // How many words the table of the most nodes has.
@@ -56,4 +57,14 @@ pub fn report(sheet: &[u8], table: &mut [u32], out: &mut [u8]) -> usize
         Judged::Refused(fault) => listing::write_refused(number_of(fault), out),
         Judged::Accepted => report_accepted(sheet, table, out),
     }
+}
+
+// Prints what `report` writes, and returns how many bytes it has.
+pub fn print_report(sheet: &[u8], table: &mut [u32], out: &mut [u8]) -> usize
+    requires { ⌜ (tableLength 1024 ≤ length (now table)) × (mostListing ≤ length (now out)) ⌝ }
+    ensures { λ r. ⌜ Reported (now (sheet .entry)) (now (table .entry)) (now (out .entry)) (now (table .exit)) (now (out .exit)) r ⌝ }
+{
+    let size = report(sheet, table, out);
+    io::write_all(STDOUT_FILENO, &out[..size]);
+    size
 }
