@@ -246,18 +246,21 @@ process-inner-write-requires : (t : ℕ) → process-inner-lts.Need-write-requir
     process-inner.Post process-inner-Inv-loop process-inner-μ-loop
 unfolding top
 process-inner-write-requires t c κs =
-    let earlier = c .before .before .before .before .before .before .before .before in
-    let early = earlier .before .before .before .before .before .before .before .before in
-    let prior = early .before .before .before .before .before .before .before .before in
-    let process-region = c .before .before .before .before .before .process-region in
-    let min-item = earlier .before .before .min-item in
-    let if1 = earlier .before .before .before .before .before .before .if1 in
-    let min-key = earlier .before .before .before .before .before .before .before .min-key in
-    let loop-test = early .before .before .before .loop-test in
-    let loop = early .before .before .before .before .loop in
-    let count-inner = early .before .before .before .before .before .count-inner in
-    let span-of = early .before .before .before .before .before .before .span-of in
-    let pre = prior .before .before .pre in
+    let earlier = c .before .before .before .before in
+    let early = earlier .before .before .before .before in
+    let prior = early .before .before .before .before in
+    let first = prior .before .before .before .before in
+    let opening = first .before .before .before .before in
+    let origin = opening .before .before .before .before in
+    let process-region = earlier .before .process-region in
+    let min-item = early .before .before .min-item in
+    let if1 = prior .before .before .if1 in
+    let min-key = prior .before .before .before .min-key in
+    let loop-test = first .before .before .before .loop-test in
+    let loop = opening .loop in
+    let count-inner = opening .before .count-inner in
+    let span-of = opening .before .before .span-of in
+    let pre = origin .before .before .pre in
     let G = pre .1 .0 in
     let D = pre .1 .1 in
     let F = framed (pre .1 .3 .0) (pre .1 .3 .1) (span-of .ensures) (count-inner .ensures) in

@@ -148,76 +148,74 @@ lay-out-requires c κs =
     let pre = prior .before .before .before .pre in
     (pre .0, pre .1, sized (pre .2) (pre .3))
 
+-- after the call: the call itself, and the entry
+abbrev called : tie.After-slice-known14 → tie.After-lay-out
+called c =
+    let earlier = c .before .before .before .before in
+    let early = earlier .before .before .before .before in
+    let prior = early .before .before .before .before in
+    prior .before .before
+
+abbrev entered : tie.After-slice-known14 → tie.Start
+entered c =
+    let earlier = called c .before .before .before .before in
+    let early = earlier .before .before .before .before in
+    let prior = early .before .before .before .before in
+    prior .before .before .before .before
+
 same-length : tie.Need-same-length
 same-length c =
-    let earlier = c .before .before .before .before .before .before .before .before in
-    let early = earlier .before .before .before .before .before .before .before .before in
-    let prior = early .before .before .before .before .before .before .before .before in
-    let lay-out = earlier .before .before .before .before .before .before .lay-out in
-    let args = prior .before .before .before .before .before .before .args in
-    length-front (args .parents .now) (lay-out .last .1 .1 .0) (args .sizes .regions) (lay-out .kept .1 .1 .0)
+    let lay-out = called c .lay-out in
+    let args = entered c .args in
+    let z = args .sizes in
+    length-front (args .parents .now) (lay-out .last .1 .1 .0) (z .regions) (lay-out .kept .1 .1 .0)
 
 same-length-2 : tie.Need-same-length-2
 same-length-2 c =
-    let earlier = c .before .before .before .before .before .before .before .before in
-    let early = earlier .before .before .before .before .before .before .before .before in
-    let prior = early .before .before .before .before .before .before .before .before in
-    let lay-out = earlier .before .before .before .before .before .before .lay-out in
-    let args = prior .before .before .before .before .before .before .args in
-    length-front (args .rows .now) (lay-out .last .1 .1 .1 .0) (4 * args .sizes .regions) (lay-out .kept .1 .1 .1 .0)
+    let lay-out = called c .lay-out in
+    let args = entered c .args in
+    let z = args .sizes in
+    length-front (args .rows .now) (lay-out .last .1 .1 .1 .0) (4 * z .regions) (lay-out .kept .1 .1 .1 .0)
 
 same-length-3 : tie.Need-same-length-3
 same-length-3 c =
-    let earlier = c .before .before .before .before .before .before .before .before in
-    let early = earlier .before .before .before .before .before .before .before .before in
-    let prior = early .before .before .before .before .before .before .before .before in
-    let lay-out = earlier .before .before .before .before .before .before .lay-out in
-    let args = prior .before .before .before .before .before .before .args in
-    length-front (args .arcs .now) (lay-out .last .1 .1 .1 .1 .0) (4 * args .sizes .arcs) (lay-out .kept .1 .1 .1 .1 .0)
+    let lay-out = called c .lay-out in
+    let args = entered c .args in
+    let z = args .sizes in
+    length-front (args .arcs .now) (lay-out .last .1 .1 .1 .1 .0) (4 * z .arcs) (lay-out .kept .1 .1 .1 .1 .0)
 
 same-length-4 : tie.Need-same-length-4
 same-length-4 c =
-    let earlier = c .before .before .before .before .before .before .before .before in
-    let early = earlier .before .before .before .before .before .before .before .before in
-    let prior = early .before .before .before .before .before .before .before .before in
-    let lay-out = earlier .before .before .before .before .before .before .lay-out in
-    let args = prior .before .before .before .before .before .before .args in
-    length-front (args .firsts .now) (lay-out .last .1 .1 .1 .1 .1 .0) (args .sizes .nodes) (lay-out .kept .1 .1 .1 .1 .1 .0)
+    let lay-out = called c .lay-out in
+    let args = entered c .args in
+    let z = args .sizes in
+    length-front (args .firsts .now) (lay-out .last .1 .1 .1 .1 .1 .0) (z .nodes) (lay-out .kept .1 .1 .1 .1 .1 .0)
 
 same-length-5 : tie.Need-same-length-5
 same-length-5 c =
-    let earlier = c .before .before .before .before .before .before .before .before in
-    let early = earlier .before .before .before .before .before .before .before .before in
-    let prior = early .before .before .before .before .before .before .before .before in
-    let lay-out = earlier .before .before .before .before .before .before .lay-out in
-    let args = prior .before .before .before .before .before .before .args in
-    length-front (args .lengths .now) (lay-out .last .1 .1 .1 .1 .1 .1 .0) (args .sizes .arcs) (lay-out .kept .1 .1 .1 .1 .1 .1 .0)
+    let lay-out = called c .lay-out in
+    let args = entered c .args in
+    let z = args .sizes in
+    length-front (args .lengths .now) (lay-out .last .1 .1 .1 .1 .1 .1 .0) (z .arcs) (lay-out .kept .1 .1 .1 .1 .1 .1 .0)
 
 same-length-6 : tie.Need-same-length-6
 same-length-6 c =
-    let earlier = c .before .before .before .before .before .before .before .before in
-    let early = earlier .before .before .before .before .before .before .before .before in
-    let prior = early .before .before .before .before .before .before .before .before in
-    let lay-out = earlier .before .before .before .before .before .before .lay-out in
-    let args = prior .before .before .before .before .before .before .args in
-    length-front (args .spans .now) (lay-out .last .1 .1 .1 .1 .1 .1 .1 .0) (args .sizes .spans) (lay-out .kept .1 .1 .1 .1 .1 .1 .1 .0)
+    let lay-out = called c .lay-out in
+    let args = entered c .args in
+    let z = args .sizes in
+    length-front (args .spans .now) (lay-out .last .1 .1 .1 .1 .1 .1 .1 .0) (z .spans) (lay-out .kept .1 .1 .1 .1 .1 .1 .1 .0)
 
 same-length-7 : tie.Need-same-length-7
 same-length-7 c =
-    let earlier = c .before .before .before .before .before .before .before .before in
-    let early = earlier .before .before .before .before .before .before .before .before in
-    let prior = early .before .before .before .before .before .before .before .before in
-    let lay-out = earlier .before .before .before .before .before .before .lay-out in
-    let args = prior .before .before .before .before .before .before .args in
-    length-front (args .regions .now) (lay-out .last .1 .1 .1 .1 .1 .1 .1 .1 .0) (2 * args .sizes .regions) (lay-out .kept .1 .1 .1 .1 .1 .1 .1 .1 .0)
+    let lay-out = called c .lay-out in
+    let args = entered c .args in
+    let z = args .sizes in
+    length-front (args .regions .now) (lay-out .last .1 .1 .1 .1 .1 .1 .1 .1 .0) (2 * z .regions) (lay-out .kept .1 .1 .1 .1 .1 .1 .1 .1 .0)
 
 returns : tie.Need-returns
 returns c =
-    let earlier = c .before .before .before .before .before .before .before .before in
-    let early = earlier .before .before .before .before .before .before .before .before in
-    let prior = early .before .before .before .before .before .before .before .before in
-    let lay-out = earlier .before .before .before .before .before .before .lay-out in
-    let pre = prior .before .before .before .before .before .before .pre in
+    let lay-out = called c .lay-out in
+    let pre = entered c .pre in
     parts-laid (pre .2) (pre .3) (lay-out .kept .1 .1 .1 .1 .0) (lay-out .kept .1 .1 .1 .1 .1 .1 .0) (lay-out .kept .1 .1 .1 .1 .1 .1 .1 .0) (lay-out .ensures)
 
 pub lay-parts-spec : {M : Type 1} → statement M

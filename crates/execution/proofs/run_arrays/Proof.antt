@@ -94,12 +94,16 @@ slice-aggregate-run-tables-2 c =
 
 run-tables-requires : tie.Need-run-tables-requires
 run-tables-requires c κs =
-    let earlier = c .before .before .before .before .before .before .before .before in
-    let early = earlier .before .before .before .before .before .before .before .before in
-    let prior = early .before .before .before .before .before .before .before .before in
-    let lay-parts = earlier .before .before .before .before .before .before .before .lay-parts in
-    let sizes-of = early .before .before .before .before .before .before .before .sizes-of in
-    let pre = prior .before .before .before .before .pre in
+    let earlier = c .before .before .before .before in
+    let early = earlier .before .before .before .before in
+    let prior = early .before .before .before .before in
+    let first = prior .before .before .before .before in
+    let opening = first .before .before .before .before in
+    let origin = opening .before .before .before .before in
+    let outset = origin .before .before .before .before in
+    let lay-parts = prior .before .before .before .lay-parts in
+    let sizes-of = opening .before .before .before .sizes-of in
+    let pre = outset .pre in
     (pre .0 .good, pre .0 .room, sizes-of .ensures, lay-parts .ensures)
 
 same-length : tie.Need-same-length

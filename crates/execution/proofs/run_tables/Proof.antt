@@ -102,15 +102,18 @@ same-length c = c .before .before .write-parts .kept .1 .1 .1 .1 .1 .0
 
 returns : tie.Need-returns
 returns c =
-    let earlier = c .before .before .before .before .before .before .before .before in
-    let early = earlier .before .before .before .before .before .before .before .before in
-    let prior = early .before .before .before .before .before .before .before .before in
-    let has-ended = earlier .has-ended in
-    let rounds = earlier .before .before .rounds in
-    let start = earlier .before .before .before .before .before .before .before .start in
-    let source-of = early .before .before .before .before .before .source-of in
-    let args = prior .before .before .args in
-    let pre = prior .before .before .pre in
+    let earlier = c .before .before .before .before in
+    let early = earlier .before .before .before .before in
+    let prior = early .before .before .before .before in
+    let first = prior .before .before .before .before in
+    let opening = first .before .before .before .before in
+    let origin = opening .before .before .before .before in
+    let has-ended = early .has-ended in
+    let rounds = early .before .before .rounds in
+    let start = prior .before .before .before .start in
+    let source-of = opening .before .source-of in
+    let args = origin .before .before .args in
+    let pre = origin .before .before .pre in
     let b = args .s .now in
     let counted = pre .2 .regions-all ∙ sym (division-regions b) in
     let S = start .ensures (graphOf b) (divisionOf b) (args .lengths .now) (args .spans .now) (args .regions .now) (blank (pre .3)) (source-of .ensures)
