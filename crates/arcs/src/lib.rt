@@ -50,7 +50,7 @@ fn ends_outside(s: &[u8], at: Sections, a: Arc) -> bool
     end_outside(s, at, a, true)
 }
 
-// Refusals 8 and 9: the number, or 0. Both are looked for in one pass over the arcs, and 8 goes before 9.
+// Refusals 8 and 9: the number, or 0. Both are looked for in one pass over the arcs.
 fn field_refusal(s: &[u8], at: Sections) -> u8
     requires { ⌜ Located (now s) at × (arcCount (now s) ≤ mostArcs) ⌝ }
     ensures { λ r. ⌜ numbered r ≡ lowest (fieldRefusals (now (s .entry))) accepted ⌝ }

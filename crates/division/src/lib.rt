@@ -22,8 +22,7 @@ pub fn larger(a: u16, b: u16) -> u16
 }
 
 // Refusals 13 and 14 in one pass from the last region back, where refusal 11 does not apply: the number, or 0. Each region hands its height and one more
-// to its parent, which keeps the largest, so that a region whose turn comes with 0 has no child: an inner one must hold
-// 1 at least.
+// to its parent, which keeps the largest, so that a region whose turn comes with 0 has no child; an inner one must hold 1 at least.
 fn nesting_refusal(d: &[u8], spans: usize) -> u8
     requires { ⌜ (words (now d) ≤ mostRegionWords) × (wrongParents (now d) ≡ false) ⌝ }
     ensures { λ r. ⌜ numbered r ≡ lowest (nestingRefusals (now (d .entry)) spans) accepted ⌝ }

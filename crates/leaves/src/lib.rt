@@ -40,7 +40,7 @@ pub fn bit_set(d: &[u8]) -> bool
     false
 }
 
-// How many leaves each arc has. A word that is no leaf adds 0 instead of being passed over: no branch hangs on it.
+// How many leaves each arc has. A word that is no leaf adds 0, so that there is no branch on its kind.
 fn count_leaves(d: &[u8]) -> Counters
     requires { ⌜ words (now d) ≤ mostRegionWords ⌝ }
     ensures { λ r. ⌜ (length (r .n) ≡ 2048) × Tally (leafOfArc (now (d .entry))) mostRegionWords (r .n) (words (now (d .entry))) ⌝ }
@@ -58,7 +58,7 @@ fn count_leaves(d: &[u8]) -> Counters
     Counters { n: seen }
 }
 
-// Refusal 12, of so many arcs: one leaf for each of them, and none for a number beyond.
+// Refusal 12, of so many arcs: one of them has no leaf or several, or a number beyond them has one.
 pub fn wrong_leaves(d: &[u8], arcs: u16) -> bool
     requires { ⌜ (words (now d) ≤ mostRegionWords) × (arcs ≤ mostArcs) ⌝ }
     ensures { λ r. ⌜ r ≡ wrongLeaves (now (d .entry)) arcs ⌝ }
