@@ -1,4 +1,4 @@
-// The lines of a listing after its first: node, distance, feeding arc.
+// The lines of a listing after its first, each node, distance and feeding arc, written into a lent buffer from a place on.
 ghost use Prim.Native.Nat.{_+_, _*_, _≤_};
 ghost use lib.ListN.{length};
 ghost use Rattle.answers.specs.Tables.{tableLength};

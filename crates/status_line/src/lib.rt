@@ -1,4 +1,4 @@
-// The first line of a listing: status and counts.
+// The first line of a listing, status and counts, written into a lent buffer from a place on.
 ghost use mathlib.Core.List.{_++_};
 ghost use Prim.Native.Nat.{_+_, _≤_, _<_};
 ghost use lib.ListN.{length};

@@ -1,4 +1,4 @@
-// The fields of an answer table: read, and written into a lent buffer.
+// The fields of an answer table: read, and written into a lent buffer from a place on.
 ghost use mathlib.Core.Path.{_≡_};
 ghost use Prim.Native.Nat.{_≤_, _<_};
 ghost use lib.ListN.{length};

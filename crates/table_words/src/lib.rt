@@ -1,4 +1,4 @@
-// The words of an answer table, and the two words of a node or a count written to their places.
+// The words of an answer table, and the two words of a node or of a count, written from a place on.
 ghost use mathlib.Core.Path.{_≡_};
 ghost use mathlib.Core.List.{[], _∷_};
 ghost use Prim.Native.Nat.{_+_, _^_, _<_};

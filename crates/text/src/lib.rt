@@ -1,4 +1,4 @@
-// Texts and numbers, written into a lent buffer from a place on.
+// Texts and numbers, written into a lent buffer: each function writes from a place on, and returns the place after what it wrote.
 ghost use mathlib.Core.List.{[], _∷_};
 ghost use Prim.Native.Nat.{_<_};
 ghost use lib.ListN.{length};
@@ -13,7 +13,6 @@ pub fn put_byte(byte: u8, out: &mut [u8], at: usize) -> usize
     at + 1
 }
 
-// Writes a text at a place of the buffer, and returns the place after it; so does each function below.
 pub fn put_text(text: &[u8], out: &mut [u8], at: usize) -> usize
     requires { ⌜ Room (now out) at (now text) ⌝ }
     ensures { λ r. ⌜ Wrote (now (out .entry)) at (now (text .entry)) (now (out .exit)) r ⌝ }
