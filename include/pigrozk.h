@@ -20,9 +20,9 @@
 extern "C" {
 #endif
 
-/* A stack of so many bytes has room for each call. No theorem speaks of a stack: tests/c/stack.c measures it, on a sheet of height 15, as 150,151 bytes for
- * a run, 18,743 for a route and 19,703 for a judgement. */
-#define PIGROZK_STACK_BYTES 163840
+/* A stack of so many bytes has room for each call. No theorem speaks of a stack: tests/c/stack.c measures it, on a sheet of height 15, as 175,559 bytes for
+ * a run, 11,543 for a route and 9,367 for a judgement. */
+#define PIGROZK_STACK_BYTES 196608
 
 /* The limits of a sheet that is accepted. */
 #define PIGROZK_MOST_BYTES 32828

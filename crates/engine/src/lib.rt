@@ -18,14 +18,19 @@ use counts::Counts;
 use queue::NONE;
 use sheet::Node;
 use sheet::Region;
+use slices::ARCS;
 use slices::INNER;
+use slices::NODES;
+use slices::PLACES;
+use slices::REGION_ROWS;
+use slices::ROWS;
 
 // The smallest key of any region.
 fn key_of(
-    rows: &[u16; 16380],
-    regions: &[u16; 8190],
-    own: &[u32; 2048],
-    winners: &[u64; 8190],
+    rows: &[u16; ROWS],
+    regions: &[u16; REGION_ROWS],
+    own: &[u32; ARCS],
+    winners: &[u64; PLACES],
     r: Region,
 ) -> u32
     requires { ⌜ ((m : ℕ) × (d : Division) × (keys : List ℕ) × Keyed m d (now rows) (now regions) (take m (now own)) keys (now winners) (r .0)) ⌝ }
@@ -43,16 +48,16 @@ fn key_of(
 
 // Works region r: a leaf, or an inner region by its loop.
 fn process_region(
-    rows: &[u16; 16380],
+    rows: &[u16; ROWS],
     arcs: &[u16],
-    firsts: &[u16; 1024],
-    lengths: &[u32; 2048],
+    firsts: &[u16; NODES],
+    lengths: &[u32; ARCS],
     spans: &[u32],
-    regions: &[u16; 8190],
-    labels: &mut [u32; 1024],
-    predecessors: &mut [u32; 1024],
-    own: &mut [u32; 2048],
-    winners: &mut [u64; 8190],
+    regions: &[u16; REGION_ROWS],
+    labels: &mut [u32; NODES],
+    predecessors: &mut [u32; NODES],
+    own: &mut [u32; ARCS],
+    winners: &mut [u64; PLACES],
     r: Region,
     c: Counts,
 ) -> Counts
@@ -100,16 +105,16 @@ fn process_region(
 
 // Works the inner region r: up to span times, while its smallest key isn't none, its first-chosen child is worked and gets its key anew.
 fn process_inner(
-    rows: &[u16; 16380],
+    rows: &[u16; ROWS],
     arcs: &[u16],
-    firsts: &[u16; 1024],
-    lengths: &[u32; 2048],
+    firsts: &[u16; NODES],
+    lengths: &[u32; ARCS],
     spans: &[u32],
-    regions: &[u16; 8190],
-    labels: &mut [u32; 1024],
-    predecessors: &mut [u32; 1024],
-    own: &mut [u32; 2048],
-    winners: &mut [u64; 8190],
+    regions: &[u16; REGION_ROWS],
+    labels: &mut [u32; NODES],
+    predecessors: &mut [u32; NODES],
+    own: &mut [u32; ARCS],
+    winners: &mut [u64; PLACES],
     r: Region,
     c: Counts,
 ) -> Counts
@@ -155,13 +160,13 @@ fn process_inner(
 // The state before the first round, made in arrays that may hold anything. There are `count` regions. Lengths, spans and the
 // regions' rows are not read.
 pub fn start(
-    rows: &[u16; 16380],
+    rows: &[u16; ROWS],
     arcs: &[u16],
-    firsts: &[u16; 1024],
-    labels: &mut [u32; 1024],
-    predecessors: &mut [u32; 1024],
-    own: &mut [u32; 2048],
-    winners: &mut [u64; 8190],
+    firsts: &[u16; NODES],
+    labels: &mut [u32; NODES],
+    predecessors: &mut [u32; NODES],
+    own: &mut [u32; ARCS],
+    winners: &mut [u64; PLACES],
     source: Node,
     count: u16,
 ) -> Counts
@@ -190,7 +195,7 @@ pub fn start(
 }
 
 // Whether the run has ended.
-pub fn has_ended(rows: &[u16; 16380], winners: &[u64; 8190]) -> bool
+pub fn has_ended(rows: &[u16; ROWS], winners: &[u64; PLACES]) -> bool
     requires { ⌜ ((d : Division) × (keys : List ℕ) × QueuesOk d (now rows) keys (now winners)) ⌝ }
     ensures { λ b. ⌜ ((g : Graph) (d : Division) (labels predecessors own keys : List ℕ) (c : Counts)
         → QueuesOk d (now (rows .entry)) keys (now (winners .entry)) → isLeaf d 0 ≡ false → b ≡ ended g d (stateOf labels predecessors own keys c)) ⌝ }
@@ -200,16 +205,16 @@ pub fn has_ended(rows: &[u16; 16380], winners: &[u64; 8190]) -> bool
 
 // One round: one working of region 0, which is never a leaf.
 fn round(
-    rows: &[u16; 16380],
+    rows: &[u16; ROWS],
     arcs: &[u16],
-    firsts: &[u16; 1024],
-    lengths: &[u32; 2048],
+    firsts: &[u16; NODES],
+    lengths: &[u32; ARCS],
     spans: &[u32],
-    regions: &[u16; 8190],
-    labels: &mut [u32; 1024],
-    predecessors: &mut [u32; 1024],
-    own: &mut [u32; 2048],
-    winners: &mut [u64; 8190],
+    regions: &[u16; REGION_ROWS],
+    labels: &mut [u32; NODES],
+    predecessors: &mut [u32; NODES],
+    own: &mut [u32; ARCS],
+    winners: &mut [u64; PLACES],
     c: Counts,
 ) -> Counts
     requires { ⌜ (let t = tablesOf (now rows) (now arcs) (now firsts) (now lengths) (now spans) (now regions) in
@@ -240,16 +245,16 @@ fn round(
 
 // At most `limit` more rounds, from a state after any number of them.
 pub fn rounds(
-    rows: &[u16; 16380],
+    rows: &[u16; ROWS],
     arcs: &[u16],
-    firsts: &[u16; 1024],
-    lengths: &[u32; 2048],
+    firsts: &[u16; NODES],
+    lengths: &[u32; ARCS],
     spans: &[u32],
-    regions: &[u16; 8190],
-    labels: &mut [u32; 1024],
-    predecessors: &mut [u32; 1024],
-    own: &mut [u32; 2048],
-    winners: &mut [u64; 8190],
+    regions: &[u16; REGION_ROWS],
+    labels: &mut [u32; NODES],
+    predecessors: &mut [u32; NODES],
+    own: &mut [u32; ARCS],
+    winners: &mut [u64; PLACES],
     limit: u64,
     c: Counts,
 ) -> Counts

@@ -11,7 +11,15 @@ ghost use Rattle.table.specs.Writable.{countsOf, Writable};
 ghost use Rattle.layout.specs.Layout.{Laid};
 ghost use Rattle.execution.specs.Runnable.{Runnable, InUse, Arrays, Outcome};
 use counts::Counts;
+use sheet::MOST_SPANS;
 use sheet::Sections;
+use slices::ARCS;
+use slices::ARC_ROWS;
+use slices::NODES;
+use slices::PLACES;
+use slices::REGIONS;
+use slices::REGION_ROWS;
+use slices::ROWS;
 
 // How much of each array is in use.
 struct Sizes {
@@ -41,16 +49,16 @@ fn write_parts(
 fn run_tables(
     s: &[u8],
     sizes: Sizes,
-    rows: &[u16; 16380],
+    rows: &[u16; ROWS],
     arcs: &[u16],
-    firsts: &[u16; 1024],
-    lengths: &[u32; 2048],
+    firsts: &[u16; NODES],
+    lengths: &[u32; ARCS],
     spans: &[u32],
-    regions: &[u16; 8190],
-    labels: &mut [u32; 1024],
-    predecessors: &mut [u32; 1024],
-    own: &mut [u32; 2048],
-    winners: &mut [u64; 8190],
+    regions: &[u16; REGION_ROWS],
+    labels: &mut [u32; NODES],
+    predecessors: &mut [u32; NODES],
+    own: &mut [u32; ARCS],
+    winners: &mut [u64; PLACES],
     limit: u64,
     table: &mut [u32],
 ) -> bool
@@ -141,17 +149,17 @@ fn lay_parts(
 fn run_arrays(
     s: &[u8],
     at: Sections,
-    parents: &mut [u16; 4095],
-    rows: &mut [u16; 16380],
+    parents: &mut [u16; REGIONS],
+    rows: &mut [u16; ROWS],
     arcs: &mut [u16],
-    firsts: &mut [u16; 1024],
-    lengths: &mut [u32; 2048],
+    firsts: &mut [u16; NODES],
+    lengths: &mut [u32; ARCS],
     spans: &mut [u32],
-    regions: &mut [u16; 8190],
-    labels: &mut [u32; 1024],
-    predecessors: &mut [u32; 1024],
-    own: &mut [u32; 2048],
-    winners: &mut [u64; 8190],
+    regions: &mut [u16; REGION_ROWS],
+    labels: &mut [u32; NODES],
+    predecessors: &mut [u32; NODES],
+    own: &mut [u32; ARCS],
+    winners: &mut [u64; PLACES],
     limit: u64,
     table: &mut [u32],
 ) -> bool
@@ -196,17 +204,17 @@ pub fn run_accepted(s: &[u8], at: Sections, limit: u64, table: &mut [u32]) -> bo
     requires { ⌜ Runnable (now s) at (now table) ⌝ }
     ensures { λ e. ⌜ Outcome (now (s .entry)) limit e (now (table .exit)) ⌝ }
 {
-    let mut parents = [0u16; 4095];
-    let mut rows = [0u16; 16380];
-    let mut arcs = [0u16; 8192];
-    let mut firsts = [0u16; 1024];
-    let mut lengths = [0u32; 2048];
-    let mut spans = [0u32; 15];
-    let mut regions = [0u16; 8190];
-    let mut labels = [0u32; 1024];
-    let mut predecessors = [0u32; 1024];
-    let mut own = [0u32; 2048];
-    let mut winners = [0u64; 8190];
+    let mut parents = [0u16; REGIONS];
+    let mut rows = [0u16; ROWS];
+    let mut arcs = [0u16; ARC_ROWS];
+    let mut firsts = [0u16; NODES];
+    let mut lengths = [0u32; ARCS];
+    let mut spans = [0u32; MOST_SPANS];
+    let mut regions = [0u16; REGION_ROWS];
+    let mut labels = [0u32; NODES];
+    let mut predecessors = [0u32; NODES];
+    let mut own = [0u32; ARCS];
+    let mut winners = [0u64; PLACES];
     run_arrays(
         s,
         at,

@@ -22,33 +22,33 @@ row-in r C l = omega (arith, C .all)
 module _ {d : Division} {rows keys winners : List ℕ} (Q : QueuesOk d rows keys winners) (r : ℕ) (inside : r < regions d) where
   -- its row says that r has no child
   pub item-none : field rows r 1 ≡ 0 → minItem d keys r ≡ 0
-  item-none e = minItem-childless Q r (sym (Q .laid .planned .counted .counts r inside) ∙ e)
+  item-none e = minItem-childless Q r (sym (Q .entered .laid .planned .counted .counts r inside) ∙ e)
 
   pub key-none : field rows r 1 ≡ 0 → IsMinKey d keys r top
   key-none e = λ inner own updates. sym (minKey-none d (record { own = own; keys = keys; updates = updates }) r inner (item-none e))
 
   module _ (some : field rows r 1 ≢ 0) where
     count-some : 0 < childCount d r
-    count-some = omega (arith, Q .laid .planned .counted .counts r inside)
+    count-some = omega (arith, Q .entered .laid .planned .counted .counts r inside)
 
     -- it stands at the first place of r's tree
     pub first-in : field rows r 2 + 1 < length winners
-    first-in = omega (arith, Q .laid .planned .starts r inside, count-some, tree-room d r, Q .laid .room)
+    first-in = omega (arith, Q .entered .laid .planned .starts r inside, count-some, tree-room d r, Q .entered .laid .room)
 
     child : Child d r (minItem d keys r)
     child = minItem-place Q r count-some .0
 
     held : at winners (field rows r 2 + 1) ≡ entry keys (minItem d keys r)
-    held = rw (Q .laid .planned .starts r inside) (minItem-place Q r count-some .1)
+    held = rw (Q .entered .laid .planned .starts r inside) (minItem-place Q r count-some .1)
 
     pub item-some : at winners (field rows r 2 + 1) % 65536 ≡ minItem d keys r
-    item-some = omega (arith, held, child .in-range, Q .laid .planned .counted .numbered .few)
+    item-some = omega (arith, held, child .in-range, Q .entered .laid .planned .counted .numbered .few)
 
     key-is : at winners (field rows r 2 + 1) / 65536 ≡ at keys (minItem d keys r)
-    key-is = omega (arith, held, child .in-range, Q .laid .planned .counted .numbered .few)
+    key-is = omega (arith, held, child .in-range, Q .entered .laid .planned .counted .numbered .few)
 
     pub key-fits : at winners (field rows r 2 + 1) / 65536 < 4294967296
-    key-fits = omega (arith, key-is, Q .fit (minItem d keys r))
+    key-fits = omega (arith, key-is, Q .entered .fit (minItem d keys r))
 
     pub key-some : IsMinKey d keys r (at winners (field rows r 2 + 1) / 65536)
     key-some = λ inner own updates. key-is ∙ minKey-item d (record { own = own; keys = keys; updates = updates }) r inner (child .positive)

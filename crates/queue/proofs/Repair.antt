@@ -13,7 +13,7 @@ use Rattle.theory.proofs.Chosen.{parent-child}
 use Rattle.rows.specs.Rows.{field, rowCount}
 use Rattle.queue.specs.Trees.{entry, Siblings, childCount, treeStart, seat, place, Decided, Planned, LaidOut, QueuesOk, Entered, ValidBelow}
 use Rattle.queue.proofs.Seats.{tree-room, seat-low, seat-high, parent-in}
-use Rattle.queue.proofs.Trees.{place-in, place-same, seat-elim, ValidBut, valid, valid-all, laid-set, decided, written}
+use Rattle.queue.proofs.Trees.{place-in, place-same, seat-elim, ValidBut, valid-all, laid-set, decided, written}
 use Rattle.queue.proofs.Reading.{row-in}
 
 -- c's row and that of its parent `up`
@@ -56,12 +56,12 @@ pub repair-start : {d : Division} {rows keys winners : List ℕ} (c k up start p
     → Repairing d up rows (set keys c k) (set winners (start + p) best) p best
 repair-start {d} {rows} {keys} {winners} c k up start p best Q pos inside small over row own is =
     let h = parent-child d c pos inside in
-    let P = Q .laid .planned in
+    let P = Q .entered .laid .planned in
     rw (seat-at P c up pos inside over start p row own, is, over, own ∙ P .seats c pos inside) (record {
       valid = written c k Q pos inside small;
       low = omega (arith, seat-low d h, seat-high d h);
       high = seat-high d h;
-      held = seat-elim d winners (Q .laid .room) c (k * 65536 + c) pos inside (λ y. y ≡ k * 65536 + c) c pos inside (λ _. refl) (λ n. absurd (n refl));
+      held = seat-elim d winners (Q .entered .laid .room) c (k * 65536 + c) pos inside (λ y. y ≡ k * 65536 + c) c pos inside (λ _. refl) (λ n. absurd (n refl));
     })
 
 module _ {d : Division} {r : ℕ} {rows keys winners : List ℕ} {a best : ℕ} (R : Repairing d r rows keys winners a best)
@@ -221,6 +221,7 @@ pub valid-none : {d : Division} {rows keys winners : List ℕ} → Entered d row
 valid-none E = record { entered = E; wins = λ r p l. absurd (omega arith) }
 
 pub valid-regions : {d : Division} {rows keys winners : List ℕ} {n : ℕ} → ValidBelow d rows keys winners n → regions d ≤ n → QueuesOk d rows keys winners
-valid-regions {d} B l =
-    valid (B .entered)
-    (λ r p pos h. B .wins r p (omega (arith, parent-in d (B .entered .laid .planned .counted .numbered .lower) r (omega arith))) pos h)
+valid-regions {d} B l = record {
+  entered = B .entered;
+  wins = λ r p pos h. B .wins r p (omega (arith, parent-in d (B .entered .laid .planned .counted .numbered .lower) r (omega arith))) pos h;
+}

@@ -92,14 +92,10 @@ pub record ValidBut (d : Division) (rows keys winners : List ℕ) (Open : ℕ �
   pub entered : Entered d rows keys winners
   pub rest : (r p : ℕ) → 0 < p → p < childCount d r → Wins d winners r p ⊎ Open r p
 
-pub valid : {d : Division} {rows keys winners : List ℕ} → Entered d rows keys winners → ((r p : ℕ) → 0 < p → p < childCount d r → Wins d winners r p)
-    → QueuesOk d rows keys winners
-valid E wins = record { laid = E .laid; keyed = E .keyed; fit = E .fit; stands = E .stands; wins = wins }
-
 -- what was open is decided
 pub valid-all : {d : Division} {rows keys winners : List ℕ} {Open : ℕ → ℕ → Type 0} → ValidBut d rows keys winners Open
     → ((r p : ℕ) → 0 < p → p < childCount d r → Open r p → Wins d winners r p) → QueuesOk d rows keys winners
-valid-all B rest = valid (B .entered) (λ r p pos l. ⊎-elim (λ w. w) (λ o. rest r p pos l o) (B .rest r p pos l))
+valid-all B rest = record { entered = B .entered; wins = λ r p pos l. ⊎-elim (λ w. w) (λ o. rest r p pos l o) (B .rest r p pos l) }
 
 -- winners that were stored to are laid out still
 pub laid-set : {d : Division} {rows winners : List ℕ} (i x : ℕ) → LaidOut d rows winners → LaidOut d rows (set winners i x)
@@ -140,20 +136,20 @@ pub written : {d : Division} {rows keys winners : List ℕ} (c k : ℕ) → Queu
     → ValidBut d rows (set keys c k) (set winners (treeStart d (parent d c) + seat d c) (k * 65536 + c)) (λ r q. (r ≡ parent d c) × (q ≡ seat d c / 2))
 written {d} {rows} {keys} {winners} c k Q pos inside small =
     let h = parent-child d c pos inside in
-    let keyed : c < length keys = omega (arith, Q .keyed) in
+    let keyed : c < length keys = omega (arith, Q .entered .keyed) in
     record {
       entered =
           record {
-            laid = laid-set (treeStart d (parent d c) + seat d c) (k * 65536 + c) (Q .laid);
-            keyed = simp length-set (Q .keyed);
-            fit = λ i. set-elim (λ y. y < 4294967296) keys c i k 0 keyed (λ _. small) (λ _. Q .fit i);
+            laid = laid-set (treeStart d (parent d c) + seat d c) (k * 65536 + c) (Q .entered .laid);
+            keyed = simp length-set (Q .entered .keyed);
+            fit = λ i. set-elim (λ y. y < 4294967296) keys c i k 0 keyed (λ _. small) (λ _. Q .entered .fit i);
             stands =
                 λ b pb lb.
-                seat-elim d winners (Q .laid .room) c (k * 65536 + c) pos inside (λ y. y ≡ entry (set keys c k) b) b pb lb
-                (λ e. rw (e, getD-set-same keys c k 0 keyed)) (λ n. rw (getD-set-other keys c b k 0 n) (Q .stands b pb lb));
+                seat-elim d winners (Q .entered .laid .room) c (k * 65536 + c) pos inside (λ y. y ≡ entry (set keys c k) b) b pb lb
+                (λ e. rw (e, getD-set-same keys c k 0 keyed)) (λ n. rw (getD-set-other keys c b k 0 n) (Q .entered .stands b pb lb));
           };
       rest =
-          rest-kept d winners (Q .laid .room) (parent d c) (seat d c) (k * 65536 + c) (seat-high d h) (λ _ _. ⊥)
+          rest-kept d winners (Q .entered .laid .room) (parent d c) (seat d c) (k * 65536 + c) (seat-high d h) (λ _ _. ⊥)
           (λ r q. (r ≡ parent d c) × (q ≡ seat d c / 2)) (λ r q p l. inl (Q .wins r q p l)) (λ r q o. absurd o)
           (λ l. absurd (omega (arith, seat-low d h))) (λ _. (refl, refl));
     }
@@ -174,7 +170,7 @@ module _ {d : Division} {rows keys winners : List ℕ} (Q : QueuesOk d rows keys
       (λ (h : childCount d r ≤ q).
       let f = place-child d r q h l in
       let k = f .1 in
-      (f .0, k, rw (k .under, f .2) at (Q .stands (f .0) (k .positive) (k .in-range))))
+      (f .0, k, rw (k .under, f .2) at (Q .entered .stands (f .0) (k .positive) (k .in-range))))
       (lt-or-le q (childCount d r))
 
   held : (r f q : ℕ) → 0 < q → q < 2 * childCount d r → 2 * childCount d r ≤ q + f → Held r q
@@ -206,7 +202,7 @@ module _ {d : Division} {rows keys winners : List ℕ} (Q : QueuesOk d rows keys
   minItem-place r some =
       let h = held r (2 * childCount d r) 1 (omega arith) (omega arith) (omega arith) in
       let k = h .1 in
-      let few = Q .laid .planned .counted .numbered .few in
+      let few = Q .entered .laid .planned .counted .numbered .few in
       let e : minItem d keys r ≡ h .0 =
       first-one d keys r (regions d) (minItem d keys r) (h .0) (minItem-first d keys r)
       (record {
@@ -215,7 +211,7 @@ module _ {d : Division} {rows keys winners : List ℕ} (Q : QueuesOk d rows keys
         least =
             λ c l pos u.
             let b : Child d r c = record { in-range = l; positive = pos; under = u } in
-            let at-seat : place d winners r (seat d c) ≡ entry keys c = rw u at (Q .stands c pos l) in
+            let at-seat : place d winners r (seat d c) ≡ entry keys c = rw u at (Q .entered .stands c pos l) in
             let lowest = first-lowest r (seat d c) (seat d c) (omega arith) (omega (arith, seat-low d b)) (seat-high d b) in
             entry-behind d keys c (h .0) (omega (arith, few)) (omega (arith, few, k .in-range)) (omega (arith, lowest, at-seat, h .2));
       }) in

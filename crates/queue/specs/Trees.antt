@@ -100,23 +100,19 @@ pub record LaidOut (d : Division) (rows winners : List ℕ) : Type 0 where
   pub planned : Planned d rows
   pub room : 2 * regions d ≤ length winners
 
--- The queues are valid: there is a key of 32 bits for each region, each region but 0 stands with its key at its place in its parent's tree, and
--- every place above holds what it should.
-pub record QueuesOk (d : Division) (rows keys winners : List ℕ) : Type 0 where
-  pub laid : LaidOut d rows winners
-  pub keyed : length keys ≡ regions d
-  pub fit : (c : ℕ) → at keys c < 4294967296
-  pub stands : (c : ℕ) → 0 < c → c < regions d → place d winners (parent d c) (seat d c) ≡ entry keys c
-  pub wins : (r p : ℕ) → 0 < p → p < childCount d r → Wins d winners r p
-
--- The same, but for the places above: the children are entered,
+-- The children are entered: there is a key of 32 bits for each region, and each region but 0 stands with its key at its place in its parent's tree.
 pub record Entered (d : Division) (rows keys winners : List ℕ) : Type 0 where
   pub laid : LaidOut d rows winners
   pub keyed : length keys ≡ regions d
   pub fit : (c : ℕ) → at keys c < 4294967296
   pub stands : (c : ℕ) → 0 < c → c < regions d → place d winners (parent d c) (seat d c) ≡ entry keys c
 
--- and then the trees of the regions below n are valid.
+-- The queues are valid: the children are entered, and every place above them holds what it should.
+pub record QueuesOk (d : Division) (rows keys winners : List ℕ) : Type 0 where
+  pub entered : Entered d rows keys winners
+  pub wins : (r p : ℕ) → 0 < p → p < childCount d r → Wins d winners r p
+
+-- The same of the trees of the regions below n alone.
 pub record ValidBelow (d : Division) (rows keys winners : List ℕ) (n : ℕ) : Type 0 where
   pub entered : Entered d rows keys winners
   pub wins : (r p : ℕ) → r < n → 0 < p → p < childCount d r → Wins d winners r p

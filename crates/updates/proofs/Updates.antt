@@ -139,7 +139,7 @@ module _ {g : Graph} {d : Division} {rows arcRows : List ℕ} {q : Queues} {winn
 
     -- the leaf has a parent
     pub leaf-parent-asks : Counted d rows × (0 < leaf) × (leaf < regions d)
-    leaf-parent-asks = (U .updatable .queues .laid .planned .counted, rw is-leaf leaf-positive, rw is-leaf leaf-in)
+    leaf-parent-asks = (U .updatable .queues .entered .laid .planned .counted, rw is-leaf leaf-positive, rw is-leaf leaf-in)
 
 -- the own keys are the front of an array
 module _ {g : Graph} {d : Division} {rows arcRows : List ℕ} (own : List ℕ) {keys winners : List ℕ} {count a k : ℕ}

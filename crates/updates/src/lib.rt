@@ -15,6 +15,11 @@ use queue::NONE;
 use sheet::Arc;
 use sheet::Node;
 use sheet::Region;
+use slices::ARCS;
+use slices::NODES;
+use slices::PLACES;
+use slices::REGION_ROWS;
+use slices::ROWS;
 
 fn wide(x: u32) -> u64
     ensures { λ r. ⌜ (r ≡ x) × (r < 4294967296) ⌝ }
@@ -24,8 +29,8 @@ fn wide(x: u32) -> u64
 
 // Updates item `item` of region r, which is inner, with a key. Own keys are the leaves', so they do not travel up.
 fn update(
-    rows: &[u16; 16380],
-    winners: &mut [u64; 8190],
+    rows: &[u16; ROWS],
+    winners: &mut [u64; PLACES],
     r: Region,
     item: Region,
     key: u32,
@@ -51,10 +56,10 @@ fn update(
 
 // Updates arc a: its own key, and from its leaf's parent on where that key fell.
 fn update_arc(
-    rows: &[u16; 16380],
+    rows: &[u16; ROWS],
     arcs: &[u16],
-    own: &mut [u32; 2048],
-    winners: &mut [u64; 8190],
+    own: &mut [u32; ARCS],
+    winners: &mut [u64; PLACES],
     a: Arc,
     key: u32,
     count: u64,
@@ -84,11 +89,11 @@ fn update_arc(
 
 // Updates the arcs that leave v, in arc order.
 pub fn update_outgoing(
-    rows: &[u16; 16380],
+    rows: &[u16; ROWS],
     arcs: &[u16],
-    firsts: &[u16; 1024],
-    own: &mut [u32; 2048],
-    winners: &mut [u64; 8190],
+    firsts: &[u16; NODES],
+    own: &mut [u32; ARCS],
+    winners: &mut [u64; PLACES],
     v: Node,
     key: u32,
     count: u64,
@@ -112,15 +117,15 @@ pub fn update_outgoing(
 
 // Works the leaf r.
 pub fn process_leaf(
-    rows: &[u16; 16380],
+    rows: &[u16; ROWS],
     arcs: &[u16],
-    firsts: &[u16; 1024],
-    lengths: &[u32; 2048],
-    regions: &[u16; 8190],
-    labels: &mut [u32; 1024],
-    predecessors: &mut [u32; 1024],
-    own: &mut [u32; 2048],
-    winners: &mut [u64; 8190],
+    firsts: &[u16; NODES],
+    lengths: &[u32; ARCS],
+    regions: &[u16; REGION_ROWS],
+    labels: &mut [u32; NODES],
+    predecessors: &mut [u32; NODES],
+    own: &mut [u32; ARCS],
+    winners: &mut [u64; PLACES],
     r: Region,
     c: Counts,
 ) -> Counts

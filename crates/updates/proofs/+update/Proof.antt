@@ -98,7 +98,7 @@ update-parent-of-requires t c κs =
     let if1 = c .before .before .before .if1 in
     let pre = first .pre in
     let U = pre .1 .3 in
-    (pre .1 .0, U .queues .laid .planned .counted, omega (arith, if1 .left), region-in U)
+    (pre .1 .0, U .queues .entered .laid .planned .counted, omega (arith, if1 .left), region-in U)
 
 update-add-update : (t : ℕ) → update-lts.Need-add-update (update-heard t) (update-at t) update.Post
 update-add-update t c =
@@ -127,7 +127,7 @@ update-update-requires t c κs =
     let before = min-key .ensures (pre .1 .0) (pre .1 .2) (U .queues) (region-in U) (region-inner U) (pre .1 .1) _ in
     let after = min-key2 .ensures (pre .1 .0) _ valid (region-in U) (region-inner U) (pre .1 .1) _ in
     let pos : 0 < args .r .0 = omega (arith, if1 .left) in
-    let up = c .parent-of .ensures (pre .1 .0) (U .queues .laid .planned .counted) (region-in U) in (
+    let up = c .parent-of .ensures (pre .1 .0) (U .queues .entered .laid .planned .counted) (region-in U) in (
       omega (arith, pre .0, up-lower U valid before after pos (if2 .left) up),
       (pre .1 .0, pre .1 .1, _, climb-asks U valid before after pos (if2 .left) up),
     )
@@ -149,7 +149,7 @@ update-returns-3 t c =
     let before = min-key .ensures d keys (U .queues) (region-in U) (region-inner U) own _ in
     let after = min-key2 .ensures d _ valid (region-in U) (region-inner U) own _ in
     let pos : 0 < args .r .0 = omega (arith, if1 .left) in
-    let up = c .before .parent-of .ensures d (U .queues .laid .planned .counted) (region-in U) in
+    let up = c .before .parent-of .ensures d (U .queues .entered .laid .planned .counted) (region-in U) in
     let done = c .update .ensures d own _ (climb-asks U valid before after pos (if2 .left) up) in
     (done .0, climbed U valid before after pos (if2 .left) up (done .1))
 
