@@ -16,26 +16,10 @@ use Rattle.queue.specs.Trees.{Planned}
 use Rattle.slices.specs.Tables.{ArcLinks, RegionRows, tablesOf}
 use Rattle.procedure.proofs.OfSheet.{graph-arcs}
 use Rattle.layout.specs.Layout.{Sized, Laid}
-use Rattle.execution.specs.declared.Sizes.{Sizes}
-use Rattle.execution.specs.Runnable.{InUse, Arrays}
-
--- the sizes of an accepted sheet, where d is its region words
-pub in-use : {b : List ℕ} {at : Sections} {n : ℕ} {d : List ℕ} → Accepted b → Located b at → n ≡ nodeCount b → d ≡ regionWords b
-    → InUse b (record { nodes = n; arcs = at .arcs; spans = at .spans; regions = length d / 4 + 1 })
-in-use {b} ok found en ed = record {
-  nodes-all = en;
-  arcs-all = found .arcs-all;
-  spans-all = found .spans-all;
-  regions-all = omega (arith, ap length ed);
-  few-nodes = omega (arith, few-nodes b ok);
-  few-arcs = omega (arith, few-arcs b ok, found .arcs-all);
-  few-spans = omega (arith, few-spans b ok, found .spans-all);
-  few-regions = omega (arith, few-region-words b ok, ap length ed);
-}
-
--- a part that fits has its length
-pub part-length : (l : List ℕ) (n : ℕ) {room : ℕ} → length l ≡ room → n ≤ room → n ≡ length (take n l)
-part-length l n e h = sym (length-take-le n l (omega arith))
+use Rattle.sizes.specs.declared.Sizes.{Sizes}
+use Rattle.sizes.specs.InUse.{InUse}
+use Rattle.sizes.proofs.Parts.{part-length}
+use Rattle.execution.specs.Runnable.{Arrays}
 
 part : (l : List ℕ) (n room m : ℕ) → length l ≡ room → n ≤ room → n ≡ m → length (take n l) ≡ m
 part l n room m e h s = sym (part-length l n e h) ∙ s

@@ -2,7 +2,8 @@
 use native.Mathlib.Omega.{arith}
 use Prim.Native.Nat.{_*_}
 use lib.Seq.{length-front}
-use Rattle.execution.proofs.Parts.{part-length, sized, parts-laid}
+use Rattle.sizes.proofs.Parts.{part-length}
+use Rattle.execution.proofs.Parts.{sized, parts-laid}
 use Rattle.execution.proofs.lay_parts.Statement.{statement}
 use Rattle.execution.proofs.lay_parts.Tie as tie
 

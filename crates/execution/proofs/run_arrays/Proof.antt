@@ -2,7 +2,7 @@
 use Prim.Native.Nat.{_*_}
 use mathlib.Core.Path.{_∙_}
 use native.Mathlib.Omega.{arith}
-use Rattle.execution.proofs.Parts.{part-length}
+use Rattle.sizes.proofs.Parts.{part-length}
 use Rattle.execution.proofs.run_arrays.Statement.{statement}
 use Rattle.execution.proofs.run_arrays.Tie as tie
 

@@ -4,9 +4,9 @@ use native.Mathlib.Omega.{arith}
 use Rattle.procedure.specs.OfSheet.{graphOf, divisionOf}
 use Rattle.procedure.proofs.OfSheet.{division-regions}
 use Rattle.engine.proofs.Runs.{started-after}
-use Rattle.execution.proofs.Stages.{blank, ran, parts-in, writable, outcome}
-use Rattle.execution.proofs.run_tables.Statement.{statement}
-use Rattle.execution.proofs.run_tables.Tie as tie
+use Rattle.laid_run.proofs.Stages.{blank, ran, parts-in, writable, outcome}
+use Rattle.laid_run.proofs.run_tables.Statement.{statement}
+use Rattle.laid_run.proofs.run_tables.Tie as tie
 
 source-of-requires : tie.Need-source-of-requires
 source-of-requires c κs =

@@ -1,8 +1,8 @@
 -- `sizes_of` meets its contract. Assumes nothing.
 use borrow.Author.Needs.{needs}
-use Rattle.execution.proofs.Parts.{in-use}
-use Rattle.execution.proofs.sizes_of.Statement.{statement}
-use Rattle.execution.proofs.sizes_of.Tie as tie
+use Rattle.sizes.proofs.Parts.{in-use}
+use Rattle.sizes.proofs.sizes_of.Statement.{statement}
+use Rattle.sizes.proofs.sizes_of.Tie as tie
 
 node-count-requires : tie.Need-node-count-requires
 node-count-requires c κs = search needs

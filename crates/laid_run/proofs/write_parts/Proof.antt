@@ -2,9 +2,9 @@
 use borrow.Author.Needs.{needs}
 use mathlib.Core.Path.{refl}
 use lib.Seq.{length-take-le}
-use Rattle.execution.proofs.Parts.{part-length}
-use Rattle.execution.proofs.write_parts.Statement.{statement}
-use Rattle.execution.proofs.write_parts.Tie as tie
+use Rattle.sizes.proofs.Parts.{part-length}
+use Rattle.laid_run.proofs.write_parts.Statement.{statement}
+use Rattle.laid_run.proofs.write_parts.Tie as tie
 
 slice-aggregate-write-table : tie.Need-slice-aggregate-write-table
 slice-aggregate-write-table c =

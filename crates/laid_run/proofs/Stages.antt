@@ -24,7 +24,7 @@ use Rattle.slices.specs.States.{stateIn, Computed, Blank}
 use Rattle.engine.proofs.Runs.{started-after, rounds-after}
 use Rattle.table.specs.Writable.{countsOf, Writable}
 use Rattle.layout.specs.Layout.{Laid}
-use Rattle.execution.specs.Runnable.{Outcome}
+use Rattle.laid_run.specs.Outcome.{Outcome}
 
 -- what the start asks
 pub blank : {b : List ℕ} {t : Tables} → Laid b t → Blank (graphOf b) (divisionOf b) t
