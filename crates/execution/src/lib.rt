@@ -13,12 +13,12 @@ ghost use Rattle.execution.specs.Runnable.{Runnable, InUse, Arrays, Outc
 use counts::Counts;
 use sheet::MOST_SPANS;
 use sheet::Sections;
-use slices::ARCS;
 use slices::ARC_ROWS;
+use slices::ARCS;
 use slices::NODES;
 use slices::PLACES;
-use slices::REGIONS;
 use slices::REGION_ROWS;
+use slices::REGIONS;
 use slices::ROWS;
 
 // How much of each array is in use.
