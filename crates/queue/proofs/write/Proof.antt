@@ -46,7 +46,7 @@ given s = (s .pre .2, s .pre .4)
 
 up-is : (c : tie.After-parent-of Inv-loop μ-loop) (d : Division) (keys : List ℕ) → Valid (called c) d keys
     → c .parent-of .result .0 ≡ parent d (called c .args .child .0)
-up-is c d keys Q = c .parent-of .ensures d (Q .0 .laid .planned .counted) (Q .1)
+up-is c d keys Q = c .parent-of .ensures d (Q .0 .entered .laid .planned .counted) (Q .1)
 
 -- the row of the parent says where the tree begins
 abbrev first : tie.At-loop Inv-loop μ-loop → ℕ
@@ -80,12 +80,12 @@ above c = repair-bounds (now c _ _ (given (entry c))) _ (row c) (c .loop .place 
 parent-of-requires : tie.Need-parent-of-requires Inv-loop μ-loop
 parent-of-requires c κs =
     let pre = c .before .before .pre in
-    (pre .0, pre .2 .laid .planned .counted, pre .3, pre .4)
+    (pre .0, pre .2 .entered .laid .planned .counted, pre .3, pre .4)
 
 start-of-requires : tie.Need-start-of-requires Inv-loop μ-loop
 start-of-requires c κs =
     let pre = called c .pre in
-    up-row (pre .2 .laid .planned) _ _ (pre .3) (pre .4) (up-is c _ _ (given (called c)))
+    up-row (pre .2 .entered .laid .planned) _ _ (pre .3) (pre .4) (up-is c _ _ (given (called c)))
 
 cast-start : tie.Need-cast-start Inv-loop μ-loop
 cast-start c = search needs
@@ -93,7 +93,7 @@ cast-start c = search needs
 seat-of-requires : tie.Need-seat-of-requires Inv-loop μ-loop
 seat-of-requires c κs =
     let pre = called (c .before) .pre in
-    row-in _ (pre .2 .laid .planned .counted) (pre .4)
+    row-in _ (pre .2 .entered .laid .planned .counted) (pre .4)
 
 cast-place : tie.Need-cast-place Inv-loop μ-loop
 cast-place c = search needs
@@ -111,8 +111,8 @@ slice-write-winners : tie.Need-slice-write-winners Inv-loop μ-loop
 slice-write-winners c =
     let up = c .before .before .before in
     let pre = called up .pre in
-    seat-inside (pre .2 .laid .planned) _ _ (pre .3) (pre .4) (up-is up _ _ (given (called up))) _ _ (c .before .before .start-of .ensures)
-    (c .before .seat-of .ensures) (pre .2 .laid)
+    seat-inside (pre .2 .entered .laid .planned) _ _ (pre .3) (pre .4) (up-is up _ _ (given (called up))) _ _ (c .before .before .start-of .ensures)
+    (c .before .seat-of .ensures) (pre .2 .entered .laid)
 
 loop-holds : tie.Need-loop-holds Inv-loop μ-loop
 loop-holds c = (refl, λ d keys r row R. R)
