@@ -51,7 +51,14 @@ fn update(
     if old <= new {
         return count + 1;
     }
-    update(rows, winners, queue::parent_of(rows, r), r, key, count + 1)
+    update(
+        rows,
+        winners,
+        tree_places::parent_of(rows, r),
+        r,
+        key,
+        count + 1,
+    )
 }
 
 // Updates arc a: its own key, and from its leaf's parent on where that key fell.
@@ -80,7 +87,7 @@ fn update_arc(
     update(
         rows,
         winners,
-        queue::parent_of(rows, leaf),
+        tree_places::parent_of(rows, leaf),
         leaf,
         key,
         count + 1,
