@@ -88,7 +88,7 @@ fn process_region(
             c,
         );
     }
-    updates::process_leaf(
+    leaf_work::process_leaf(
         rows,
         arcs,
         firsts,
