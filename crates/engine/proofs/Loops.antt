@@ -22,7 +22,7 @@ use Rattle.theory.proofs.Chosen.{Chosen, chosen-of-key}
 use Rattle.theory.proofs.Process.{key-alive, none-alive, inner-high, chosen-lower, process-leaf, process-inner}
 use Rattle.theory.proofs.Grows.{grows-trans, grows-small, rewriteKey-grows, process-grows, children-grow, rounds-grow}
 use Rattle.theory.proofs.Final.{rounds-in-parts, after-small}
-use Rattle.queue.specs.Trees.{QueuesOk}
+use Rattle.tree_places.specs.Trees.{QueuesOk}
 use Rattle.counts.specs.Counted.{roundCounted, innerCounted}
 use Rattle.counts.specs.declared.Counts.{Counts}
 use Rattle.slices.specs.Tables.{Tables, noArc, arcEntry, heightEntry}

@@ -10,7 +10,7 @@ ghost use Rattle.procedure.specs.Graph.{Graph};
 ghost use Rattle.procedure.specs.Division.{Division, regions, isLeaf};
 ghost use Rattle.procedure.specs.Queues.{minKey};
 ghost use Rattle.procedure.specs.Procedure.{process, ended, start, round, after};
-ghost use Rattle.queue.specs.Trees.{QueuesOk};
+ghost use Rattle.tree_places.specs.Trees.{QueuesOk};
 ghost use Rattle.slices.specs.Tables.{tablesOf};
 ghost use Rattle.slices.specs.States.{queuesOf, stateOf, stateIn};
 ghost use Rattle.slices.specs.States.{Keyed, Represents, Processing, Computed, Blank};
@@ -88,7 +88,7 @@ fn process_region(
             c,
         );
     }
-    updates::process_leaf(
+    leaf_work::process_leaf(
         rows,
         arcs,
         firsts,

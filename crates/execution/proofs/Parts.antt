@@ -12,7 +12,7 @@ use Rattle.refusals.specs.Judgement.{Accepted}
 use Rattle.refusals.proofs.Accepted.{few-nodes, few-arcs, few-spans, few-region-words}
 use Rattle.procedure.specs.Graph.{Graph}
 use Rattle.procedure.specs.Division.{Division}
-use Rattle.queue.specs.Trees.{Planned}
+use Rattle.tree_places.specs.Trees.{Planned}
 use Rattle.slices.specs.Tables.{ArcLinks, RegionRows, tablesOf}
 use Rattle.procedure.proofs.OfSheet.{graph-arcs}
 use Rattle.layout.specs.Layout.{Sized, Laid}

@@ -21,7 +21,7 @@ use Rattle.procedure.proofs.OfSheet.{graph-nodes, graph-arcs, graph-tail, graph
 use Rattle.procedure.proofs.OfSheet.{division-regions, division-parent, division-arc, division-leaf, division-height}
 use Rattle.procedure.proofs.WellFormed.{accepted-well-formed}
 use Rattle.rows.specs.Rows.{rowCount, rowTail, rowLeaf}
-use Rattle.queue.specs.Trees.{ParentsOf}
+use Rattle.tree_places.specs.Trees.{ParentsOf}
 use Rattle.rows.specs.Links.{Linkable, Linked}
 use Rattle.planning.proofs.Planning.{division-parents}
 use Rattle.rows.proofs.Links.{links-same}

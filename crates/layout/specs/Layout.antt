@@ -8,7 +8,7 @@ use Rattle.sheet.specs.Regions.{regionCount}
 use Rattle.procedure.specs.Graph.{Graph}
 use Rattle.procedure.specs.Division.{Division}
 use Rattle.procedure.specs.OfSheet.{graphOf, divisionOf, spansOf}
-use Rattle.queue.specs.Trees.{Planned}
+use Rattle.tree_places.specs.Trees.{Planned}
 use Rattle.slices.specs.Tables.{Tables, ArcRows, ArcLinks, RegionRows, Tabled}
 
 -- What is lent: each slice has as many entries as are used.

@@ -16,8 +16,8 @@ use Rattle.procedure.specs.Division.{Division, regions, parent, isChild}
 use Rattle.procedure.specs.WellFormed.{DivisionOk}
 use Rattle.theory.proofs.Chosen.{Child, parent-child}
 use Rattle.rows.specs.Rows.{field, rowCount}
-use Rattle.queue.specs.Trees.{childCount, lowerSiblings, treeStart, seat, ParentsOf, Counted, Ranked, Started, Planned}
-use Rattle.queue.proofs.Seats.{child-passes, other-fails, start-next, start-first, tree-room, seat-high}
+use Rattle.tree_places.specs.Trees.{childCount, lowerSiblings, treeStart, seat, ParentsOf, Counted, Ranked, Started, Planned}
+use Rattle.tree_places.proofs.Seats.{child-passes, other-fails, start-next, start-first, tree-room, seat-high}
 use Rattle.rows.proofs.Filled.{filled-at, filled-length}
 
 -- to prove P of an entry after a store in the same column, prove it of the value stored and of the entries of other rows

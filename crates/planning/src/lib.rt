@@ -3,12 +3,12 @@ ghost use mathlib.Core.Path.{_≡_};
 ghost use Prim.Native.Nat.{_*_};
 ghost use lib.ListN.{length};
 ghost use Rattle.procedure.specs.Division.{Division, regions};
-ghost use Rattle.queue.specs.Trees.{ParentsOf, Ranked, Started, Planned};
-use queue::CHILDREN;
-use queue::PARENT;
-use queue::SEAT;
-use queue::START;
+ghost use Rattle.tree_places.specs.Trees.{ParentsOf, Ranked, Started, Planned};
 use sheet::Region;
+use tree_places::CHILDREN;
+use tree_places::PARENT;
+use tree_places::SEAT;
+use tree_places::START;
 
 // Fills in each region's parent, the number of its children, and how many siblings with a lower number it has.
 fn count_children(parents: &[u16], rows: &mut [u16])
@@ -21,7 +21,7 @@ fn count_children(parents: &[u16], rows: &mut [u16])
     while c < n {
         let i = c as usize;
         let parent = Region(parents[i]);
-        let lower = queue::children_of(rows, parent);
+        let lower = tree_places::children_of(rows, parent);
         let counted = lower + 1;
         rows::set_field(rows, c, PARENT, parent.0);
         rows::set_field(rows, c, SEAT, lower);
@@ -40,7 +40,7 @@ fn lay_trees(rows: &mut [u16])
     let mut r: u16 = 0;
     while r < n {
         rows::set_field(rows, r, START, start);
-        start = start + 2 * queue::children_of(rows, Region(r));
+        start = start + 2 * tree_places::children_of(rows, Region(r));
         r += 1;
     }
 }
@@ -53,8 +53,8 @@ fn seat_children(rows: &mut [u16])
     let n = (rows.len() / 4) as u16;
     let mut c: u16 = 1;
     while c < n {
-        let parent = queue::parent_of(rows, Region(c));
-        let place = queue::children_of(rows, parent) + queue::seat_of(rows, Region(c));
+        let parent = tree_places::parent_of(rows, Region(c));
+        let place = tree_places::children_of(rows, parent) + tree_places::seat_of(rows, Region(c));
         rows::set_field(rows, c, SEAT, place);
         c += 1;
     }

@@ -11,7 +11,7 @@ use Rattle.indices.proofs.Steps.{eq-or-ne}
 use Rattle.procedure.specs.Division.{Division}
 use Rattle.procedure.specs.Queues.{before}
 use Rattle.theory.proofs.Order.{before-tie, before-higher}
-use Rattle.queue.specs.Trees.{entry}
+use Rattle.tree_places.specs.Trees.{entry}
 
 -- an item whose entry is no lower is not chosen before
 pub entry-behind : (d : Division) (keys : List ℕ) (a b : ℕ) → a < 65536 → b < 65536 → entry keys b ≤ entry keys a → before d keys a b ≡ false

@@ -10,14 +10,10 @@ use Rattle.sheet.specs.Words.{top}
 use Rattle.procedure.specs.Division.{Division, regions}
 use Rattle.procedure.specs.Queues.{minItem}
 use Rattle.theory.proofs.Chosen.{Child, minKey-item, minKey-none}
-use Rattle.rows.specs.Rows.{field, rowCount}
-use Rattle.queue.specs.Trees.{entry, childCount, IsMinKey, Counted, QueuesOk}
-use Rattle.queue.proofs.Seats.{tree-room}
+use Rattle.rows.specs.Rows.{field}
+use Rattle.tree_places.specs.Trees.{entry, childCount, IsMinKey, QueuesOk}
+use Rattle.tree_places.proofs.Seats.{tree-room}
 use Rattle.queue.proofs.Trees.{minItem-place, minItem-childless}
-
--- a region has a row
-pub row-in : {d : Division} {rows : List ℕ} (r : ℕ) → Counted d rows → r < regions d → r < rowCount rows
-row-in r C l = omega (arith, C .all)
 
 module _ {d : Division} {rows keys winners : List ℕ} (Q : QueuesOk d rows keys winners) (r : ℕ) (inside : r < regions d) where
   -- its row says that r has no child

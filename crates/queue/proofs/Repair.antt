@@ -11,10 +11,10 @@ use Rattle.sheet.specs.Words.{top}
 use Rattle.procedure.specs.Division.{Division, regions, parent}
 use Rattle.theory.proofs.Chosen.{parent-child}
 use Rattle.rows.specs.Rows.{field, rowCount}
-use Rattle.queue.specs.Trees.{entry, Siblings, childCount, treeStart, seat, place, Decided, Planned, LaidOut, QueuesOk, Entered, ValidBelow}
-use Rattle.queue.proofs.Seats.{tree-room, seat-low, seat-high, parent-in}
+use Rattle.tree_places.specs.Trees.{entry, Siblings, childCount, treeStart, seat, place, Decided, Planned, LaidOut, QueuesOk, Entered, ValidBelow}
+use Rattle.tree_places.proofs.Seats.{tree-room, seat-low, seat-high, parent-in}
 use Rattle.queue.proofs.Trees.{place-in, place-same, seat-elim, ValidBut, valid-all, laid-set, decided, written}
-use Rattle.queue.proofs.Reading.{row-in}
+use Rattle.tree_places.proofs.RegionRows.{row-in}
 
 -- c's row and that of its parent `up`
 module _ {d : Division} {rows : List ℕ} (P : Planned d rows) (c up : ℕ) (pos : 0 < c) (inside : c < regions d) (over : up ≡ parent d c) where

@@ -11,9 +11,9 @@ use Rattle.indices.proofs.Steps.{eq-or-ne, lt-or-le, set-elim}
 use Rattle.procedure.specs.Division.{Division, regions, parent}
 use Rattle.procedure.specs.Queues.{minItem}
 use Rattle.theory.proofs.Chosen.{Child, parent-child, minItem-first, first-one}
-use Rattle.queue.specs.Trees.{entry, childCount, treeStart, seat, place, Wins, LaidOut, QueuesOk, Entered}
+use Rattle.tree_places.specs.Trees.{entry, childCount, treeStart, seat, place, Wins, LaidOut, QueuesOk, Entered}
 use Rattle.queue.proofs.Comparison.{entry-behind}
-use Rattle.queue.proofs.Seats.{tree-room, trees-apart, seat-low, seat-high, seat-one, place-child}
+use Rattle.tree_places.proofs.Seats.{tree-room, trees-apart, seat-low, seat-high, seat-one, place-child}
 
 -- a store at place p of r's tree
 module _ (d : Division) (winners : List ℕ) (room : 2 * regions d ≤ length winners) (r p x : ℕ) (hp : p < 2 * childCount d r) where

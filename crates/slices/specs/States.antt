@@ -11,7 +11,7 @@ use Rattle.procedure.specs.Queues.{update, updateArc, updateOutgoing}
 use Rattle.procedure.specs.WellFormed.{GraphOk, DivisionOk}
 use Rattle.theory.specs.Counts.{Small}
 use Rattle.counts.specs.declared.Counts.{Counts}
-use Rattle.queue.specs.Trees.{Planned, QueuesOk}
+use Rattle.tree_places.specs.Trees.{Planned, QueuesOk}
 use Rattle.slices.specs.Tables.{Tables, ArcRows, ArcLinks, RegionRows, Tabled}
 
 -- the queues and the state that the slices and the counts are

@@ -22,7 +22,7 @@ use Rattle.theory.proofs.Chosen.{minKey-leaf}
 use Rattle.theory.proofs.Update.{write-leaf, write-inner, write-counts, update-grows, update-rises, update-stops, update-elim}
 use Rattle.theory.proofs.Outgoing.{arc-leaf-test, arc-updated}
 use Rattle.rows.specs.Rows.{rowCount, rowTail, rowLeaf, rowNext}
-use Rattle.queue.specs.Trees.{Counted, QueuesOk}
+use Rattle.tree_places.specs.Trees.{Counted, QueuesOk}
 use Rattle.rows.specs.Links.{stepAt}
 use Rattle.rows.proofs.Links.{Walk, walk-start, walk-step, walk-end, walk-part, walk-falls}
 use Rattle.slices.specs.Tables.{ArcRows, ArcLinks}

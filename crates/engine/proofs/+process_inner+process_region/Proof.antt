@@ -42,7 +42,7 @@ use Rattle.engine.proofs.+process_inner+process_region.Lts-process_regi
 use Rattle.slices.proofs.arc_of.Reads as arc-of-reads
 use Rattle.counts.proofs.count_inner.Reads as count-inner-reads
 use Rattle.engine.proofs.key_of.Reads as key-of-reads
-use Rattle.updates.proofs.process_leaf.Reads as process-leaf-reads
+use Rattle.leaf_work.proofs.process_leaf.Reads as process-leaf-reads
 use Rattle.slices.proofs.span_of.Reads as span-of-reads
 use Rattle.queue.proofs.min_item.Reads as min-item-reads
 use Rattle.queue.proofs.min_key.Reads as min-key-reads

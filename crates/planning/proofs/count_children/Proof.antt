@@ -4,7 +4,7 @@ use mathlib.Core.Path.{sym, _∙_}
 use borrow.Author.Needs.{needs}
 use native.Mathlib.Omega.{arith}
 use Rattle.procedure.specs.Division.{Division, regions}
-use Rattle.queue.specs.Trees.{ParentsOf}
+use Rattle.tree_places.specs.Trees.{ParentsOf}
 use Rattle.planning.proofs.Planning.{Counting, counting-start, count-row, count-bounds, counting-step, counting-end}
 use Rattle.planning.proofs.count_children.Statement.{statement}
 use Rattle.planning.proofs.count_children.Tie as tie

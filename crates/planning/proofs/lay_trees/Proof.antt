@@ -6,9 +6,9 @@ use native.Mathlib.Omega.{arith}
 use lib.ListN.{length}
 use Rattle.procedure.specs.Division.{Division, regions}
 use Rattle.rows.specs.Rows.{field}
-use Rattle.queue.specs.Trees.{Ranked}
+use Rattle.tree_places.specs.Trees.{Ranked}
 use Rattle.planning.proofs.Planning.{Laying, laying-start, laying-fits, laying-step, laying-end}
-use Rattle.queue.proofs.Reading.{row-in}
+use Rattle.tree_places.proofs.RegionRows.{row-in}
 use Rattle.planning.proofs.lay_trees.Statement.{statement}
 use Rattle.planning.proofs.lay_trees.Tie as tie
 

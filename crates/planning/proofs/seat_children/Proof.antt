@@ -4,8 +4,8 @@ use mathlib.Core.Path.{_≡_, refl}
 use native.Mathlib.Omega.{arith}
 use lib.ListN.{length}
 use Rattle.procedure.specs.Division.{Division, regions}
-use Rattle.queue.specs.Trees.{Started}
-use Rattle.queue.proofs.Reading.{row-in}
+use Rattle.tree_places.specs.Trees.{Started}
+use Rattle.tree_places.proofs.RegionRows.{row-in}
 use Rattle.planning.proofs.Planning.{Seating, seating-start, seat-row, seat-fits, seating-step, seating-end}
 use Rattle.planning.proofs.seat_children.Statement.{statement}
 use Rattle.planning.proofs.seat_children.Tie as tie

@@ -7,7 +7,7 @@ use native.Mathlib.Omega.{arith}
 use lib.ListN.{length}
 use Rattle.procedure.specs.Division.{Division}
 use Rattle.rows.specs.Rows.{field}
-use Rattle.queue.proofs.Reading.{row-in}
+use Rattle.tree_places.proofs.RegionRows.{row-in}
 use Rattle.queue.proofs.Repair.{Building, building-start, building-in, building-step, building-end}
 use Rattle.queue.proofs.build_tree.Statement.{statement}
 use Rattle.queue.proofs.build_tree.Tie as tie

@@ -6,7 +6,7 @@ use borrow.Author.Needs.{needs}
 use native.Mathlib.Omega.{arith}
 use lib.ListN.{length}
 use Rattle.procedure.specs.Division.{Division, regions}
-use Rattle.queue.specs.Trees.{Entered, ValidBelow}
+use Rattle.tree_places.specs.Trees.{Entered, ValidBelow}
 use Rattle.queue.proofs.Repair.{valid-none, valid-regions}
 use Rattle.queue.proofs.clear.Statement.{statement}
 use Rattle.queue.proofs.clear.Tie as tie

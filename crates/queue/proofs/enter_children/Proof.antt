@@ -5,8 +5,8 @@ use borrow.Author.Needs.{needs}
 use native.Mathlib.Omega.{arith}
 use lib.ListN.{length, length-set}
 use Rattle.procedure.specs.Division.{Division, regions, parent}
-use Rattle.queue.specs.Trees.{LaidOut}
-use Rattle.queue.proofs.Reading.{row-in}
+use Rattle.tree_places.specs.Trees.{LaidOut}
+use Rattle.tree_places.proofs.RegionRows.{row-in}
 use Rattle.queue.proofs.Repair.{up-row, seat-inside, Entering, entering-start, entering-step, entering-end}
 use Rattle.queue.proofs.enter_children.Statement.{statement}
 use Rattle.queue.proofs.enter_children.Tie as tie

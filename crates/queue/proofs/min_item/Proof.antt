@@ -1,7 +1,8 @@
 -- `min_item` meets its contract: place 1 holds the entry of the first-chosen child. Assumes nothing.
 use mathlib.Core.Path.{sym, _∙_}
 use borrow.Author.Needs.{needs}
-use Rattle.queue.proofs.Reading.{row-in, item-none, first-in, item-some}
+use Rattle.tree_places.proofs.RegionRows.{row-in}
+use Rattle.queue.proofs.Reading.{item-none, first-in, item-some}
 use Rattle.queue.proofs.min_item.Statement.{statement}
 use Rattle.queue.proofs.min_item.Tie as tie
 

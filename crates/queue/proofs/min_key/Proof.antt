@@ -3,7 +3,8 @@ use mathlib.Core.Path.{sym, _∙_}
 use borrow.Author.Needs.{needs}
 use native.Mathlib.Omega.{arith}
 use Rattle.sheet.specs.Words.{top}
-use Rattle.queue.proofs.Reading.{row-in, key-none, first-in, key-fits, key-some}
+use Rattle.tree_places.proofs.RegionRows.{row-in}
+use Rattle.queue.proofs.Reading.{key-none, first-in, key-fits, key-some}
 use Rattle.queue.proofs.min_key.Statement.{statement}
 use Rattle.queue.proofs.min_key.Tie as tie
 

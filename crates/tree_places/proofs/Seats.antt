@@ -12,7 +12,7 @@ use Rattle.indices.proofs.Totals.{count-sum}
 use Rattle.indices.proofs.Steps.{eq-or-ne, lt-or-le}
 use Rattle.procedure.specs.Division.{Division, regions, parent, isChild}
 use Rattle.theory.proofs.Chosen.{Child}
-use Rattle.queue.specs.Trees.{childCount, lowerSiblings, underBelow, treeStart, seat}
+use Rattle.tree_places.specs.Trees.{childCount, lowerSiblings, underBelow, treeStart, seat}
 
 module _ (d : Division) where
   pub child-passes : {r c : ℕ} → Child d r c → isChild d r c ≡ true

@@ -1,7 +1,7 @@
 -- `process_leaf` meets its contract: the label is lowered where the definition lowers it. Assumes nothing.
 use borrow.Author.Needs.{needs}
 use native.Mathlib.Omega.{arith}
-use Rattle.updates.proofs.Leaves.{
+use Rattle.leaf_work.proofs.Leaves.{
   leaf-count-fits,
   leaf-row-in,
   leaf-arc-in,
@@ -13,8 +13,8 @@ use Rattle.updates.proofs.Leaves.{
   leaf-falls,
 }
 use Rattle.sheet.specs.Words.{top}
-use Rattle.updates.proofs.process_leaf.Statement.{statement}
-use Rattle.updates.proofs.process_leaf.Tie as tie
+use Rattle.leaf_work.proofs.process_leaf.Statement.{statement}
+use Rattle.leaf_work.proofs.process_leaf.Tie as tie
 
 arc-of-requires : tie.Need-arc-of-requires
 arc-of-requires c κs = search needs

@@ -1,9 +1,9 @@
 -- `parent_of` meets its contract: the first entry of a row is the parent. Assumes nothing.
 use mathlib.Core.Path.{_∙_}
 use native.Mathlib.Omega.{arith}
-use Rattle.queue.proofs.Reading.{row-in}
-use Rattle.queue.proofs.parent_of.Statement.{statement}
-use Rattle.queue.proofs.parent_of.Tie as tie
+use Rattle.tree_places.proofs.RegionRows.{row-in}
+use Rattle.tree_places.proofs.parent_of.Statement.{statement}
+use Rattle.tree_places.proofs.parent_of.Tie as tie
 
 field-requires : tie.Need-field-requires
 field-requires c κs = (omega arith, row-in _ (c .before .pre .1) (c .before .pre .3))

@@ -1,8 +1,8 @@
 -- `decide` meets its contract: it stores the lower of the two places below. Assumes nothing.
 use mathlib.Core.Path.{refl}
 use borrow.Author.Needs.{needs}
-use Rattle.queue.proofs.decide.Statement.{statement}
-use Rattle.queue.proofs.decide.Tie as tie
+use Rattle.tree_places.proofs.decide.Statement.{statement}
+use Rattle.tree_places.proofs.decide.Tie as tie
 
 mul-left : tie.Need-mul-left
 mul-left c = search needs

@@ -1,0 +1,66 @@
+// The working of a leaf, over slices and arrays that the caller lends. It computes its definition.
+ghost use mathlib.Core.Path.{_≡_};
+ghost use mathlib.Core.Bool.{true};
+ghost use mathlib.Core.List.{List};
+ghost use Prim.Native.Nat.{ℕ, _<_};
+ghost use Rattle.procedure.specs.Graph.{Graph};
+ghost use Rattle.procedure.specs.Division.{Division, isLeaf};
+ghost use Rattle.procedure.specs.Procedure.{processLeaf};
+ghost use Rattle.slices.specs.Tables.{tablesOf};
+ghost use Rattle.slices.specs.States.{stateIn, Processing, Computed};
+use counts::Counts;
+use queue::NONE;
+use sheet::Region;
+use slices::ARCS;
+use slices::NODES;
+use slices::PLACES;
+use slices::REGION_ROWS;
+use slices::ROWS;
+
+fn wide(x: u32) -> u64
+    ensures { λ r. ⌜ (r ≡ x) × (r < 4294967296) ⌝ }
+{
+    x as u64
+}
+
+// Works the leaf r.
+pub fn process_leaf(
+    rows: &[u16; ROWS],
+    arcs: &[u16],
+    firsts: &[u16; NODES],
+    lengths: &[u32; ARCS],
+    regions: &[u16; REGION_ROWS],
+    labels: &mut [u32; NODES],
+    predecessors: &mut [u32; NODES],
+    own: &mut [u32; ARCS],
+    winners: &mut [u64; PLACES],
+    r: Region,
+    c: Counts,
+) -> Counts
+    requires { ⌜ ((g : Graph) × (d : Division) × (spans : List ℕ) × (keys : List ℕ)
+        × let t = tablesOf (now rows) (now arcs) (now firsts) (now lengths) spans (now regions) in
+        let s = stateIn g (now labels) (now predecessors) (now own) keys c in
+        Processing g d t s (now winners) (r .0) (processLeaf g d (r .0) s) × isLeaf d (r .0) ≡ true) ⌝ }
+    ensures { λ n. ⌜ ((g : Graph) (d : Division) (spans keys : List ℕ)
+        → let t = tablesOf (now (rows .entry)) (now (arcs .entry)) (now (firsts .entry)) (now (lengths .entry)) spans (now (regions .entry)) in
+        let s = stateIn g (now (labels .entry)) (now (predecessors .entry)) (now (own .entry)) keys c in
+        Processing g d t s (now (winners .entry)) (r .0) (processLeaf g d (r .0) s) → isLeaf d (r .0) ≡ true
+        → ((keys′ : List ℕ) × Computed g d t (processLeaf g d (r .0) s)
+        (stateIn g (now (labels .exit)) (now (predecessors .exit)) (now (own .exit)) keys′ n) (now (winners .exit)))) ⌝ }
+{
+    let a = slices::arc_of(regions, r);
+    let i = a.0 as usize;
+    let tail = rows::tail_of(arcs, a).0 as usize;
+    let v = rows::head_of(arcs, a);
+    let head = v.0 as usize;
+    let sum = wide(labels[tail]) + wide(lengths[i]);
+    if wide(labels[head]) <= sum {
+        own[i] = NONE;
+        return counts::count_leaf(c, c.updates);
+    }
+    let key = sum as u32;
+    slices::lower_label(labels, predecessors, v, key, a);
+    let n = updates::update_outgoing(rows, arcs, firsts, own, winners, v, key, c.updates);
+    own[i] = NONE;
+    counts::count_leaf(c, n)
+}
