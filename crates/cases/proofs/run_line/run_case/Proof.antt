@@ -3,8 +3,8 @@ use mathlib.Core.Path.{sym}
 use borrow.Author.Needs.{needs}
 use native.Mathlib.Omega.{arith}
 use lib.Seq.{length-take-le}
-use Rattle.run_line.proofs.run_case.Statement.{statement}
-use Rattle.run_line.proofs.run_case.Tie as tie
+use Rattle.cases.proofs.run_line.run_case.Statement.{statement}
+use Rattle.cases.proofs.run_line.run_case.Tie as tie
 
 slice-aggregate-run-in : tie.Need-slice-aggregate-run-in
 slice-aggregate-run-in c = search needs
