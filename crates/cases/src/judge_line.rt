@@ -1,6 +1,6 @@
 // A case of the judge: a sheet. The line printed for it has the answer.
-use case_lines::BLOCK;
-use case_lines::Place;
+use case_fields::BLOCK;
+use case_fields::Place;
 use judge::Judged;
 use libc::STDOUT_FILENO;
 ghost use mathlib.Core.Path.{_≡_};
@@ -14,10 +14,10 @@ fn put_answer(line: &mut [u8], answer: Judged) -> usize
     ensures { λ r. ⌜ Counts r (now (line .exit)) ⌝ }
 {
     match answer {
-        Judged::Accepted => case_lines::put(line, 0, b"accepted\n"),
+        Judged::Accepted => case_text::put(line, 0, b"accepted\n"),
         Judged::Refused(fault) => {
-            let end = case_lines::put_fault(line, 0, fault);
-            case_lines::put(line, end, b"\n")
+            let end = case_text::put_fault(line, 0, fault);
+            case_text::put(line, end, b"\n")
         }
     }
 }
@@ -37,8 +37,8 @@ fn print_answer(answer: Judged) {
 pub fn print_case(block: &mut [u8; BLOCK], place: Place, sheet: &mut [u8]) -> Place
     ensures { λ r. ⌜ r .over ≡ true ⌝ }
 {
-    let bytes = case_lines::read_bytes(block, place, sheet);
-    let after = case_lines::end_line(block, bytes.place);
+    let bytes = case_fields::read_bytes(block, place, sheet);
+    let after = case_fields::end_line(block, bytes.place);
     if !after.readable {
         return after;
     }

@@ -1,6 +1,6 @@
 // A case of the listing: a sheet. What is printed for it is what `marks` prints.
-use case_lines::BLOCK;
-use case_lines::Place;
+use case_fields::BLOCK;
+use case_fields::Place;
 ghost use mathlib.Core.Path.{_≡_};
 ghost use mathlib.Core.Bool.{true};
 
@@ -14,8 +14,8 @@ fn print_sheet(sheet: &[u8]) {
 pub fn print_case(block: &mut [u8; BLOCK], place: Place, sheet: &mut [u8]) -> Place
     ensures { λ r. ⌜ r .over ≡ true ⌝ }
 {
-    let bytes = case_lines::read_bytes(block, place, sheet);
-    let after = case_lines::end_line(block, bytes.place);
+    let bytes = case_fields::read_bytes(block, place, sheet);
+    let after = case_fields::end_line(block, bytes.place);
     if !after.readable {
         return after;
     }

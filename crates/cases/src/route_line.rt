@@ -1,8 +1,8 @@
 // A case of the route reader: a sheet, a table's words, a node and the buffer's length. The line printed for it has the number of arcs and the arcs as
 // words, no route, or the refusal; and whether the rest of the buffer, or all of it, has changed.
-use case_lines::BLOCK;
-use case_lines::FILLING;
-use case_lines::Place;
+use case_fields::BLOCK;
+use case_fields::Place;
+use case_text::FILLING;
 use libc::STDOUT_FILENO;
 use route::Routed;
 ghost use Prim.Native.Nat.{_≤_};
@@ -36,13 +36,13 @@ fn put_route(line: &mut [u8], count: usize, buffer: &[u32]) -> usize
     ensures { λ r. ⌜ Counts r (now (line .exit)) ⌝ }
 {
     if count > buffer.len() {
-        return case_lines::put(line, 0, b"route past the buffer\n");
+        return case_text::put(line, 0, b"route past the buffer\n");
     }
-    let mut end = case_lines::put(line, 0, b"route ");
-    end = case_lines::put_decimal(line, end, count as u64);
-    end = case_lines::put(line, end, b": ");
-    end = case_lines::put_words(line, end, &buffer[..count]);
-    case_lines::put_changed(line, end, &buffer[count..])
+    let mut end = case_text::put(line, 0, b"route ");
+    end = case_text::put_decimal(line, end, count as u64);
+    end = case_text::put(line, end, b": ");
+    end = case_text::put_words(line, end, &buffer[..count]);
+    case_text::put_changed(line, end, &buffer[count..])
 }
 
 fn put_answer(line: &mut [u8], answer: Routed, buffer: &[u32]) -> usize
@@ -51,12 +51,12 @@ fn put_answer(line: &mut [u8], answer: Routed, buffer: &[u32]) -> usize
     match answer {
         Routed::Route(count) => put_route(line, count as usize, buffer),
         Routed::NoRoute => {
-            let end = case_lines::put(line, 0, b"no route");
-            case_lines::put_changed(line, end, buffer)
+            let end = case_text::put(line, 0, b"no route");
+            case_text::put_changed(line, end, buffer)
         }
         Routed::Refused(fault) => {
-            let end = case_lines::put_fault(line, 0, fault);
-            case_lines::put_changed(line, end, buffer)
+            let end = case_text::put_fault(line, 0, fault);
+            case_text::put_changed(line, end, buffer)
         }
     }
 }
@@ -108,9 +108,9 @@ struct Wanted {
 fn read_wanted(block: &mut [u8; BLOCK], place: Place, size: usize) -> Wanted
     ensures { λ r. ⌜ (r .room ≤ 4096) × (r .after .over ≡ true) ⌝ }
 {
-    let node = case_lines::read_number(block, place, u32::MAX);
-    let room = case_lines::read_number(block, node.place, MOST_WORDS as u32);
-    let after = case_lines::end_line(block, room.place);
+    let node = case_fields::read_number(block, place, u32::MAX);
+    let room = case_fields::read_number(block, node.place, MOST_WORDS as u32);
+    let after = case_fields::end_line(block, room.place);
     Wanted {
         node: node.value,
         room: room.value,
@@ -133,8 +133,8 @@ fn case_in(
 ) -> Place
     ensures { λ r. ⌜ r .over ≡ true ⌝ }
 {
-    let drawn = case_lines::read_bytes(block, place, sheet);
-    let lent = case_lines::read_bytes(block, drawn.place, bytes);
+    let drawn = case_fields::read_bytes(block, place, sheet);
+    let lent = case_fields::read_bytes(block, drawn.place, bytes);
     let wanted = read_wanted(block, lent.place, lent.size);
     let after = wanted.after;
     if !after.readable {

@@ -1,9 +1,9 @@
 // A case of a run: a sheet, a limit of rounds ('-' for none) and the table's length. The line printed for it has the answer and the table's words, or the
 // refusal and whether the table has changed.
-use case_lines::BLOCK;
-use case_lines::FILLING;
-use case_lines::Number;
-use case_lines::Place;
+use case_fields::BLOCK;
+use case_fields::Number;
+use case_fields::Place;
+use case_text::FILLING;
 use libc::STDOUT_FILENO;
 use run::Ran;
 ghost use Prim.Native.Nat.{_≤_};
@@ -28,8 +28,8 @@ fn called(sheet: &[u8], rounds: Number, table: &mut [u32]) -> Ran {
 fn put_table(line: &mut [u8], at: usize, table: &[u32]) -> usize
     ensures { λ r. ⌜ Counts r (now (line .exit)) ⌝ }
 {
-    let end = case_lines::put_words(line, at, table);
-    case_lines::put(line, end, b"\n")
+    let end = case_text::put_words(line, at, table);
+    case_text::put(line, end, b"\n")
 }
 
 fn put_answer(line: &mut [u8], answer: Ran, table: &[u32]) -> usize
@@ -37,16 +37,16 @@ fn put_answer(line: &mut [u8], answer: Ran, table: &[u32]) -> usize
 {
     match answer {
         Ran::Ended => {
-            let end = case_lines::put(line, 0, b"ended ");
+            let end = case_text::put(line, 0, b"ended ");
             put_table(line, end, table)
         }
         Ran::Paused => {
-            let end = case_lines::put(line, 0, b"paused ");
+            let end = case_text::put(line, 0, b"paused ");
             put_table(line, end, table)
         }
         Ran::Refused(fault) => {
-            let end = case_lines::put_fault(line, 0, fault);
-            case_lines::put_changed(line, end, table)
+            let end = case_text::put_fault(line, 0, fault);
+            case_text::put_changed(line, end, table)
         }
     }
 }
@@ -77,10 +77,10 @@ fn run_case(sheet: &[u8], rounds: Number, length: u32)
 pub fn print_case(block: &mut [u8; BLOCK], place: Place, sheet: &mut [u8]) -> Place
     ensures { λ r. ⌜ r .over ≡ true ⌝ }
 {
-    let bytes = case_lines::read_bytes(block, place, sheet);
-    let rounds = case_lines::read_number(block, bytes.place, u32::MAX);
-    let length = case_lines::read_number(block, rounds.place, MOST_TABLE as u32);
-    let after = case_lines::end_line(block, length.place);
+    let bytes = case_fields::read_bytes(block, place, sheet);
+    let rounds = case_fields::read_number(block, bytes.place, u32::MAX);
+    let length = case_fields::read_number(block, rounds.place, MOST_TABLE as u32);
+    let after = case_fields::end_line(block, length.place);
     if !after.readable {
         return after;
     }

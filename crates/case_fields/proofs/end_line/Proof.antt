@@ -1,7 +1,7 @@
 -- `end_line` meets its contract: it stops where the line is over, and the turns left fall. Assumes nothing.
 use borrow.Author.Needs.{needs}
-use Rattle.case_lines.proofs.end_line.Statement.{statement}
-use Rattle.case_lines.proofs.end_line.Tie as tie
+use Rattle.case_fields.proofs.end_line.Statement.{statement}
+use Rattle.case_fields.proofs.end_line.Tie as tie
 
 abbrev Inv-loop : tie.InvT-loop
 Inv-loop block₀ place₀ turns₀ block place turns = Unit {0}

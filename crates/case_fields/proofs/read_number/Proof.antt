@@ -3,8 +3,8 @@ use Prim.Native.Nat.{_≤_, _-_}
 use borrow.Author.Needs.{needs}
 use borrow.Author.Tests.{not-false}
 use native.Mathlib.Omega.{arith}
-use Rattle.case_lines.proofs.read_number.Statement.{statement}
-use Rattle.case_lines.proofs.read_number.Tie as tie
+use Rattle.case_fields.proofs.read_number.Statement.{statement}
+use Rattle.case_fields.proofs.read_number.Tie as tie
 
 abbrev Inv-loop : tie.InvT-loop
 Inv-loop block₀ most place₀ value₀ digits₀ block place value digits = value ≤ most

@@ -5,8 +5,8 @@ use borrow.Author.Needs.{needs}
 use native.Mathlib.Omega.{arith}
 use lib.ListN.{length}
 use lib.Seq.{length-take-le}
-use Rattle.case_lines.proofs.put_words.Statement.{statement}
-use Rattle.case_lines.proofs.put_words.Tie as tie
+use Rattle.case_text.proofs.put_words.Statement.{statement}
+use Rattle.case_text.proofs.put_words.Tie as tie
 
 abbrev Inv-loop : tie.InvT-loop
 Inv-loop line₀ at words end₀ i₀ line end i = (end ≤ length line) × (length line ≡ length line₀)

@@ -5,8 +5,8 @@ use borrow.Author.Needs.{needs}
 use native.Mathlib.Omega.{arith}
 use lib.ListN.{length, length-set}
 use lib.Seq.{length-take-le}
-use Rattle.case_lines.proofs.read_bytes.Statement.{statement}
-use Rattle.case_lines.proofs.read_bytes.Tie as tie
+use Rattle.case_fields.proofs.read_bytes.Statement.{statement}
+use Rattle.case_fields.proofs.read_bytes.Tie as tie
 
 abbrev Inv-loop : tie.InvT-loop
 Inv-loop block₀ buffer₀ place₀ size₀ block buffer place size = (size ≤ length buffer) × (length buffer ≡ length buffer₀)
