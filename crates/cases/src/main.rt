@@ -1,7 +1,12 @@
 // Tries each case of standard input, a line whose first field is the number of its call: 1 the judge, 2 a run, 3 the route reader, 4 the listing. It
 // prints what the call answers, and `unreadable` for a line that is no case.
-use case_lines::BLOCK;
-use case_lines::Place;
+mod judge_line;
+mod marks_line;
+mod route_line;
+mod run_line;
+
+use case_fields::BLOCK;
+use case_fields::Place;
 use libc::STDOUT_FILENO;
 
 // The longest sheet, in bytes. A case with a longer one is unreadable.
@@ -9,7 +14,7 @@ const ROOM: usize = 65536;
 
 // The place after a line that names no call.
 fn no_case(block: &mut [u8; BLOCK], place: Place) -> Place {
-    let after = case_lines::end_line(block, place);
+    let after = case_fields::end_line(block, place);
     Place {
         at: after.at,
         filled: after.filled,
@@ -19,7 +24,7 @@ fn no_case(block: &mut [u8; BLOCK], place: Place) -> Place {
 }
 
 fn print_case(block: &mut [u8; BLOCK], place: Place, sheet: &mut [u8]) -> Place {
-    let call = case_lines::read_number(block, place, 4);
+    let call = case_fields::read_number(block, place, 4);
     let number = call.value;
     let fields = call.place;
     match number {
@@ -41,11 +46,11 @@ fn print_line(block: &mut [u8; BLOCK], place: Place, sheet: &mut [u8]) -> Place 
 
 // A proved loop has to end, so it counts down from a number that no run uses up.
 fn print_lines(block: &mut [u8; BLOCK], sheet: &mut [u8]) {
-    let mut place = case_lines::start();
+    let mut place = case_fields::start();
     let mut turns = u64::MAX;
     while turns > 0 {
         turns -= 1;
-        place = case_lines::next_line(block, place);
+        place = case_fields::next_line(block, place);
         if place.filled == 0 {
             return;
         }
