@@ -1,8 +1,6 @@
 // Tries each case of standard input, a line whose first field is the number of its call: 1 the judge, 2 a run, 3 the route reader, 4 the listing. It
 // prints what the call answers, and `unreadable` for a line that is no case.
-mod judge_line;
 mod marks_line;
-mod route_line;
 mod run_line;
 
 use case_fields::BLOCK;

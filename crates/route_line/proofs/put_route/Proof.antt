@@ -3,8 +3,8 @@ use mathlib.Core.Path.{sym}
 use borrow.Author.Needs.{needs}
 use native.Mathlib.Omega.{arith}
 use lib.Seq.{length-take-le}
-use Rattle.cases.proofs.route_line.put_route.Statement.{statement}
-use Rattle.cases.proofs.route_line.put_route.Tie as tie
+use Rattle.route_line.proofs.put_route.Statement.{statement}
+use Rattle.route_line.proofs.put_route.Tie as tie
 
 slice-aggregate-put : tie.Need-slice-aggregate-put
 slice-aggregate-put c = search needs

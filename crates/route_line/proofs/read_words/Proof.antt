@@ -5,8 +5,8 @@ use borrow.Author.Needs.{needs}
 use native.Mathlib.Omega.{arith}
 use lib.ListN.{length, length-set}
 use lib.Seq.{length-take-le}
-use Rattle.cases.proofs.route_line.read_words.Statement.{statement}
-use Rattle.cases.proofs.route_line.read_words.Tie as tie
+use Rattle.route_line.proofs.read_words.Statement.{statement}
+use Rattle.route_line.proofs.read_words.Tie as tie
 
 abbrev Inv-loop : tie.InvT-loop
 Inv-loop bytes table₀ count i₀ table i = (i ≤ length table) × (length table ≡ length table₀)

@@ -3,8 +3,8 @@ use mathlib.Core.Path.{sym}
 use borrow.Author.Needs.{needs}
 use native.Mathlib.Omega.{arith}
 use lib.Seq.{length-take-le}
-use Rattle.cases.proofs.route_line.route_case.Statement.{statement}
-use Rattle.cases.proofs.route_line.route_case.Tie as tie
+use Rattle.route_line.proofs.route_case.Statement.{statement}
+use Rattle.route_line.proofs.route_case.Tie as tie
 
 slice-aggregate-route-in : tie.Need-slice-aggregate-route-in
 slice-aggregate-route-in c = search needs
