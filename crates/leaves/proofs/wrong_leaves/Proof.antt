@@ -37,7 +37,8 @@ returns : tie.Need-returns Inv-loop μ-loop
 returns c =
     let loop = c .before .before .loop in
     let leaves = c .before .before .before .before .count-leaves .ensures in
-    sym (one-wrong _ _ (loop .a) (λ e. c .if1 .taken (leaves .1 .counts (loop .a) (omega (arith, leaves .0)) ∙ e)))
+    let count = leaves .1 .counts (loop .a) (omega (arith, leaves .0)) in
+    sym (one-wrong _ _ (loop .a) (λ e. omega (arith, c .if1 .taken, count, e)))
 
 add-a : tie.Need-add-a Inv-loop μ-loop
 add-a c = omega arith
