@@ -4,15 +4,15 @@ use mathlib.Core.Bool.{true, false}
 use mathlib.Core.Path.{_≡_, refl, sym, ap, _∙_}
 use mathlib.Core.Logic.{_≢_}
 use mathlib.Core.List.{List}
-use borrow.Author.Tests.{leb-false, eqb-true, not-false}
-use lib.ListN.{length}
+use borrow.Author.Tests.{leb-false}
 use Rattle.sheet.specs.declared.Sections.{Sections}
 use Rattle.sheet.specs.Sections.{Located, nodeCount}
 use Rattle.sheet.specs.Answer.{input, state, Answer, accepted, refused, lowest}
 use Rattle.sheet.proofs.Lowest.{lowest-clear, lowest-stop, clear-at}
 use Rattle.refusals.specs.Judgement.{Accepted}
-use Rattle.answers.specs.Tables.{tableLength, wrongLength}
+use Rattle.answers.specs.Tables.{wrongLength}
 use Rattle.answers.specs.Routes.{nodeOutside, tableRefusals, foundRoute, routeAnswer, leftBy, bufferAfter, TableKnown}
+use Rattle.answers.proofs.Outcome.{right-length}
 use Rattle.answers.proofs.Routes.{after-sheet, table-known}
 use Rattle.lent_table.specs.Fitting.{Fitting}
 use Rattle.table_test.specs.Numbers.{stateNumbered}
@@ -24,12 +24,7 @@ unfolding nodeOutside
 node-below b node e = leb-false (nodeCount b) node e
 
 pub table-fits : {b table : List ℕ} {at : Sections} → Located b at → Accepted b → wrongLength b table ≡ false → Fitting b at table
-unfolding wrongLength
-table-fits {b} {table} found ok e = record {
-  located = found;
-  accepted = ok;
-  sized = eqb-true (length table) (tableLength (nodeCount b)) (not-false _ e);
-}
+table-fits {b} {table} found ok e = record { located = found; accepted = ok; sized = right-length b table e }
 
 pub table-ready : {b table : List ℕ} {at : Sections} → Fitting b at table → lowest (tableRefusals b table) accepted ≡ accepted → Ready b at table
 unfolding tableRefusals

@@ -7,20 +7,16 @@ use judge::Judged;
 use run_answer::Ran;
 use sheet::Fault;
 
-// How many words of a table stand before those of the nodes.
-const HEADER: usize = 9;
-
 // Runs an accepted sheet for at most `limit` rounds.
 fn run_accepted(sheet: &[u8], limit: u64, table: &mut [u32]) -> Ran
     requires { ⌜ Accepted (now sheet) ⌝ }
     ensures { λ r. ⌜ (said r ≡ runAnswer (now (sheet .entry)) limit (now (table .entry)))
         × (now (table .exit) ≡ tableAfter (now (sheet .entry)) limit (now (table .entry))) ⌝ }
 {
-    let at = sheet::find_sections(sheet);
-    let nodes = sheet::node_count(sheet) as usize;
-    if table.len() != HEADER + 2 * nodes {
+    if lent_table::wrong_length(sheet, table) {
         return Ran::Refused(Fault::State(21));
     }
+    let at = sheet::find_sections(sheet);
     run_answer::status(execution::run_accepted(sheet, at, limit, table))
 }
 
