@@ -16,7 +16,7 @@ fn run_accepted(sheet: &[u8], limit: u64, table: &mut [u32]) -> Ran
     ensures { λ r. ⌜ (said r ≡ runAnswer (now (sheet .entry)) limit (now (table .entry)))
         × (now (table .exit) ≡ tableAfter (now (sheet .entry)) limit (now (table .entry))) ⌝ }
 {
-    let at = sheet::find_sections(sheet);
+    let at = sections::find_sections(sheet);
     let nodes = sheet::node_count(sheet) as usize;
     if table.len() != HEADER + 2 * nodes {
         return Ran::Refused(Fault::State(21));

@@ -1,9 +1,9 @@
 -- `arc_word` meets its contract: the field of the word. Assumes nothing.
 use borrow.Author.Needs.{needs}
 use native.Mathlib.Omega.{arith}
 use Rattle.sheet.specs.Regions.{arcWord}
-use Rattle.sheet.proofs.arc_word.Statement.{statement}
-use Rattle.sheet.proofs.arc_word.Tie as tie
+use Rattle.fields.proofs.arc_word.Statement.{statement}
+use Rattle.fields.proofs.arc_word.Tie as tie
 
 payload-at-requires : tie.Need-payload-at-requires
 payload-at-requires c κs = search needs

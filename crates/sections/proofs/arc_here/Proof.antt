@@ -1,8 +1,8 @@
 -- `arc_here` meets its contract: the tests of the two words decide. Assumes nothing.
 use borrow.Author.Needs.{needs}
 use borrow.Author.Tests.{eq-eqb, ne-eqb}
-use Rattle.sheet.proofs.arc_here.Statement.{statement}
-use Rattle.sheet.proofs.arc_here.Tie as tie
+use Rattle.sections.proofs.arc_here.Statement.{statement}
+use Rattle.sections.proofs.arc_here.Tie as tie
 
 kind-at-requires : tie.Need-kind-at-requires
 kind-at-requires c κs = search needs

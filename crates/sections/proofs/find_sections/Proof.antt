@@ -2,10 +2,10 @@
 use mathlib.Core.Path.{ap}
 use borrow.Author.Needs.{needs}
 use native.Mathlib.Omega.{arith}
 use Rattle.sheet.specs.Sections.{arcsFrom}
 use Rattle.sheet.proofs.Bounds.{spans-le}
-use Rattle.sheet.proofs.find_sections.Statement.{statement}
-use Rattle.sheet.proofs.find_sections.Tie as tie
+use Rattle.sections.proofs.find_sections.Statement.{statement}
+use Rattle.sections.proofs.find_sections.Tie as tie
 
 past-spans-requires : tie.Need-past-spans-requires
 past-spans-requires c κs = search needs

@@ -1,9 +1,9 @@
 -- `part_after` meets its contract: a part to the end of the sheet. Assumes nothing.
 use borrow.Author.Needs.{needs}
 use Prim.Native.Nat.{_*_}
 use Rattle.sheet.proofs.Bounds.{to-end}
-use Rattle.sheet.proofs.part_after.Statement.{statement}
-use Rattle.sheet.proofs.part_after.Tie as tie
+use Rattle.sections.proofs.part_after.Statement.{statement}
+use Rattle.sections.proofs.part_after.Tie as tie
 
 mul-from : tie.Need-mul-from
 mul-from c = search needs

@@ -1,8 +1,8 @@
 -- `next_word` meets its contract: the word where there is one, else the end. Assumes nothing.
 use borrow.Author.Needs.{needs}
 use borrow.Author.Tests.{lt-ltb, le-ltb}
-use Rattle.sheet.proofs.next_word.Statement.{statement}
-use Rattle.sheet.proofs.next_word.Tie as tie
+use Rattle.sections.proofs.next_word.Statement.{statement}
+use Rattle.sections.proofs.next_word.Tie as tie
 
 word-at-requires : tie.Need-word-at-requires
 word-at-requires c κs = search needs

@@ -1,9 +1,9 @@
 -- `is_leaf` meets its contract: region 0 is inner, another region is as its word says. Assumes nothing.
 use mathlib.Core.Path.{_∙_}
 use borrow.Author.Needs.{needs}
 use Rattle.sheet.proofs.Regions.{leaf-of-word}
-use Rattle.sheet.proofs.is_leaf.Statement.{statement}
-use Rattle.sheet.proofs.is_leaf.Tie as tie
+use Rattle.fields.proofs.is_leaf.Statement.{statement}
+use Rattle.fields.proofs.is_leaf.Tie as tie
 
 cast-i : tie.Need-cast-i
 cast-i c = search needs

@@ -1,8 +1,8 @@
 -- `leaf_word` meets its contract: the kind is 7. Assumes nothing.
 use borrow.Author.Needs.{needs}
 use Rattle.sheet.specs.Regions.{leafWord}
-use Rattle.sheet.proofs.leaf_word.Statement.{statement}
-use Rattle.sheet.proofs.leaf_word.Tie as tie
+use Rattle.fields.proofs.leaf_word.Statement.{statement}
+use Rattle.fields.proofs.leaf_word.Tie as tie
 
 kind-at-requires : tie.Need-kind-at-requires
 kind-at-requires c κs = search needs

@@ -1,9 +1,9 @@
 -- `parent_word` meets its contract: the field that the kind has. Assumes nothing.
 use mathlib.Core.Path.{sym, _∙_}
 use borrow.Author.Needs.{needs}
 use Rattle.sheet.specs.Regions.{parentWord}
-use Rattle.sheet.proofs.parent_word.Statement.{statement}
-use Rattle.sheet.proofs.parent_word.Tie as tie
+use Rattle.fields.proofs.parent_word.Statement.{statement}
+use Rattle.fields.proofs.parent_word.Tie as tie
 
 payload-at-requires : tie.Need-payload-at-requires
 payload-at-requires c κs = search needs

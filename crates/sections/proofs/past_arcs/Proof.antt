@@ -6,10 +6,10 @@ use borrow.Author.Tests.{not-true, not-false}
 use native.Mathlib.Omega.{arith}
 use Rattle.indices.specs.Tests.{lead}
 use Rattle.indices.proofs.Tests.{lead-none, lead-more, lead-stop, lead-end}
 use Rattle.sheet.specs.Words.{words}
 use Rattle.sheet.specs.Sections.{isArc, arcsFrom}
-use Rattle.sheet.proofs.past_arcs.Statement.{statement}
-use Rattle.sheet.proofs.past_arcs.Tie as tie
+use Rattle.sections.proofs.past_arcs.Statement.{statement}
+use Rattle.sections.proofs.past_arcs.Tie as tie
 
 abbrev Inv-loop : tie.InvT-loop
 Inv-loop s from pairs a₀ a = (a ≤ (words s - from) / 2) × (lead (isArc s from) a ≡ a)

@@ -2,9 +2,9 @@
 use mathlib.Core.Path.{refl}
 use borrow.Author.Needs.{needs}
 use native.Mathlib.Omega.{arith}
 use Rattle.sheet.specs.Arcs.{tail, head}
-use Rattle.sheet.proofs.end_at.Statement.{statement}
-use Rattle.sheet.proofs.end_at.Tie as tie
+use Rattle.fields.proofs.end_at.Statement.{statement}
+use Rattle.fields.proofs.end_at.Tie as tie
 
 ends-at-requires : tie.Need-ends-at-requires
 ends-at-requires c κs = search needs

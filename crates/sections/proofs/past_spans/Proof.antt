@@ -6,10 +6,10 @@ use borrow.Author.Tests.{eq-eqb, ne-eqb}
 use native.Mathlib.Omega.{arith}
 use Rattle.indices.specs.Tests.{lead}
 use Rattle.indices.proofs.Tests.{lead-none, lead-more, lead-stop, lead-end}
 use Rattle.sheet.specs.Words.{words}
 use Rattle.sheet.specs.Sections.{isSpan, spansFrom}
-use Rattle.sheet.proofs.past_spans.Statement.{statement}
-use Rattle.sheet.proofs.past_spans.Tie as tie
+use Rattle.sections.proofs.past_spans.Statement.{statement}
+use Rattle.sections.proofs.past_spans.Tie as tie
 
 abbrev Inv-loop : tie.InvT-loop
 Inv-loop s from total k₀ k = (from + k ≤ words s) × (lead (isSpan s from) k ≡ k)
