@@ -19,8 +19,8 @@ pub fn enter_ends(s: &[u8], at: Sections, arcs: &mut [u16])
     let n = at.arcs as u16;
     let mut a: u16 = 0;
     while a < n {
-        let tail = sheet::end_at(s, at, Arc(a), false);
-        let head = sheet::end_at(s, at, Arc(a), true);
+        let tail = fields::end_at(s, at, Arc(a), false);
+        let head = fields::end_at(s, at, Arc(a), true);
         rows::set_field(arcs, a, rows::TAIL, tail.0);
         rows::set_field(arcs, a, rows::HEAD, head.0);
         a += 1;
@@ -32,10 +32,10 @@ fn enter_leaf(d: &[u8], k: usize, arcs: &mut [u16])
     requires { ⌜ (k < words (now d)) × LeavesApart (now d) (rowCount (now arcs)) ⌝ }
     ensures { λ _. ⌜ now (arcs .exit) ≡ leafEntered (now (d .entry)) k (now (arcs .entry)) ⌝ }
 {
-    if !sheet::leaf_word(d, k) {
+    if !fields::leaf_word(d, k) {
         return;
     }
-    let a = sheet::arc_word(d, k);
+    let a = fields::arc_word(d, k);
     rows::set_field(arcs, a.0, rows::LEAF, (k + 1) as u16);
 }
 
@@ -61,7 +61,7 @@ pub fn enter_lengths(s: &[u8], at: Sections, lengths: &mut [u32])
     let mut a: u16 = 0;
     while a < n {
         let i = a as usize;
-        lengths[i] = sheet::length_at(s, at, Arc(a));
+        lengths[i] = fields::length_at(s, at, Arc(a));
         a += 1;
     }
 }

@@ -22,7 +22,7 @@ pub fn bit_set(s: &[u8], at: Sections) -> bool
     let arcs = at.arcs as u16;
     let mut a: u16 = 0;
     while a < arcs {
-        if sheet::ends_at(s, at, Arc(a)) >= 1048576 {
+        if fields::ends_at(s, at, Arc(a)) >= 1048576 {
             return true;
         }
         a += 1;
@@ -35,7 +35,7 @@ fn end_outside(s: &[u8], at: Sections, a: Arc, head: bool) -> bool
     requires { ⌜ Located (now s) at × (a .0 < arcCount (now s)) ⌝ }
     ensures { λ r. ⌜ r ≡ leb (nodeCount (now (s .entry))) (endOf head (now (s .entry)) (a .0)) ⌝ }
 {
-    let v = sheet::end_at(s, at, a, head);
+    let v = fields::end_at(s, at, a, head);
     sheet::node_count(s) <= v.0 as u32
 }
 
@@ -63,7 +63,7 @@ fn field_refusal(s: &[u8], at: Sections) -> u8
         if ends_outside(s, at, Arc(a)) {
             outside = true;
         }
-        if sheet::length_at(s, at, Arc(a)) > sheet::MOST_LENGTH {
+        if fields::length_at(s, at, Arc(a)) > sheet::MOST_LENGTH {
             long = true;
         }
         a += 1;

@@ -18,8 +18,8 @@ pub fn crowded_nodes(s: &[u8], at: Sections) -> bool
     let arcs = at.arcs as u16;
     let mut a: u16 = 0;
     while a < arcs {
-        let tail = sheet::end_at(s, at, Arc(a), false);
-        let head = sheet::end_at(s, at, Arc(a), true);
+        let tail = fields::end_at(s, at, Arc(a), false);
+        let head = fields::end_at(s, at, Arc(a), true);
         let v = tail.0 as usize;
         let w = head.0 as usize;
         let x = tails[v];

@@ -34,7 +34,7 @@ fn nesting_refusal(d: &[u8], spans: usize) -> u8
         let up = parents::parent_of(d, Region(r));
         let p = up.0 as usize;
         let own = best[i];
-        let least = !sheet::is_leaf(d, Region(r)) as u16;
+        let least = !fields::is_leaf(d, Region(r)) as u16;
         if own < least {
             return 13;
         }

@@ -66,7 +66,7 @@ fn lowest_refusal(s: &[u8]) -> u8
     if order::out_of_order(s) {
         return 2;
     }
-    later_refusal(s, sheet::find_sections(s))
+    later_refusal(s, sections::find_sections(s))
 }
 
 // The answer for the number of a refusal, or for 0.

@@ -22,7 +22,7 @@ fn leaf_bits(d: &[u8], k: usize) -> bool
     if sheet::payload_at(d, k) < 8388608 {
         return false;
     }
-    sheet::leaf_word(d, k)
+    fields::leaf_word(d, k)
 }
 
 // Refusal 3, of the leaves: a bit set that must be zero.
@@ -49,10 +49,10 @@ fn count_leaves(d: &[u8]) -> Counters
     let n = d.len() / 4;
     let mut k = 0;
     while k < n {
-        let arc = sheet::arc_word(d, k);
+        let arc = fields::arc_word(d, k);
         let at = arc.0 as usize;
         let x = seen[at];
-        seen[at] = x + sheet::leaf_word(d, k) as u16;
+        seen[at] = x + fields::leaf_word(d, k) as u16;
         k += 1;
     }
     Counters { n: seen }

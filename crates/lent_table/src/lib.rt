@@ -47,5 +47,5 @@ pub fn previous(s: &[u8], at: Sections, table: &[u32], v: Node) -> Node
     requires { ⌜ Fitting (now s) at (now table) × (v .0 < nodeCount (now s)) × (predecessorIn (now table) (v .0) < arcCount (now s)) ⌝ }
     ensures { λ u. ⌜ (u .0 ≡ nodeBefore (now (s .entry)) (now (table .entry)) (v .0)) × (u .0 < 1024) ⌝ }
 {
-    sheet::end_at(s, at, Arc(predecessor_of(table, v) as u16), false)
+    fields::end_at(s, at, Arc(predecessor_of(table, v) as u16), false)
 }

@@ -12,12 +12,12 @@ fn wrong_parent(d: &[u8], k: usize) -> bool
     requires { ⌜ (k < words (now d)) × (words (now d) < 65536) ⌝ }
     ensures { λ r. ⌜ r ≡ wrongParent (now (d .entry)) k ⌝ }
 {
-    let p = sheet::parent_word(d, k) as usize;
+    let p = fields::parent_word(d, k) as usize;
     let r = k + 1;
     if r <= p {
         return true;
     }
-    sheet::is_leaf(d, Region(p as u16))
+    fields::is_leaf(d, Region(p as u16))
 }
 
 // Refusal 11: some word has a parent that is not a lower region, or is a leaf.
@@ -42,5 +42,5 @@ pub fn parent_of(d: &[u8], r: Region) -> Region
     ensures { λ p. ⌜ (p .0 ≡ parent (now (d .entry)) (r .0)) × (p .0 < r .0) ⌝ }
 {
     let i = r.0 as usize;
-    Region(sheet::parent_word(d, i - 1) as u16)
+    Region(fields::parent_word(d, i - 1) as u16)
 }

@@ -1,5 +1,5 @@
 // How a sheet is read: a struct that holds the sheet and a place in it, and thin functions over it. The borrow checker covers none of these, so
-// each takes the struct apart for a function of `sheet`, which does the work, and is proved by hand; callers use the functions below them.
+// each takes the struct apart for a function of `sections`, which does the work, and is proved by hand; callers use the functions below them.
 ghost use mathlib.Core.Path.{_≡_};
 ghost use Prim.Native.Nat.{_≤_};
 ghost use Rattle.sheet.specs.Words.{words};
@@ -33,7 +33,7 @@ pub fn place<'a>(r: Reader<'a>) -> Cursor
 pub fn next<'a>(r: Reader<'a>) -> Step
     ensures { λ s. ⌜ s ≡ stepAt (now (r .entry .sheet)) (placeOf (r .entry)) ⌝ }
 {
-    sheet::next_word(r.sheet, place(r))
+    sections::next_word(r.sheet, place(r))
 }
 
 // What is left of the sheet.
@@ -41,7 +41,7 @@ pub fn rest<'a>(r: Reader<'a>) -> &'a [u8]
     requires { ⌜ r .at ≤ words (now (r .sheet)) ⌝ }
     ensures { λ s. ⌜ now s ≡ partAfter (now (r .entry .sheet)) (placeOf (r .entry)) ⌝ }
 {
-    sheet::part_after(r.sheet, place(r))
+    sections::part_after(r.sheet, place(r))
 }
 
 // The word after a place, with the place after it, or the end.

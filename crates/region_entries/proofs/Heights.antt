@@ -14,13 +14,14 @@ use Rattle.indices.proofs.Columns.{length-column, at-column}
 use Rattle.indices.proofs.Steps.{eq-or-ne, set-elim}
 use Rattle.sheet.specs.Words.{words}
 use Rattle.sheet.specs.Regions.{regionCount, isLeaf, parent, height}
-use Rattle.sheet.proofs.Highest.{Highest, highestFrom, highest-start, highest-turn, highest-le, height-highest}
+use Rattle.sheet.proofs.Heights.{height-most}
+use Rattle.sheet.proofs.Handed.{handedFrom, Handed, handed-le, handed-start, handed-turn, height-handed}
 use Rattle.slices.specs.Tables.{arcEntry, heightEntry}
 use Rattle.region_entries.specs.Regions.{Nested, arcInRow, ArcsEntered, HeightsEntered}
 
 -- the largest height of a child of q among the regions from i on
 abbrev highestOf : List ℕ → ℕ → ℕ → ℕ
-highestOf d i q = highestFrom (isLeaf d) (parent d) (regionCount d) i q
+highestOf d i q = handedFrom (parent d) (height d) (regionCount d) i q
 
 -- the regions above r have their heights
 pub record EnteringHeights (d rows : List ℕ) (r : ℕ) : Type 0 where
@@ -38,7 +39,7 @@ heights-none {d} {rows} A = record {
   above = λ q l h. absurd (omega arith);
   rest =
       λ q l.
-      let none = highest-start (isLeaf d) (parent d) (regionCount d) (regionCount d) (words d) refl in
+      let none = handed-start (parent d) (height d) (regionCount d) (regionCount d) (words d) refl in
       A .zeros q (omega arith) ∙ sym (getD-replicate (regionCount d) q 0 0 (omega arith))
       ∙ none .entry q (simp length-replicate (omega arith));
 }
@@ -46,12 +47,14 @@ heights-none {d} {rows} A = record {
 module _ {d rows : List ℕ} {r : ℕ} (ok : Nested d) (H : EnteringHeights d rows r) where
   -- no entry so far is above the number of regions
   pub heights-fit : (q : ℕ) → q ≤ r → heightEntry rows q < 65535
-  heights-fit q l = omega (arith, H .rest q l, highest-le (isLeaf d) (parent d) (regionCount d) (suc r) q, ok .few)
+  heights-fit q l =
+      let low = handed-le (parent d) (height d) (regionCount d) (regionCount d) (height-most (isLeaf d) (parent d) (regionCount d)) (suc r) q in
+      omega (arith, H .rest q l, ok .few)
 
   own-height : (own : ℕ) (leaf : Bool) → leaf ≡ isLeaf d r → own ≡ cond leaf 0 (suc (heightEntry rows r)) → own ≡ height d r
   own-height own leaf el eo =
       eo ∙ rw (el, H .rest r (le-refl r))
-      (sym (height-highest (isLeaf d) (parent d) (regionCount d) (ok .nesting) (suc r) r (omega (arith, H .within)) (le-refl (suc r))))
+      (sym (height-handed (isLeaf d) (parent d) (regionCount d) (ok .nesting) (suc r) r (omega (arith, H .within)) (le-refl (suc r))))
 
   -- region r gets its height and hands it to its parent p
   module _ (p own x : ℕ) (leaf : Bool) (pos : 0 < r) (ep : p ≡ parent d r) (el : leaf ≡ isLeaf d r) (eo : own ≡ cond leaf 0 (suc (heightEntry rows r)))
@@ -70,11 +73,10 @@ module _ {d rows : List ℕ} {r : ℕ} (ok : Nested d) (H : EnteringHeights d ro
     unfolding best
     best-long = length-column (suc r) (heightEntry rows)
 
-    turned : Highest (isLeaf d) (parent d) (regionCount d) (set best p x) (r - 1)
+    turned : Handed (parent d) (height d) (regionCount d) (set best p x) (r - 1)
     turned =
-        highest-turn (isLeaf d) (parent d) (regionCount d) (ok .nesting) best r p x own leaf pos (omega (arith, H .within)) (omega (arith, best-long))
-        (omega (arith, best-long, low)) ep el (rw (best-at r (le-refl r)) eo)
-        (ex ∙ ap (λ (h : ℕ). max h own) (getD-set-other rows (2 * r + 1) (2 * p + 1) own 0 (omega (arith, low)) ∙ sym (best-at p (omega (arith, low)))))
+        handed-turn (parent d) (height d) (regionCount d) best r p x pos (omega (arith, H .within)) (omega (arith, best-long, low)) ep
+        (omega (arith, ex, own-height own leaf el eo, getD-set-other rows (2 * r + 1) (2 * p + 1) own 0 (omega (arith, low)), best-at p (omega (arith, low))))
         (record { entry = λ q l. let here : q ≤ r = omega (arith, best-long) in best-at q here ∙ H .rest q here })
 
     rows₁ : List ℕ

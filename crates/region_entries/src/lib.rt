@@ -18,7 +18,7 @@ pub fn enter_parents(d: &[u8], parents: &mut [u16])
     let n = d.len() / 4;
     let mut k = 0;
     while k < n {
-        parents[k + 1] = sheet::parent_word(d, k) as u16;
+        parents[k + 1] = fields::parent_word(d, k) as u16;
         k += 1;
     }
 }
@@ -28,11 +28,11 @@ fn arc_in_row(d: &[u8], r: Region) -> u16
     requires { ⌜ r .0 ≤ words (now d) ⌝ }
     ensures { λ a. ⌜ a ≡ arcInRow (now (d .entry)) (r .0) ⌝ }
 {
-    if !sheet::is_leaf(d, r) {
+    if !fields::is_leaf(d, r) {
         return slices::INNER;
     }
     let i = r.0 as usize;
-    sheet::arc_word(d, i - 1).0
+    fields::arc_word(d, i - 1).0
 }
 
 // The height in a region's row.
@@ -85,7 +85,7 @@ pub fn enter_heights(d: &[u8], parents: &[u16], regions: &mut [u16])
 {
     let mut r = (d.len() / 4) as u16;
     while 0 < r {
-        let height = above(sheet::is_leaf(d, Region(r)), height_in(regions, Region(r)));
+        let height = above(fields::is_leaf(d, Region(r)), height_in(regions, Region(r)));
         set_height(regions, Region(r), height);
         let i = r as usize;
         let parent = Region(parents[i]);

@@ -20,7 +20,7 @@ fn answer(s: &[u8], table: &[u32], node: u32, buffer: &mut [u32]) -> Routed
     if lent_table::wrong_length(s, table) {
         return Routed::Refused(Fault::State(21));
     }
-    let at = sheet::find_sections(s);
+    let at = sections::find_sections(s);
     let number = table_test::table_refusal(s, at, table);
     if number != 0 {
         return Routed::Refused(Fault::State(number));

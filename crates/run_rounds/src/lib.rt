@@ -16,7 +16,7 @@ fn run_accepted(sheet: &[u8], limit: u64, table: &mut [u32]) -> Ran
     if lent_table::wrong_length(sheet, table) {
         return Ran::Refused(Fault::State(21));
     }
-    let at = sheet::find_sections(sheet);
+    let at = sections::find_sections(sheet);
     run_answer::status(execution::run_accepted(sheet, at, limit, table))
 }
 

@@ -1,5 +1,5 @@
 pub mod Heights
-pub mod Highest
+pub mod Handed
 pub mod Bounds
 pub mod Regions
 pub mod Lowest

@@ -26,11 +26,12 @@ fn arc_relaxed(s: &[u8], at: Sections, table: &[u32], a: Arc) -> bool
     requires { ⌜ Fitting (now s) at (now table) × (a .0 < arcCount (now s)) ⌝ }
     ensures { λ r. ⌜ r ≡ arcRelaxed (now (s .entry)) (now (table .entry)) (a .0) ⌝ }
 {
-    let from = lent_table::label_of(table, sheet::end_at(s, at, a, false));
+    let from = lent_table::label_of(table, fields::end_at(s, at, a, false));
     if from == lent_table::NONE {
         return true;
     }
-    lent_table::label_of(table, sheet::end_at(s, at, a, true)) <= from + sheet::length_at(s, at, a)
+    lent_table::label_of(table, fields::end_at(s, at, a, true))
+        <= from + fields::length_at(s, at, a)
 }
 
 // Whether every arc is relaxed.

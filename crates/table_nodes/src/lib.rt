@@ -14,15 +14,15 @@ fn feeds(s: &[u8], at: Sections, table: &[u32], a: Arc, v: Node) -> bool
     requires { ⌜ Fitting (now s) at (now table) × (a .0 < arcCount (now s)) × (v .0 < nodeCount (now s)) ⌝ }
     ensures { λ r. ⌜ r ≡ feeds (now (s .entry)) (now (table .entry)) (a .0) (v .0) ⌝ }
 {
-    let to = sheet::end_at(s, at, a, true);
+    let to = fields::end_at(s, at, a, true);
     if to.0 != v.0 {
         return false;
     }
-    let from = lent_table::label_of(table, sheet::end_at(s, at, a, false));
+    let from = lent_table::label_of(table, fields::end_at(s, at, a, false));
     if from == lent_table::NONE {
         return false;
     }
-    from + sheet::length_at(s, at, a) == lent_table::label_of(table, v)
+    from + fields::length_at(s, at, a) == lent_table::label_of(table, v)
 }
 
 // Whether a node has the predecessor that its label asks for: none if it is unreached, and else, but for the source, an arc that feeds it.

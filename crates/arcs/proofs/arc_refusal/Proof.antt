@@ -2,10 +2,9 @@
 use mathlib.Core.Path.{sym, ap, _∙_}
 use borrow.Author.Needs.{needs}
 use Rattle.sheet.specs.Answer.{numbered}
-use Rattle.sheet.proofs.Lowest.{clear-at}
+use Rattle.sheet.proofs.Lowest.{clear-at, stage-stops}
 use Rattle.refusals.specs.Judgement.{arcRefusals}
 use Rattle.arcs.specs.Fields.{fieldRefusals}
-use Rattle.arcs.proofs.Stops.{stage-stops}
 use Rattle.arcs.proofs.arc_refusal.Statement.{statement}
 use Rattle.arcs.proofs.arc_refusal.Tie as tie
 

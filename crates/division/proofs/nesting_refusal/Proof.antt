@@ -1,5 +1,5 @@
 -- `nesting_refusal` meets its contract: the regions passed have handed up their heights, and none of them is childless. Assumes nothing.
-use Prim.Native.Nat.{suc, _≤_}
+use Prim.Native.Nat.{_≤_}
 use mathlib.Core.Bool.{true}
 use mathlib.Core.Path.{_≡_, refl, sym, _∙_}
 use borrow.Author.Tests.{eq-eqb, ne-eqb}
@@ -8,7 +8,7 @@ use lib.ListN.{length, getD, length-set}
 use Rattle.sheet.specs.Words.{words}
 use Rattle.sheet.specs.Regions.{isLeaf, parent, regionCount}
 use Rattle.refusals.specs.Nesting.{spansDiffer}
-use Rattle.division.proofs.Handed.{handed-le}
+use Rattle.division.proofs.Held.{held-le}
 use Rattle.division.proofs.Childless.{Passed, holds-none, none-held, passed-start, passed-turn, found-childless, all-passed, root-height}
 use Rattle.division.proofs.nesting_refusal.Statement.{statement}
 use Rattle.division.proofs.nesting_refusal.Tie as tie
@@ -68,7 +68,7 @@ add-larger c =
     let earlier = c .before .before .before .before in
     let loop = earlier .before .loop in
     let d = earlier .before .before .before .args .d .now in
-    omega (arith, loop .inv .2 .handed .entry (loop .r) (omega arith), handed-le (isLeaf d) (parent d) (regionCount d) (suc (loop .r)) (loop .r))
+    omega (arith, loop .inv .2 .handed .entry (loop .r) (omega arith), held-le (isLeaf d) (parent d) (regionCount d) (loop .r))
 
 larger-requires : tie.Need-larger-requires Inv-loop μ-loop
 larger-requires c κs = omega arith

@@ -1,6 +1,6 @@
 -- `answer` meets its contract: a number other than 0 is a refusal from the input. Assumes nothing.
 use mathlib.Core.Path.{sym}
-use Rattle.arcs.proofs.Stops.{a-refusal}
+use Rattle.sheet.proofs.Lowest.{a-refusal}
 use Rattle.judge.proofs.answer.Statement.{statement}
 use Rattle.judge.proofs.answer.Tie as tie
 

@@ -11,9 +11,9 @@ use contract.Running.{givenOf, tables, tablesOf}
 use denote.Triple.Spec.{tripleOf}
 use denote.Triple.Table.{entered, cited}
 use Rattle.sheet.proofs.Step.Laws as S′
-use Rattle.sheet.proofs.next_word.Symbol as next-word-def
-use Rattle.sheet.proofs.next_word.Symbol.{name as #sheet·next-word}
-use Rattle.sheet.proofs.next_word.Met as next-word-thm
+use Rattle.sections.proofs.next_word.Symbol as next-word-def
+use Rattle.sections.proofs.next_word.Symbol.{name as #sections·next-word}
+use Rattle.sections.proofs.next_word.Met as next-word-thm
 use Rattle.reader.proofs.Calls.{Place, overReader, OverSheet, apart-meets}
 use Rattle.reader.proofs.Promises.{step, wordAfter, step-shaped}
 use Rattle.reader.proofs.place.Symbol as place-def
@@ -35,9 +35,9 @@ next-spec 𝓤 H 𝓜 𝓖 𝓡 =
     let W = givenOf 𝓤 H 𝓜 𝓖 in
     entered 𝓤 H (tripleOf 𝓤 H (𝓖 .A) next.signature (next.spec 𝓤 H (𝓖 .A) (𝓜 .mem) (𝓡 .run)))
     (tables 𝓤 H 𝓜 𝓡 code.env .C) (tables 𝓤 H 𝓜 𝓡 code.env .Λ) #reader·next code.function (code.unfolded 𝓤 H 𝓜 𝓡)
-    (apart-meets 𝓤 H (𝓖 .A) W (𝓜 .mem) (𝓡 .run) step (wordAfter 𝓤) S′.mir (step-shaped 𝓤 H (𝓖 .A) W) #sheet·next-word
+    (apart-meets 𝓤 H (𝓖 .A) W (𝓜 .mem) (𝓡 .run) step (wordAfter 𝓤) S′.mir (step-shaped 𝓤 H (𝓖 .A) W) #sections·next-word
     (tablesOf 𝓤 H 𝓜 (tables 𝓤 H 𝓜 𝓡 code.env))
     (cited 𝓤 H (Place 𝓤 H (𝓖 .A) (𝓜 .mem) (𝓡 .run)) 𝓜 𝓡 code.env #reader·place place-def.routine code.calls-reader·place
     (place-thm.met 𝓤 H 𝓜 𝓖 𝓡))
-    (cited 𝓤 H (OverSheet 𝓤 H (𝓖 .A) step (wordAfter 𝓤)) 𝓜 𝓡 code.env #sheet·next-word next-word-def.routine code.calls-sheet·next-word
+    (cited 𝓤 H (OverSheet 𝓤 H (𝓖 .A) step (wordAfter 𝓤)) 𝓜 𝓡 code.env #sections·next-word next-word-def.routine code.calls-sections·next-word
     (next-word-thm.met 𝓤 H 𝓜 𝓖 𝓡)))

@@ -10,9 +10,9 @@ use contract.Monad.{Fun}
 use contract.Running.{givenOf, tables, tablesOf}
 use denote.Triple.Spec.{tripleOf}
 use denote.Triple.Table.{entered, cited}
-use Rattle.sheet.proofs.part_after.Symbol as part-after-def
-use Rattle.sheet.proofs.part_after.Symbol.{name as #sheet·part-after}
-use Rattle.sheet.proofs.part_after.Met as part-after-thm
+use Rattle.sections.proofs.part_after.Symbol as part-after-def
+use Rattle.sections.proofs.part_after.Symbol.{name as #sections·part-after}
+use Rattle.sections.proofs.part_after.Met as part-after-thm
 use Rattle.reader.proofs.Calls.{Place, overReader, OverSheet, apart-meets}
 use Rattle.reader.proofs.Promises.{slice, sliceType, restAfter, slice-shaped}
 use Rattle.reader.proofs.place.Symbol as place-def
@@ -34,9 +34,9 @@ rest-spec 𝓤 H 𝓜 𝓖 𝓡 =
     let W = givenOf 𝓤 H 𝓜 𝓖 in
     entered 𝓤 H (tripleOf 𝓤 H (𝓖 .A) rest.signature (rest.spec 𝓤 H (𝓖 .A) (𝓜 .mem) (𝓡 .run)))
     (tables 𝓤 H 𝓜 𝓡 code.env .C) (tables 𝓤 H 𝓜 𝓡 code.env .Λ) #reader·rest code.function (code.unfolded 𝓤 H 𝓜 𝓡)
-    (apart-meets 𝓤 H (𝓖 .A) W (𝓜 .mem) (𝓡 .run) slice (restAfter 𝓤) sliceType (slice-shaped 𝓤 H (𝓖 .A) W) #sheet·part-after
+    (apart-meets 𝓤 H (𝓖 .A) W (𝓜 .mem) (𝓡 .run) slice (restAfter 𝓤) sliceType (slice-shaped 𝓤 H (𝓖 .A) W) #sections·part-after
     (tablesOf 𝓤 H 𝓜 (tables 𝓤 H 𝓜 𝓡 code.env))
     (cited 𝓤 H (Place 𝓤 H (𝓖 .A) (𝓜 .mem) (𝓡 .run)) 𝓜 𝓡 code.env #reader·place place-def.routine code.calls-reader·place
     (place-thm.met 𝓤 H 𝓜 𝓖 𝓡))
-    (cited 𝓤 H (OverSheet 𝓤 H (𝓖 .A) slice (restAfter 𝓤)) 𝓜 𝓡 code.env #sheet·part-after part-after-def.routine code.calls-sheet·part-after
+    (cited 𝓤 H (OverSheet 𝓤 H (𝓖 .A) slice (restAfter 𝓤)) 𝓜 𝓡 code.env #sections·part-after part-after-def.routine code.calls-sections·part-after
     (part-after-thm.met 𝓤 H 𝓜 𝓖 𝓡)))

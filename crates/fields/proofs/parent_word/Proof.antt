@@ -1,0 +1,23 @@
+-- `parent_word` meets its contract: the field that the kind has. Assumes nothing.
+use mathlib.Core.Path.{sym, _∙_}
+use borrow.Author.Needs.{needs}
+use Rattle.sheet.specs.Regions.{parentWord}
+use Rattle.fields.proofs.parent_word.Statement.{statement}
+use Rattle.fields.proofs.parent_word.Tie as tie
+
+payload-at-requires : tie.Need-payload-at-requires
+payload-at-requires c κs = search needs
+
+leaf-word-requires : tie.Need-leaf-word-requires
+leaf-word-requires c κs = search needs
+
+returns : tie.Need-returns
+unfolding parentWord
+returns c = rw (sym (c .before .leaf-word .ensures) ∙ c .if1 .taken, ← c .before .before .payload-at .ensures)
+
+returns-2 : tie.Need-returns-2
+unfolding parentWord
+returns-2 c = rw (sym (c .before .leaf-word .ensures) ∙ c .if1 .left, ← c .before .before .payload-at .ensures)
+
+pub parent-word-spec : {M : Type 1} → statement M
+parent-word-spec = tie.close (tie.spec payload-at-requires leaf-word-requires returns returns-2)
