@@ -81,12 +81,12 @@ module _ (b : List ℕ) (k : ℕ) (labels predecessors own : List ℕ) {keys : L
 
   -- and what is then in it
   pub outcome : {hasEnded : Bool} {table : List ℕ} → hasEnded ≡ ended (graphOf b) (divisionOf b) (stateIn (graphOf b) labels predecessors own keys c)
-      → table ≡ tableOf hasEnded (countsOf c) (take n labels) (take n predecessors) n → Outcome b k hasEnded table
+      → table ≡ tableOf hasEnded (countsOf c) (take n labels) (take n predecessors) (length (take n labels)) → Outcome b k hasEnded table
   unfolding runTable
   outcome {hasEnded} {table} he w = record {
     status = he ∙ ap (ended (graphOf b) (divisionOf b)) e;
     words =
         w
-        ∙ rw (he, nodes, ← graph-nodes b)
+        ∙ rw (labelled, he, nodes, ← graph-nodes b)
         (ap (λ (s : State). tableOf (ended (graphOf b) (divisionOf b) s) (counts s) (s .labels) (s .predecessors) (graphOf b .nodes)) e);
   }
