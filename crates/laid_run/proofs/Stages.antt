@@ -21,7 +21,7 @@ use Rattle.runs.proofs.Delivered.{labels-all, predecessors-all, label-small, pr
 use Rattle.counts.specs.declared.Counts.{Counts}
 use Rattle.slices.specs.Tables.{Tables}
 use Rattle.slices.specs.States.{stateIn, Computed, Blank}
-use Rattle.engine.proofs.Runs.{started-after, rounds-after}
+use Rattle.rounds.proofs.Runs.{started-after, rounds-after}
 use Rattle.table.specs.Writable.{countsOf, Writable}
 use Rattle.layout.specs.Layout.{Laid}
 use Rattle.laid_run.specs.Outcome.{Outcome}

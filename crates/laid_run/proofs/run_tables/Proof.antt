@@ -9,7 +9,7 @@ use Rattle.procedure.proofs.OfSheet.{division-regions}
 use Rattle.answers.specs.Runs.{stateAfter}
 use Rattle.tree_places.specs.Trees.{QueuesOk}
 use Rattle.slices.specs.States.{stateIn}
-use Rattle.engine.proofs.Runs.{started-after}
+use Rattle.rounds.proofs.Runs.{started-after}
 use Rattle.sizes.proofs.Parts.{part-length}
 use Rattle.laid_run.proofs.Stages.{blank, ran, parts-in, writable, outcome}
 use Rattle.laid_run.proofs.run_tables.Statement.{statement}

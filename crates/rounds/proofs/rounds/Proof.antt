@@ -7,10 +7,11 @@ use Rattle.procedure.specs.Graph.{Graph}
 use Rattle.procedure.specs.Division.{Division}
 use Rattle.slices.specs.Tables.{tablesOf}
 use Rattle.slices.specs.States.{stateIn, Represents}
-use Rattle.engine.proofs.Loops.{Looping, loop-spent, running, rounds-first, rounds-ended, next-asks, rounds-step}
+use Rattle.engine.proofs.Loops.{Looping, loop-spent}
+use Rattle.rounds.proofs.Loops.{running, rounds-first, rounds-ended, next-asks, rounds-step}
 use Rattle.procedure.specs.Procedure.{round, after}
-use Rattle.engine.proofs.rounds.Statement.{statement}
-use Rattle.engine.proofs.rounds.Tie as tie
+use Rattle.rounds.proofs.rounds.Statement.{statement}
+use Rattle.rounds.proofs.rounds.Tie as tie
 
 abbrev Inv-loop : tie.InvT-loop
 Inv-loop rows arcs firsts lengths spans regions labels₀ predecessors₀ own₀ winners₀ limit left₀ n₀ labels predecessors own winners left n =

@@ -1,7 +1,7 @@
 -- `round` meets its contract: a round is one working of region 0, which is inner. Assumes nothing.
-use Rattle.engine.proofs.Loops.{round-asks, round-count-fits, round-made}
-use Rattle.engine.proofs.round.Statement.{statement}
-use Rattle.engine.proofs.round.Tie as tie
+use Rattle.rounds.proofs.Loops.{round-asks, round-count-fits, round-made}
+use Rattle.rounds.proofs.round.Statement.{statement}
+use Rattle.rounds.proofs.round.Tie as tie
 
 count-round-requires : tie.Need-count-round-requires
 count-round-requires c κs =
