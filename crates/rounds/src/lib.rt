@@ -9,7 +9,7 @@ ghost use Rattle.procedure.specs.Division.{Division, regions, isLeaf};
 ghost use Rattle.procedure.specs.Procedure.{ended, start, round, after};
 ghost use Rattle.tree_places.specs.Trees.{QueuesOk};
 ghost use Rattle.slices.specs.Tables.{tablesOf};
-ghost use Rattle.slices.specs.States.{stateOf, stateIn, Represents, Processing, Computed, Blank};
+ghost use Rattle.slices.specs.States.{stateOf, stateIn, Represents, Computed, Blank};
 use counts::Counts;
 use queue::NONE;
 use sheet::Node;
@@ -66,47 +66,7 @@ pub fn has_ended(rows: &[u16; ROWS], winners: &[u64; PLACES]) -> bool
     NONE <= queue::min_key(rows, winners, Region(0))
 }
 
-// One round: one working of region 0, which is never a leaf.
-fn round(
-    rows: &[u16; ROWS],
-    arcs: &[u16],
-    firsts: &[u16; NODES],
-    lengths: &[u32; ARCS],
-    spans: &[u32],
-    regions: &[u16; REGION_ROWS],
-    labels: &mut [u32; NODES],
-    predecessors: &mut [u32; NODES],
-    own: &mut [u32; ARCS],
-    winners: &mut [u64; PLACES],
-    c: Counts,
-) -> Counts
-    requires { ⌜ (let t = tablesOf (now rows) (now arcs) (now firsts) (now lengths) (now spans) (now regions) in
-        (g : Graph) × (d : Division) × (keys : List ℕ) × let s = stateIn g (now labels) (now predecessors) (now own) keys c in
-        Processing g d t s (now winners) 0 (round g d (t .spans) s)) ⌝ }
-    ensures { λ n. ⌜ (let t = tablesOf (now (rows .entry)) (now (arcs .entry)) (now (firsts .entry)) (now (lengths .entry)) (now (spans .entry))
-        (now (regions .entry)) in
-        (g : Graph) (d : Division) (keys : List ℕ) → let s = stateIn g (now (labels .entry)) (now (predecessors .entry)) (now (own .entry)) keys c in
-        Processing g d t s (now (winners .entry)) 0 (round g d (t .spans) s)
-        → ((keys′ : List ℕ) × Computed g d t (round g d (t .spans) s)
-        (stateIn g (now (labels .exit)) (now (predecessors .exit)) (now (own .exit)) keys′ n) (now (winners .exit)))) ⌝ }
-{
-    engine::process_inner(
-        rows,
-        arcs,
-        firsts,
-        lengths,
-        spans,
-        regions,
-        labels,
-        predecessors,
-        own,
-        winners,
-        Region(0),
-        counts::count_round(c),
-    )
-}
-
-// At most `limit` more rounds, from a state after any number of them.
+// At most `limit` more rounds, from a state after any number of them. A round is one working of region 0, which is never a leaf.
 pub fn rounds(
     rows: &[u16; ROWS],
     arcs: &[u16],
@@ -137,7 +97,7 @@ pub fn rounds(
         if has_ended(rows, winners) {
             return n;
         }
-        n = round(
+        n = engine::process_inner(
             rows,
             arcs,
             firsts,
@@ -148,7 +108,8 @@ pub fn rounds(
             predecessors,
             own,
             winners,
-            n,
+            Region(0),
+            counts::count_round(n),
         );
         left -= 1;
     }
