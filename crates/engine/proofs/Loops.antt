@@ -134,74 +134,83 @@ module _ {g : Graph} {d : Division} {t : Tables} {labels predecessors own keys w
       small = rw turns-all (P .small);
     }
 
-module _ {g : Graph} {d : Division} {t : Tables} {r left₀ : ℕ} {s₀ : State} {winners₀ : List ℕ} (F : Framed g d t r left₀ s₀ winners₀) {left : ℕ} {s : State}
-    {winners : List ℕ} (L : Looping g d t (alive g d r) (turn g d t r) left₀ s₀ left s winners) {least : ℕ} (key : least ≡ minKey d (s .queues) r) where
-  -- the smallest key is none
-  pub turns-none : top ≤ least → Computed g d t (times left₀ (alive g d r) (turn g d t r) s₀) s winners
-  turns-none l = loop-off L (none-alive g d s r (omega arith))
+-- the smallest key is none
+pub turns-none : {g : Graph} {d : Division} {t : Tables} {r left₀ : ℕ} {s₀ : State} {winners₀ : List ℕ} → Framed g d t r left₀ s₀ winners₀ → {left : ℕ}
+    {s : State} {winners : List ℕ} → Looping g d t (alive g d r) (turn g d t r) left₀ s₀ left s winners → {least : ℕ} → least ≡ minKey d (s .queues) r
+    → top ≤ least → Computed g d t (times left₀ (alive g d r) (turn g d t r) s₀) s winners
+turns-none {g} {d} {r = r} F {s = s} L key l = loop-off L (none-alive g d s r (omega arith))
 
-  -- it isn't, and the first-chosen child x is worked
-  module _ (pos : 0 < left) (some : least < top) {x : ℕ} (item : x ≡ minItem d (s .queues .keys) r) where
-    chosen : Chosen d (s .queues) r
-    chosen = chosen-of-key d (s .queues) r (F .inner) (omega arith)
+-- it isn't, and the first-chosen child x is worked
+pub record Turning (g : Graph) (d : Division) (t : Tables) (r left₀ : ℕ) (s₀ : State) (winners₀ : List ℕ) (left : ℕ) (s : State) (winners : List ℕ) (x : ℕ)
+    : Type 0 where
+  pub frame : Framed g d t r left₀ s₀ winners₀
+  pub loop : Looping g d t (alive g d r) (turn g d t r) left₀ s₀ left s winners
+  pub positive : 0 < left
+  pub some : minKey d (s .queues) r < top
+  pub item : x ≡ minItem d (s .queues .keys) r
 
-    pub child-in : x < regions d
-    child-in = rw item (chosen .child .in-range)
+module _ {g : Graph} {d : Division} {t : Tables} {r left₀ : ℕ} {s₀ : State} {winners₀ : List ℕ} {left : ℕ} {s : State} {winners : List ℕ} {x : ℕ}
+    (T : Turning g d t r left₀ s₀ winners₀ left s winners x) where
+  chosen : Chosen d (s .queues) r
+  chosen = chosen-of-key d (s .queues) r (T .frame .inner) (T .some)
 
-    pub child-positive : 0 < x
-    child-positive = rw item (chosen .child .positive)
+  pub child-in : x < regions d
+  child-in = rw (T .item) (chosen .child .in-range)
 
-    pub child-lower : heightEntry (t .regionRows) x < heightEntry (t .regionRows) r
-    child-lower =
-        let rows = F .represents .tabled .region-rows in
-        rw (rows .heights x child-in, rows .heights r (F .in-range), item) (chosen-lower (F .represents .tabled .ok .division) s r chosen)
+  pub child-positive : 0 < x
+  child-positive = rw (T .item) (chosen .child .positive)
 
-    onward : times (left - 1) (alive g d r) (turn g d t r) (rewriteKey g d x (process g d (t .spans) x s)) ≡ times left₀ (alive g d r) (turn g d t r) s₀
-    unfolding processChild
-    onward = rw item (loop-on L pos (key-alive g d s r (omega arith)))
+  pub child-lower : heightEntry (t .regionRows) x < heightEntry (t .regionRows) r
+  child-lower =
+      let rows = T .frame .represents .tabled .region-rows in
+      rw (rows .heights x child-in, rows .heights r (T .frame .in-range), T .item) (chosen-lower (T .frame .represents .tabled .ok .division) s r chosen)
 
-    pub child-asks : Processing g d t s winners x (process g d (t .spans) x s)
-    child-asks =
-        let worked = process g d (t .spans) x s in
-        record {
-          represents = L .represents;
-          in-range = child-in;
-          small =
-              grows-small
-              (grows-trans (rewriteKey-grows g d x worked)
-              (children-grow g d (F .represents .tabled .ok .division) (t .spans) (left - 1) r (rewriteKey g d x worked) (F .inner)))
-              (rw onward (F .small));
-        }
+  onward : times (left - 1) (alive g d r) (turn g d t r) (rewriteKey g d x (process g d (t .spans) x s)) ≡ times left₀ (alive g d r) (turn g d t r) s₀
+  unfolding processChild
+  onward = rw (T .item) (loop-on (T .loop) (T .positive) (key-alive g d s r (T .some)))
 
-    -- the slices after its working
-    module _ {labels predecessors own keys winners′ : List ℕ} {c : Counts}
-        (W : Computed g d t (process g d (t .spans) x s) (stateOf labels predecessors own keys c) winners′) where
-      pub key-asks : Keyed (arcs g) d (t .rows) (t .regionRows) own keys winners′ x
-      key-asks = record {
-        few = F .represents .tabled .ok .graph .few-arcs;
-        division = F .represents .tabled .ok .division;
-        region-rows = F .represents .tabled .region-rows;
-        owned = W .represents .owned;
-        queues = W .represents .queues;
+  pub child-asks : Processing g d t s winners x (process g d (t .spans) x s)
+  child-asks =
+      let worked = process g d (t .spans) x s in
+      record {
+        represents = T .loop .represents;
         in-range = child-in;
+        small =
+            grows-small
+            (grows-trans (rewriteKey-grows g d x worked)
+            (children-grow g d (T .frame .represents .tabled .ok .division) (t .spans) (left - 1) r (rewriteKey g d x worked) (T .frame .inner)))
+            (rw onward (T .frame .small));
       }
 
-      -- its key is rewritten, and the loop goes on
-      pub turned : {k : ℕ} → k ≡ minKey d (queuesOf own keys (c .updates)) x → {winners″ : List ℕ} → QueuesOk d (t .rows) (set keys x k) winners″
-          → Looping g d t (alive g d r) (turn g d t r) left₀ s₀ (left - 1) (stateOf labels predecessors own (set keys x k) c) winners″
-      turned e N = record {
-        represents = record {
-          tabled = W .represents .tabled;
-          labelled = W .represents .labelled;
-          fed = W .represents .fed;
-          owned = W .represents .owned;
-          queues = N;
-        };
-        sofar =
-            ap (times (left - 1) (alive g d r) (turn g d t r))
-            (rw e (rewritten-key g d x labels predecessors own keys c ∙ ap (rewriteKey g d x) (W .result)))
-            ∙ onward;
-      }
+  -- the slices after its working
+  module _ {labels predecessors own keys winners′ : List ℕ} {c : Counts}
+      (W : Computed g d t (process g d (t .spans) x s) (stateOf labels predecessors own keys c) winners′) where
+    pub key-asks : Keyed (arcs g) d (t .rows) (t .regionRows) own keys winners′ x
+    key-asks = record {
+      few = T .frame .represents .tabled .ok .graph .few-arcs;
+      division = T .frame .represents .tabled .ok .division;
+      region-rows = T .frame .represents .tabled .region-rows;
+      owned = W .represents .owned;
+      queues = W .represents .queues;
+      in-range = child-in;
+    }
+
+    -- its key is rewritten, and the loop goes on
+    pub turned : {k : ℕ} → k ≡ minKey d (queuesOf own keys (c .updates)) x → {winners″ : List ℕ} → QueuesOk d (t .rows) (set keys x k) winners″
+        → Looping g d t (alive g d r) (turn g d t r) left₀ s₀ (left - 1) (stateOf labels predecessors own (set keys x k) c) winners″
+    turned e N = record {
+      represents = record {
+        tabled = W .represents .tabled;
+        labelled = W .represents .labelled;
+        fed = W .represents .fed;
+        owned = W .represents .owned;
+        queues = N;
+      };
+      sofar =
+          ap (times (left - 1) (alive g d r) (turn g d t r))
+          (rw e (rewritten-key g d x labels predecessors own keys c ∙ ap (rewriteKey g d x) (W .result)))
+          ∙ onward;
+    }
 
 -- the working of a region, whose row has a in place of its arc
 module _ {g : Graph} {d : Division} {t : Tables} {s : State} {winners : List ℕ} {r : ℕ} (P : Processing g d t s winners r (process g d (t .spans) r s)) {a : ℕ}
