@@ -1,6 +1,6 @@
 -- `run_accepted` meets its contract: the arrays have room for the largest sheet, and what is laid out in them is what the run asks. Assumes nothing.
-use borrow.Author.Needs.{needs}
 use Prim.Native.Nat.{_*_}
+use mathlib.Core.Path.{refl}
 use native.Mathlib.Omega.{arith}
 use Rattle.sizes.proofs.Parts.{part-length}
 use Rattle.layout.proofs.Fronts.{laid}
@@ -13,13 +13,13 @@ sizes-of-requires c κs =
     (pre .good, pre .located)
 
 slice-aggregate-lay-graph : tie.Need-slice-aggregate-lay-graph
-slice-aggregate-lay-graph c = search needs
+slice-aggregate-lay-graph c = refl
 
 slice-aggregate-lay-graph-2 : tie.Need-slice-aggregate-lay-graph-2
-slice-aggregate-lay-graph-2 c = search needs
+slice-aggregate-lay-graph-2 c = refl
 
 slice-aggregate-lay-graph-3 : tie.Need-slice-aggregate-lay-graph-3
-slice-aggregate-lay-graph-3 c = search needs
+slice-aggregate-lay-graph-3 c = refl
 
 lay-graph-requires : tie.Need-lay-graph-requires
 lay-graph-requires c κs =
@@ -30,13 +30,13 @@ lay-graph-requires c κs =
     (pre .good, pre .located, used, omega (arith, used .few-arcs), used .few-nodes, used .few-arcs)
 
 slice-aggregate-lay-division : tie.Need-slice-aggregate-lay-division
-slice-aggregate-lay-division c = search needs
+slice-aggregate-lay-division c = refl
 
 slice-aggregate-lay-division-2 : tie.Need-slice-aggregate-lay-division-2
-slice-aggregate-lay-division-2 c = search needs
+slice-aggregate-lay-division-2 c = refl
 
 slice-aggregate-lay-division-3 : tie.Need-slice-aggregate-lay-division-3
-slice-aggregate-lay-division-3 c = search needs
+slice-aggregate-lay-division-3 c = refl
 
 lay-division-requires : tie.Need-lay-division-requires
 lay-division-requires c κs =
@@ -110,7 +110,7 @@ run-tables-requires c κs =
     (pre .good, pre .room, sizes-of .ensures, laid (pre .good) (lay-graph .ensures) (lay-division .ensures))
 
 same-length : tie.Need-same-length
-same-length c = search needs
+same-length c = c .before .before .run-tables .kept .1 .1 .1 .1 .1 .1 .1 .1 .1 .0
 
 returns : tie.Need-returns
 returns c =

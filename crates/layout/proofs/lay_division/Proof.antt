@@ -1,9 +1,8 @@
 -- `lay_division` meets its contract: each part has the length in use, and what is left of a slice stays. Assumes nothing.
-use borrow.Author.Needs.{needs}
 use Prim.Native.Nat.{_*_}
 use mathlib.Core.Path.{refl, ap, _∙_}
 use native.Mathlib.Omega.{arith}
-use lib.Seq.{length-take-le}
+use lib.Seq.{length-front, length-take-le}
 use Rattle.sizes.proofs.Parts.{part-length}
 use Rattle.layout.proofs.Fronts.{division-laid}
 use Rattle.layout.proofs.lay_division.Statement.{statement}
@@ -101,13 +100,34 @@ lay-regions-requires c κs =
     )
 
 same-length : tie.Need-same-length
-same-length c = search needs
+same-length c =
+    let earlier = c .before .before .before .before in
+    let early = earlier .before .before .before .before in
+    let prior = early .before .before .before .before in
+    let first = prior .before .before .before .before in
+    let lay-regions = earlier .before .lay-regions in
+    let args = first .before .args in
+    length-front (args .rows .now) (lay-regions .last .1 .1 .1 .0) (4 * args .sizes .regions) (lay-regions .kept .1 .1 .1 .0)
 
 same-length-2 : tie.Need-same-length-2
-same-length-2 c = search needs
+same-length-2 c =
+    let earlier = c .before .before .before .before in
+    let early = earlier .before .before .before .before in
+    let prior = early .before .before .before .before in
+    let first = prior .before .before .before .before in
+    let enter-spans = early .before .before .before .enter-spans in
+    let args = first .before .args in
+    length-front (args .spans .now) (enter-spans .last .1 .1 .0) (args .sizes .spans) (enter-spans .kept .1 .1 .0)
 
 same-length-3 : tie.Need-same-length-3
-same-length-3 c = search needs
+same-length-3 c =
+    let earlier = c .before .before .before .before in
+    let early = earlier .before .before .before .before in
+    let prior = early .before .before .before .before in
+    let first = prior .before .before .before .before in
+    let lay-regions = earlier .before .lay-regions in
+    let args = first .before .args in
+    length-front (args .regions .now) (lay-regions .last .1 .1 .1 .1 .0) (2 * args .sizes .regions) (lay-regions .kept .1 .1 .1 .1 .0)
 
 returns : tie.Need-returns
 returns c =

@@ -1,9 +1,8 @@
 -- `lay_graph` meets its contract: each part has the length in use, and what is left of a slice stays. Assumes nothing.
-use borrow.Author.Needs.{needs}
 use Prim.Native.Nat.{_*_}
 use mathlib.Core.Path.{refl, ap, _∙_}
 use native.Mathlib.Omega.{arith}
-use lib.Seq.{length-take-le}
+use lib.Seq.{length-front, length-take-le}
 use Rattle.refusals.proofs.Accepted.{few-arcs}
 use Rattle.sizes.proofs.Parts.{part-length}
 use Rattle.layout.proofs.Fronts.{graph-laid}
@@ -73,13 +72,31 @@ enter-lengths-requires c κs =
     (pre .1, few-arcs _ (pre .0), length-take-le _ _ (pre .5) ∙ pre .2 .arcs-all)
 
 same-length : tie.Need-same-length
-same-length c = search needs
+same-length c =
+    let earlier = c .before .before .before .before in
+    let early = earlier .before .before .before .before in
+    let prior = early .before .before .before .before in
+    let lay-arcs = early .lay-arcs in
+    let args = prior .before .before .before .args in
+    length-front (args .arcs .now) (lay-arcs .last .1 .1 .0) (4 * args .sizes .arcs) (lay-arcs .kept .1 .1 .0)
 
 same-length-2 : tie.Need-same-length-2
-same-length-2 c = search needs
+same-length-2 c =
+    let earlier = c .before .before .before .before in
+    let early = earlier .before .before .before .before in
+    let prior = early .before .before .before .before in
+    let lay-arcs = early .lay-arcs in
+    let args = prior .before .before .before .args in
+    length-front (args .firsts .now) (lay-arcs .last .1 .1 .1 .0) (args .sizes .nodes) (lay-arcs .kept .1 .1 .1 .0)
 
 same-length-3 : tie.Need-same-length-3
-same-length-3 c = search needs
+same-length-3 c =
+    let earlier = c .before .before .before .before in
+    let early = earlier .before .before .before .before in
+    let prior = early .before .before .before .before in
+    let enter-lengths = c .before .before .enter-lengths in
+    let args = prior .before .before .before .args in
+    length-front (args .lengths .now) (enter-lengths .last .1 .1 .0) (args .sizes .arcs) (enter-lengths .kept .1 .1 .0)
 
 returns : tie.Need-returns
 returns c =
