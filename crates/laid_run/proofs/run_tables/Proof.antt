@@ -5,10 +5,13 @@ use mathlib.Core.List.{List}
 use native.Mathlib.Omega.{arith}
 use lib.ListN.{length}
 use Rattle.procedure.specs.OfSheet.{graphOf, divisionOf}
+use Rattle.procedure.specs.State.{State}
+use Rattle.procedure.specs.Procedure.{after}
 use Rattle.procedure.proofs.OfSheet.{division-regions}
 use Rattle.answers.specs.Runs.{stateAfter}
 use Rattle.tree_places.specs.Trees.{QueuesOk}
-use Rattle.slices.specs.States.{stateIn}
+use Rattle.slices.specs.Tables.{Tables, tablesOf}
+use Rattle.slices.specs.States.{stateIn, Represents}
 use Rattle.rounds.proofs.Runs.{started-after}
 use Rattle.sizes.proofs.Parts.{part-length}
 use Rattle.laid_run.proofs.Stages.{blank, ran, parts-in, writable, outcome}
@@ -46,28 +49,41 @@ start-requires c κs =
       pre .2 .regions-all ∙ sym (division-regions b),
     )
 
+-- where the function begins, and what the start leaves: the state after no rounds
+abbrev outset : tie.After-start → tie.Start
+outset c =
+    let named = c .before .before .before .before .before .before in
+    named .before .before .before .before .before
+
+abbrev tables : tie.Start → Tables
+tables c = tablesOf (c .args .rows .now) (c .args .arcs .now) (c .args .firsts .now) (c .args .lengths .now) (c .args .spans .now) (c .args .regions .now)
+
+abbrev state : tie.After-start → List ℕ → State
+state c keys = stateIn (graphOf (outset c .args .s .now)) (c .start .last .1 .1 .1 .0) (c .start .last .1 .1 .1 .1 .0) (c .start .last .1 .1 .1 .1 .1 .0) keys
+    (c .start .result)
+
+started : (c : tie.After-start) → let b = outset c .args .s .now in
+    (keys : List ℕ) × Represents (graphOf b) (divisionOf b) (tables (outset c)) (state c keys) (c .start .last .1 .1 .1 .1 .1 .1 .0)
+    × (state c keys ≡ after (graphOf b) (divisionOf b) (outset c .args .spans .now) 0)
+started c =
+    let named = c .before .before .before .before .before .before in
+    let args = outset c .args in
+    let pre = outset c .pre in
+    let b = args .s .now in
+    let S = c .start .ensures (graphOf b) (divisionOf b) (args .lengths .now) (args .spans .now) (args .regions .now) (blank (pre .3)) (named .source-of .ensures)
+    (pre .2 .regions-all ∙ sym (division-regions b)) in
+    (S .0, S .1 .represents, started-after (S .1))
+
 rounds-requires : tie.Need-rounds-requires
 rounds-requires c κs =
-    let earlier = c .before .before .before .before in
-    let early = earlier .before .before .before .before in
-    let prior = early .before .before .before .before in
-    let start = earlier .start in
-    let source-of = early .before .before .source-of in
-    let args = prior .before .before .before .args in
-    let pre = prior .before .before .before .pre in
-    let b = args .s .now in
-    let counted = pre .2 .regions-all ∙ sym (division-regions b) in
-    let S = start .ensures (graphOf b) (divisionOf b) (args .lengths .now) (args .spans .now) (args .regions .now) (blank (pre .3)) (source-of .ensures)
-    counted in
-    (graphOf b, divisionOf b, 0, S .0, (S .1 .represents, started-after (S .1)))
+    let begun = c .before .before .before .before in
+    let S = started begun in
+    let b = outset begun .args .s .now in
+    (graphOf b, divisionOf b, 0, S .0, (S .1, S .2))
 
--- where the function begins, and what the rounds leave
+-- what the rounds leave
 abbrev entry : tie.After-rounds → tie.Start
-entry c =
-    let early = c .before .before .before .before in
-    let start = early .before .before .before .before in
-    let first = start .before .before .before .before in
-    first .before .before .before .before
+entry c = outset (c .before .before .before .before .before)
 
 abbrev labels : tie.After-rounds → List ℕ
 labels c = c .rounds .last .1 .1 .1 .1 .1 .1 .0
@@ -83,15 +99,10 @@ rounds-made : (c : tie.After-rounds) → let args = entry c .args in
     (keys : List ℕ) × (stateIn (graphOf (args .s .now)) (labels c) (predecessors c) (own c) keys (c .rounds .result) ≡ stateAfter (args .s .now) (args .limit))
     × QueuesOk (divisionOf (args .s .now)) (args .rows .now) keys (c .rounds .last .1 .1 .1 .1 .1 .1 .1 .1 .1 .0)
 rounds-made c =
-    let started = c .before .before .before .before .before in
-    let named = started .before .before .before .before .before .before in
+    let S = started (c .before .before .before .before .before) in
     let args = entry c .args in
-    let pre = entry c .pre in
-    let b = args .s .now in
-    let S = started .start .ensures (graphOf b) (divisionOf b) (args .lengths .now) (args .spans .now) (args .regions .now) (blank (pre .3))
-    (named .source-of .ensures) (pre .2 .regions-all ∙ sym (division-regions b)) in
-    let R = c .rounds .ensures (graphOf b) (divisionOf b) 0 (S .0) (S .1 .represents) (started-after (S .1)) in
-    (R .0, ran (args .limit) (pre .3) (S .1) (R .1), R .1 .represents .queues)
+    let R = c .rounds .ensures (graphOf (args .s .now)) (divisionOf (args .s .now)) 0 (S .0) (S .1) (S .2) in
+    (R .0, ran (args .limit) (entry c .pre .3) (S .2) (R .1), R .1 .represents .queues)
 
 has-ended-requires : tie.Need-has-ended-requires
 has-ended-requires c κs =
