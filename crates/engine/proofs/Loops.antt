@@ -1,6 +1,6 @@
--- What the loops rest on: the turns of an inner region and the rounds of a run, of which those left to make lead to the same end. Assumes nothing.
+-- What a loop of steps rests on, and the turns of an inner region: those left to make lead to the same end. Assumes nothing.
 use Prim.Native.Nat.{ℕ, suc, _+_, _-_, _*_, _≤_, _<_}
-use mathlib.Core.Bool.{Bool, true, false, not}
+use mathlib.Core.Bool.{Bool, true, false}
 use mathlib.Core.Path.{_≡_, refl, sym, ap, _∙_}
 use mathlib.Core.Logic.{_≢_}
 use mathlib.Core.List.{List}
@@ -16,19 +16,17 @@ use Rattle.procedure.specs.Graph.{Graph, arcs}
 use Rattle.procedure.specs.Division.{Division, regions, parent, isLeaf, height, spanOf}
 use Rattle.procedure.specs.State.{State}
 use Rattle.procedure.specs.Queues.{minItem, minKey}
-use Rattle.procedure.specs.Procedure.{processLeaf, rewriteKey, countInner, countRound, processChild, alive, ended, process, round, after}
+use Rattle.procedure.specs.Procedure.{processLeaf, rewriteKey, countInner, processChild, alive, process}
 use Rattle.theory.specs.Counts.{Small}
 use Rattle.theory.proofs.Chosen.{Chosen, chosen-of-key}
 use Rattle.theory.proofs.Process.{key-alive, none-alive, inner-high, chosen-lower, process-leaf, process-inner}
-use Rattle.theory.proofs.Grows.{grows-trans, grows-small, rewriteKey-grows, process-grows, children-grow, rounds-grow}
-use Rattle.theory.proofs.Final.{rounds-in-parts, after-small}
+use Rattle.theory.proofs.Grows.{grows-trans, grows-small, rewriteKey-grows, children-grow}
 use Rattle.tree_places.specs.Trees.{QueuesOk}
-use Rattle.counts.specs.Counted.{roundCounted, innerCounted}
+use Rattle.counts.specs.Counted.{innerCounted}
 use Rattle.counts.specs.declared.Counts.{Counts}
 use Rattle.slices.specs.Tables.{Tables, noArc, arcEntry, heightEntry}
 use Rattle.slices.specs.States.{queuesOf, stateOf, Keyed, Represents, Processing, Computed}
 use Rattle.engine.proofs.Regions.{entry-inner, entry-leaf, before-height}
-use Rattle.engine.proofs.Beginning.{few-out}
 
 -- up to `left` steps from the state s lead to the same end as up to left₀ steps from s₀
 pub record Looping (g : Graph) (d : Division) (t : Tables) (test : State → Bool) (step : State → State) (left₀ : ℕ) (s₀ : State) (left : ℕ) (s : State)
@@ -49,7 +47,7 @@ module _ {g : Graph} {d : Division} {t : Tables} {test : State → Bool} {step :
       record { result = sym (times-none test step s) ∙ (rw e at (L .sofar)); represents = L .represents }
 
   -- otherwise one step is made
-  loop-on : 0 < left → test s ≡ true → times (left - 1) test step (step s) ≡ times left₀ test step s₀
+  pub loop-on : 0 < left → test s ≡ true → times (left - 1) test step (step s) ≡ times left₀ test step s₀
   loop-on pos e = sym (times-on test step (left - 1) s e) ∙ (let one : suc (left - 1) ≡ left = omega arith in rw one (L .sofar))
 
 -- THE TURNS OF AN INNER REGION
@@ -136,74 +134,83 @@ module _ {g : Graph} {d : Division} {t : Tables} {labels predecessors own keys w
       small = rw turns-all (P .small);
     }
 
-module _ {g : Graph} {d : Division} {t : Tables} {r left₀ : ℕ} {s₀ : State} {winners₀ : List ℕ} (F : Framed g d t r left₀ s₀ winners₀) {left : ℕ} {s : State}
-    {winners : List ℕ} (L : Looping g d t (alive g d r) (turn g d t r) left₀ s₀ left s winners) {least : ℕ} (key : least ≡ minKey d (s .queues) r) where
-  -- the smallest key is none
-  pub turns-none : top ≤ least → Computed g d t (times left₀ (alive g d r) (turn g d t r) s₀) s winners
-  turns-none l = loop-off L (none-alive g d s r (omega arith))
+-- the smallest key is none
+pub turns-none : {g : Graph} {d : Division} {t : Tables} {r left₀ : ℕ} {s₀ : State} {winners₀ : List ℕ} → Framed g d t r left₀ s₀ winners₀ → {left : ℕ}
+    {s : State} {winners : List ℕ} → Looping g d t (alive g d r) (turn g d t r) left₀ s₀ left s winners → {least : ℕ} → least ≡ minKey d (s .queues) r
+    → top ≤ least → Computed g d t (times left₀ (alive g d r) (turn g d t r) s₀) s winners
+turns-none {g} {d} {r = r} F {s = s} L key l = loop-off L (none-alive g d s r (omega arith))
 
-  -- it isn't, and the first-chosen child x is worked
-  module _ (pos : 0 < left) (some : least < top) {x : ℕ} (item : x ≡ minItem d (s .queues .keys) r) where
-    chosen : Chosen d (s .queues) r
-    chosen = chosen-of-key d (s .queues) r (F .inner) (omega arith)
+-- it isn't, and the first-chosen child x is worked
+pub record Turning (g : Graph) (d : Division) (t : Tables) (r left₀ : ℕ) (s₀ : State) (winners₀ : List ℕ) (left : ℕ) (s : State) (winners : List ℕ) (x : ℕ)
+    : Type 0 where
+  pub frame : Framed g d t r left₀ s₀ winners₀
+  pub loop : Looping g d t (alive g d r) (turn g d t r) left₀ s₀ left s winners
+  pub positive : 0 < left
+  pub some : minKey d (s .queues) r < top
+  pub item : x ≡ minItem d (s .queues .keys) r
 
-    pub child-in : x < regions d
-    child-in = rw item (chosen .child .in-range)
+module _ {g : Graph} {d : Division} {t : Tables} {r left₀ : ℕ} {s₀ : State} {winners₀ : List ℕ} {left : ℕ} {s : State} {winners : List ℕ} {x : ℕ}
+    (T : Turning g d t r left₀ s₀ winners₀ left s winners x) where
+  chosen : Chosen d (s .queues) r
+  chosen = chosen-of-key d (s .queues) r (T .frame .inner) (T .some)
 
-    pub child-positive : 0 < x
-    child-positive = rw item (chosen .child .positive)
+  pub child-in : x < regions d
+  child-in = rw (T .item) (chosen .child .in-range)
 
-    pub child-lower : heightEntry (t .regionRows) x < heightEntry (t .regionRows) r
-    child-lower =
-        let rows = F .represents .tabled .region-rows in
-        rw (rows .heights x child-in, rows .heights r (F .in-range), item) (chosen-lower (F .represents .tabled .ok .division) s r chosen)
+  pub child-positive : 0 < x
+  child-positive = rw (T .item) (chosen .child .positive)
 
-    onward : times (left - 1) (alive g d r) (turn g d t r) (rewriteKey g d x (process g d (t .spans) x s)) ≡ times left₀ (alive g d r) (turn g d t r) s₀
-    unfolding processChild
-    onward = rw item (loop-on L pos (key-alive g d s r (omega arith)))
+  pub child-lower : heightEntry (t .regionRows) x < heightEntry (t .regionRows) r
+  child-lower =
+      let rows = T .frame .represents .tabled .region-rows in
+      rw (rows .heights x child-in, rows .heights r (T .frame .in-range), T .item) (chosen-lower (T .frame .represents .tabled .ok .division) s r chosen)
 
-    pub child-asks : Processing g d t s winners x (process g d (t .spans) x s)
-    child-asks =
-        let worked = process g d (t .spans) x s in
-        record {
-          represents = L .represents;
-          in-range = child-in;
-          small =
-              grows-small
-              (grows-trans (rewriteKey-grows g d x worked)
-              (children-grow g d (F .represents .tabled .ok .division) (t .spans) (left - 1) r (rewriteKey g d x worked) (F .inner)))
-              (rw onward (F .small));
-        }
+  onward : times (left - 1) (alive g d r) (turn g d t r) (rewriteKey g d x (process g d (t .spans) x s)) ≡ times left₀ (alive g d r) (turn g d t r) s₀
+  unfolding processChild
+  onward = rw (T .item) (loop-on (T .loop) (T .positive) (key-alive g d s r (T .some)))
 
-    -- the slices after its working
-    module _ {labels predecessors own keys winners′ : List ℕ} {c : Counts}
-        (W : Computed g d t (process g d (t .spans) x s) (stateOf labels predecessors own keys c) winners′) where
-      pub key-asks : Keyed (arcs g) d (t .rows) (t .regionRows) own keys winners′ x
-      key-asks = record {
-        few = F .represents .tabled .ok .graph .few-arcs;
-        division = F .represents .tabled .ok .division;
-        region-rows = F .represents .tabled .region-rows;
-        owned = W .represents .owned;
-        queues = W .represents .queues;
+  pub child-asks : Processing g d t s winners x (process g d (t .spans) x s)
+  child-asks =
+      let worked = process g d (t .spans) x s in
+      record {
+        represents = T .loop .represents;
         in-range = child-in;
+        small =
+            grows-small
+            (grows-trans (rewriteKey-grows g d x worked)
+            (children-grow g d (T .frame .represents .tabled .ok .division) (t .spans) (left - 1) r (rewriteKey g d x worked) (T .frame .inner)))
+            (rw onward (T .frame .small));
       }
 
-      -- its key is rewritten, and the loop goes on
-      pub turned : {k : ℕ} → k ≡ minKey d (queuesOf own keys (c .updates)) x → {winners″ : List ℕ} → QueuesOk d (t .rows) (set keys x k) winners″
-          → Looping g d t (alive g d r) (turn g d t r) left₀ s₀ (left - 1) (stateOf labels predecessors own (set keys x k) c) winners″
-      turned e N = record {
-        represents = record {
-          tabled = W .represents .tabled;
-          labelled = W .represents .labelled;
-          fed = W .represents .fed;
-          owned = W .represents .owned;
-          queues = N;
-        };
-        sofar =
-            ap (times (left - 1) (alive g d r) (turn g d t r))
-            (rw e (rewritten-key g d x labels predecessors own keys c ∙ ap (rewriteKey g d x) (W .result)))
-            ∙ onward;
-      }
+  -- the slices after its working
+  module _ {labels predecessors own keys winners′ : List ℕ} {c : Counts}
+      (W : Computed g d t (process g d (t .spans) x s) (stateOf labels predecessors own keys c) winners′) where
+    pub key-asks : Keyed (arcs g) d (t .rows) (t .regionRows) own keys winners′ x
+    key-asks = record {
+      few = T .frame .represents .tabled .ok .graph .few-arcs;
+      division = T .frame .represents .tabled .ok .division;
+      region-rows = T .frame .represents .tabled .region-rows;
+      owned = W .represents .owned;
+      queues = W .represents .queues;
+      in-range = child-in;
+    }
+
+    -- its key is rewritten, and the loop goes on
+    pub turned : {k : ℕ} → k ≡ minKey d (queuesOf own keys (c .updates)) x → {winners″ : List ℕ} → QueuesOk d (t .rows) (set keys x k) winners″
+        → Looping g d t (alive g d r) (turn g d t r) left₀ s₀ (left - 1) (stateOf labels predecessors own (set keys x k) c) winners″
+    turned e N = record {
+      represents = record {
+        tabled = W .represents .tabled;
+        labelled = W .represents .labelled;
+        fed = W .represents .fed;
+        owned = W .represents .owned;
+        queues = N;
+      };
+      sofar =
+          ap (times (left - 1) (alive g d r) (turn g d t r))
+          (rw e (rewritten-key g d x labels predecessors own keys c ∙ ap (rewriteKey g d x) (W .result)))
+          ∙ onward;
+    }
 
 -- the working of a region, whose row has a in place of its arc
 module _ {g : Graph} {d : Division} {t : Tables} {s : State} {winners : List ℕ} {r : ℕ} (P : Processing g d t s winners r (process g d (t .spans) r s)) {a : ℕ}
@@ -231,84 +238,3 @@ module _ {g : Graph} {d : Division} {t : Tables} {s : State} {winners : List ℕ
     pub leaf-worked : {s′ : State} {winners′ : List ℕ} → Computed g d t (processLeaf g d r s) s′ winners′ → Computed g d t (process g d (t .spans) r s)
         s′ winners′
     leaf-worked W = record { result = W .result ∙ sym (process-leaf g d (t .spans) r s region-leaf); represents = W .represents }
-
--- THE ROUNDS
-module _ {g : Graph} {d : Division} {t : Tables} {labels predecessors own keys winners : List ℕ} {c : Counts}
-    (P : Processing g d t (stateOf labels predecessors own keys c) winners 0 (round g d (t .spans) (stateOf labels predecessors own keys c))) where
-  round-counted : {n : Counts} → n ≡ roundCounted c → stateOf labels predecessors own keys n ≡ countRound g d (stateOf labels predecessors own keys c)
-  unfolding countRound
-  round-counted counted = rw (counted, add-one (c .rounds))
-
-  by-process : process g d (t .spans) 0 (countRound g d (stateOf labels predecessors own keys c)) ≡ round g d (t .spans)
-      (stateOf labels predecessors own keys c)
-  unfolding round
-  by-process = refl
-
-  pub round-count-fits : c .rounds + 1 < 18446744073709551616
-  round-count-fits =
-      let s = countRound g d (stateOf labels predecessors own keys c) in
-      let more = process-grows g d (P .represents .tabled .ok .division) (t .spans) 0 s (P .in-range) in
-      let one = ap (λ (w : State). w .rounds) (round-counted refl) in
-      let all = ap (λ (w : State). w .rounds) by-process in
-      omega (arith, more .rounds, one, all, P .small .rounds)
-
-  -- n is the counts with the round counted
-  module _ {n : Counts} (counted : n ≡ roundCounted c) where
-    abbrev entered : State
-    entered = stateOf labels predecessors own keys n
-
-    is-round : process g d (t .spans) 0 entered ≡ round g d (t .spans) (stateOf labels predecessors own keys c)
-    is-round = rw (round-counted counted) by-process
-
-    pub round-asks : Processing g d t entered winners 0 (process g d (t .spans) 0 entered)
-    round-asks = record {
-      represents = record {
-        tabled = P .represents .tabled;
-        labelled = P .represents .labelled;
-        fed = P .represents .fed;
-        owned = P .represents .owned;
-        queues = P .represents .queues;
-      };
-      in-range = P .in-range;
-      small = rw is-round (P .small);
-    }
-
-    pub round-made : {s : State} {winners′ : List ℕ} → Computed g d t (process g d (t .spans) 0 entered) s winners′
-        → Computed g d t (round g d (t .spans) (stateOf labels predecessors own keys c)) s winners′
-    round-made W = record { result = W .result ∙ is-round; represents = W .represents }
-
--- a run goes on
-abbrev pub running : Graph → Division → State → Bool
-running g d s = not (ended g d s)
-
-pub rounds-first : {g : Graph} {d : Division} {t : Tables} {s : State} {winners : List ℕ} {limit : ℕ} → Represents g d t s winners
-    → Looping g d t (running g d) (round g d (t .spans)) limit s limit s winners
-rounds-first R = record { represents = R; sofar = refl }
-
-module _ {g : Graph} {d : Division} {t : Tables} {limit : ℕ} {s₀ s : State} {left : ℕ} {winners : List ℕ}
-    (L : Looping g d t (running g d) (round g d (t .spans)) limit s₀ left s winners) where
-  pub rounds-ended : ended g d s ≡ true → Computed g d t (times limit (running g d) (round g d (t .spans)) s₀) s winners
-  rounds-ended e = loop-off L (ap not e)
-
-  module _ (pos : 0 < left) (going : ended g d s ≡ false) where
-    onward-rounds : times (left - 1) (running g d) (round g d (t .spans)) (round g d (t .spans) s) ≡ times limit (running g d) (round g d (t .spans)) s₀
-    onward-rounds = loop-on L pos (ap not going)
-
-    -- the counts of the whole run are small, and so are those of every round
-    pub next-asks : (k : ℕ) → s₀ ≡ after g d (t .spans) k → Processing g d t s winners 0 (round g d (t .spans) s)
-    next-asks k e =
-        let ok = L .represents .tabled .ok in
-        let all : Small (times limit (running g d) (round g d (t .spans)) s₀) =
-        rw (e, ← rounds-in-parts g d (t .spans) k limit) (after-small ok few-out (k + limit)) in
-        record {
-          represents = L .represents;
-          in-range = ok .division .nesting .root;
-          small = grows-small (rounds-grow g d (ok .division) (t .spans) (left - 1) (round g d (t .spans) s)) (rw onward-rounds all);
-        }
-
-    pub rounds-step : {s′ : State} {winners′ : List ℕ} → Computed g d t (round g d (t .spans) s) s′ winners′
-        → Looping g d t (running g d) (round g d (t .spans)) limit s₀ (left - 1) s′ winners′
-    rounds-step W = record {
-      represents = W .represents;
-      sofar = ap (times (left - 1) (running g d) (round g d (t .spans))) (W .result) ∙ onward-rounds;
-    }

@@ -1,26 +1,19 @@
--- What a region's row tells, and what the smallest key tells of the run's end. Assumes nothing.
+-- What a region's row tells: whether it is a leaf, and its key. Assumes nothing.
 use Prim.Native.Nat.{ℕ, zero, suc, _-_, _≤_, _<_, pred}
 use mathlib.Core.Bool.{true, false}
 use mathlib.Core.Path.{_≡_, refl, sym, ap, _∙_}
 use mathlib.Core.Logic.{_≢_, ⊎-elim}
 use mathlib.Core.List.{List}
 use native.Mathlib.Omega.{arith}
-use borrow.Author.Tests.{le-leb, lt-leb}
 use lib.ListN.{take}
 use lib.Seq.{getD-take}
-use lib.Dec.{leb}
 use Rattle.indices.specs.Columns.{at}
-use Rattle.indices.proofs.Steps.{true-or-false, lt-or-le}
+use Rattle.indices.proofs.Steps.{true-or-false}
 use Rattle.sheet.specs.Limits.{mostArcs}
-use Rattle.sheet.specs.Words.{top}
-use Rattle.procedure.specs.Graph.{Graph}
 use Rattle.procedure.specs.Division.{Division, regions, arcOf, isLeaf}
-use Rattle.procedure.specs.State.{State}
 use Rattle.procedure.specs.Queues.{minKey}
-use Rattle.procedure.specs.Procedure.{ended}
 use Rattle.procedure.specs.WellFormed.{DivisionOk}
 use Rattle.theory.proofs.Chosen.{minKey-leaf}
-use Rattle.theory.proofs.Process.{key-running, none-ended}
 use Rattle.slices.specs.Tables.{RegionRows, noArc, arcEntry}
 use Rattle.slices.specs.States.{queuesOf, Keyed}
 
@@ -64,12 +57,6 @@ own-key {m} {d} own {keys} {r = r} K {a} row n updates =
     sym (getD-take m own a 0 (arc-in K row n))
     ∙ ap (at (take m own)) (arc-is K row n)
     ∙ sym (minKey-leaf d (queuesOf (take m own) keys updates) r (is-leaf K row n))
-
--- "A run has ended when region 0's smallest key is none."
-pub ended-by-key : (g : Graph) (d : Division) (s : State) (k : ℕ) → k ≡ minKey d (s .queues) 0 → leb top k ≡ ended g d s
-ended-by-key g d s k e =
-    ⊎-elim (λ (l : minKey d (s .queues) 0 < top). lt-leb top k (omega arith) ∙ sym (key-running g d s l))
-    (λ (l : top ≤ minKey d (s .queues) 0). le-leb top k (omega arith) ∙ sym (none-ended g d s l)) (lt-or-le (minKey d (s .queues) 0) top)
 
 -- the height before a height
 pub before-height : (n : ℕ) → n - 1 ≡ pred n

@@ -1,22 +1,18 @@
-// The procedure over slices and arrays that the caller lends: the working of a region, the start and the rounds. Each function computes its definition.
+// The working of a region, over slices and arrays that the caller lends. Each function computes its definition.
 // What a run only reads lies in rows, so that six tables hold it all. An array is one word of every call, a slice two.
 ghost use mathlib.Core.Path.{_≡_};
-ghost use mathlib.Core.Bool.{false, not};
+ghost use mathlib.Core.Bool.{false};
 ghost use mathlib.Core.List.{List};
 ghost use Prim.Native.Nat.{ℕ};
 ghost use lib.ListN.{take};
-ghost use Rattle.indices.specs.Steps.{times};
 ghost use Rattle.procedure.specs.Graph.{Graph};
-ghost use Rattle.procedure.specs.Division.{Division, regions, isLeaf};
+ghost use Rattle.procedure.specs.Division.{Division, isLeaf};
 ghost use Rattle.procedure.specs.Queues.{minKey};
-ghost use Rattle.procedure.specs.Procedure.{process, ended, start, round, after};
-ghost use Rattle.tree_places.specs.Trees.{QueuesOk};
+ghost use Rattle.procedure.specs.Procedure.{process};
 ghost use Rattle.slices.specs.Tables.{tablesOf};
-ghost use Rattle.slices.specs.States.{queuesOf, stateOf, stateIn};
-ghost use Rattle.slices.specs.States.{Keyed, Represents, Processing, Computed, Blank};
+ghost use Rattle.slices.specs.States.{queuesOf, stateIn, Keyed, Processing, Computed};
 use counts::Counts;
 use queue::NONE;
-use sheet::Node;
 use sheet::Region;
 use slices::ARCS;
 use slices::INNER;
@@ -104,7 +100,7 @@ fn process_region(
 }
 
 // Works the inner region r: up to span times, while its smallest key isn't none, its first-chosen child is worked and gets its key anew.
-fn process_inner(
+pub fn process_inner(
     rows: &[u16; ROWS],
     arcs: &[u16],
     firsts: &[u16; NODES],
@@ -152,141 +148,6 @@ fn process_inner(
         );
         let key = key_of(rows, regions, own, winners, child);
         queue::write(rows, winners, child, key);
-        left -= 1;
-    }
-    n
-}
-
-// The state before the first round, made in arrays that may hold anything. There are `count` regions. Lengths, spans and the
-// regions' rows are not read.
-pub fn start(
-    rows: &[u16; ROWS],
-    arcs: &[u16],
-    firsts: &[u16; NODES],
-    labels: &mut [u32; NODES],
-    predecessors: &mut [u32; NODES],
-    own: &mut [u32; ARCS],
-    winners: &mut [u64; PLACES],
-    source: Node,
-    count: u16,
-) -> Counts
-    requires { ⌜ ((g : Graph) × (d : Division) × (lengths : List ℕ) × (spans : List ℕ) × (regionRows : List ℕ)
-        × Blank g d (tablesOf (now rows) (now arcs) (now firsts) lengths spans regionRows) × (source .0 ≡ g .source)
-        × (count ≡ regions d)) ⌝ }
-    ensures { λ n. ⌜ ((g : Graph) (d : Division) (lengths spans regionRows : List ℕ)
-        → let t = tablesOf (now (rows .entry)) (now (arcs .entry)) (now (firsts .entry)) lengths spans regionRows in
-        Blank g d t → source .0 ≡ g .source → count ≡ regions d
-        → ((keys : List ℕ) × Computed g d t (start g d spans)
-        (stateIn g (now (labels .exit)) (now (predecessors .exit)) (now (own .exit)) keys n) (now (winners .exit)))) ⌝ }
-{
-    rows::fill_keys(labels, NONE);
-    rows::fill_keys(predecessors, NONE);
-    rows::fill_keys(own, NONE);
-    queue::clear(rows, winners, count);
-    let i = source.0 as usize;
-    labels[i] = 0;
-    let n = updates::update_outgoing(rows, arcs, firsts, own, winners, source, 0, 0);
-    Counts {
-        rounds: 0,
-        leaves: 0,
-        inner: 0,
-        updates: n,
-    }
-}
-
-// Whether the run has ended.
-pub fn has_ended(rows: &[u16; ROWS], winners: &[u64; PLACES]) -> bool
-    requires { ⌜ ((d : Division) × (keys : List ℕ) × QueuesOk d (now rows) keys (now winners)) ⌝ }
-    ensures { λ b. ⌜ ((g : Graph) (d : Division) (labels predecessors own keys : List ℕ) (c : Counts)
-        → QueuesOk d (now (rows .entry)) keys (now (winners .entry)) → isLeaf d 0 ≡ false → b ≡ ended g d (stateOf labels predecessors own keys c)) ⌝ }
-{
-    NONE <= queue::min_key(rows, winners, Region(0))
-}
-
-// One round: one working of region 0, which is never a leaf.
-fn round(
-    rows: &[u16; ROWS],
-    arcs: &[u16],
-    firsts: &[u16; NODES],
-    lengths: &[u32; ARCS],
-    spans: &[u32],
-    regions: &[u16; REGION_ROWS],
-    labels: &mut [u32; NODES],
-    predecessors: &mut [u32; NODES],
-    own: &mut [u32; ARCS],
-    winners: &mut [u64; PLACES],
-    c: Counts,
-) -> Counts
-    requires { ⌜ (let t = tablesOf (now rows) (now arcs) (now firsts) (now lengths) (now spans) (now regions) in
-        (g : Graph) × (d : Division) × (keys : List ℕ) × let s = stateIn g (now labels) (now predecessors) (now own) keys c in
-        Processing g d t s (now winners) 0 (round g d (t .spans) s)) ⌝ }
-    ensures { λ n. ⌜ (let t = tablesOf (now (rows .entry)) (now (arcs .entry)) (now (firsts .entry)) (now (lengths .entry)) (now (spans .entry))
-        (now (regions .entry)) in
-        (g : Graph) (d : Division) (keys : List ℕ) → let s = stateIn g (now (labels .entry)) (now (predecessors .entry)) (now (own .entry)) keys c in
-        Processing g d t s (now (winners .entry)) 0 (round g d (t .spans) s)
-        → ((keys′ : List ℕ) × Computed g d t (round g d (t .spans) s)
-        (stateIn g (now (labels .exit)) (now (predecessors .exit)) (now (own .exit)) keys′ n) (now (winners .exit)))) ⌝ }
-{
-    process_inner(
-        rows,
-        arcs,
-        firsts,
-        lengths,
-        spans,
-        regions,
-        labels,
-        predecessors,
-        own,
-        winners,
-        Region(0),
-        counts::count_round(c),
-    )
-}
-
-// At most `limit` more rounds, from a state after any number of them.
-pub fn rounds(
-    rows: &[u16; ROWS],
-    arcs: &[u16],
-    firsts: &[u16; NODES],
-    lengths: &[u32; ARCS],
-    spans: &[u32],
-    regions: &[u16; REGION_ROWS],
-    labels: &mut [u32; NODES],
-    predecessors: &mut [u32; NODES],
-    own: &mut [u32; ARCS],
-    winners: &mut [u64; PLACES],
-    limit: u64,
-    c: Counts,
-) -> Counts
-    requires { ⌜ (let t = tablesOf (now rows) (now arcs) (now firsts) (now lengths) (now spans) (now regions) in
-        (g : Graph) × (d : Division) × (k : ℕ) × (keys : List ℕ) × let s = stateIn g (now labels) (now predecessors) (now own) keys c in
-        Represents g d t s (now winners) × (s ≡ after g d (t .spans) k)) ⌝ }
-    ensures { λ n. ⌜ (let t = tablesOf (now (rows .entry)) (now (arcs .entry)) (now (firsts .entry)) (now (lengths .entry)) (now (spans .entry))
-        (now (regions .entry)) in
-        (g : Graph) (d : Division) (k : ℕ) (keys : List ℕ) → let s = stateIn g (now (labels .entry)) (now (predecessors .entry)) (now (own .entry)) keys c in
-        Represents g d t s (now (winners .entry)) → s ≡ after g d (t .spans) k
-        → ((keys′ : List ℕ) × Computed g d t (times limit (λ s. not (ended g d s)) (round g d (t .spans)) s)
-        (stateIn g (now (labels .exit)) (now (predecessors .exit)) (now (own .exit)) keys′ n) (now (winners .exit)))) ⌝ }
-{
-    let mut left = limit;
-    let mut n = c;
-    while 0 < left {
-        if has_ended(rows, winners) {
-            return n;
-        }
-        n = round(
-            rows,
-            arcs,
-            firsts,
-            lengths,
-            spans,
-            regions,
-            labels,
-            predecessors,
-            own,
-            winners,
-            n,
-        );
         left -= 1;
     }
     n

@@ -6,7 +6,6 @@ use native.Mathlib.Omega.{arith}
 use borrow.Author.Tests.{eq-eqb, lt-ltb}
 use lib.Dec.{eqb}
 use lib.ListN.{length}
-use Rattle.indices.specs.Columns.{at}
 use Rattle.indices.proofs.Tests.{and-both, count-once}
 use Rattle.sheet.specs.Words.{words, top}
 use Rattle.sheet.specs.Sections.{nodeCount, source, arcCount, regionWords}
@@ -16,7 +15,7 @@ use Rattle.refusals.specs.Nesting.{leafOfArc}
 use Rattle.refusals.proofs.Accepted.{few-arcs, few-nodes, source-in, tail-in, few-region-words, nesting, leaf-arc, one-leaf}
 use Rattle.procedure.specs.Graph.{arcs}
 use Rattle.procedure.specs.Division.{regions, arcOf, leafOf}
-use Rattle.procedure.specs.OfSheet.{graphOf, divisionOf, spansOf}
+use Rattle.procedure.specs.OfSheet.{graphOf, divisionOf}
 use Rattle.procedure.proofs.OfSheet.{graph-nodes, graph-arcs, graph-tail, graph-head}
 use Rattle.procedure.proofs.OfSheet.{division-regions, division-parent, division-arc, division-leaf, division-height}
 use Rattle.procedure.proofs.WellFormed.{accepted-well-formed}
@@ -25,10 +24,10 @@ use Rattle.tree_places.specs.Trees.{ParentsOf}
 use Rattle.rows.specs.Links.{Linkable, Linked}
 use Rattle.planning.proofs.Planning.{division-parents}
 use Rattle.rows.proofs.Links.{links-same}
-use Rattle.slices.specs.Tables.{ArcRows, RegionRows, tablesOf}
+use Rattle.slices.specs.Tables.{ArcRows, RegionRows}
 use Rattle.arc_entries.specs.Arcs.{EndsEntered, LeavesApart, LeavesEntered}
 use Rattle.region_entries.specs.Regions.{Nested, ParentsEntered, HeightsEntered}
-use Rattle.layout.specs.Layout.{Laid, ArcsLaid, RegionsLaid}
+use Rattle.layout.specs.Layout.{ArcsLaid}
 use Rattle.region_entries.proofs.Rows.{leaf-row, inner-row}
 
 module _ (b : List ℕ) (ok : Accepted b) where
@@ -117,24 +116,6 @@ module _ (b : List ℕ) (ok : Accepted b) where
 
       is-region : (r : ℕ) → r < regions (divisionOf b) → r < regionCount (regionWords b)
       is-region r l = omega (arith, division-regions b)
-
-  -- THE WHOLE
-
-  pub whole : {rows arcRows firsts lengths spans regionRows : List ℕ} → ArcsLaid (graphOf b) (divisionOf b) arcRows firsts
-      → lengths ≡ graphOf b .lengths → spans ≡ spansOf b → RegionsLaid (divisionOf b) rows regionRows
-      → Laid b (tablesOf rows arcRows firsts lengths spans regionRows)
-  whole A el es R = record {
-    tabled =
-        record {
-          ok = rw es (accepted-well-formed b ok);
-          arc-rows = A .arc-rows;
-          links = A .links;
-          lengths = λ a l. ap (λ (xs : List ℕ). at xs a) el;
-          region-rows = R .region-rows;
-        };
-    planned = R .planned;
-    spans = es;
-  }
 
   -- 16 bits hold the source
   pub source-fits : source b < 65536

@@ -1,15 +1,17 @@
 // From an accepted sheet to the slices of a run: arcs, lengths, spans and regions, as the engine reads them. Every pass is linear in the sheet's words.
 ghost use mathlib.Core.Path.{_≡_};
-ghost use Prim.Native.Nat.{_*_};
-ghost use lib.ListN.{length};
+ghost use Prim.Native.Nat.{_*_, _≤_};
+ghost use lib.ListN.{length, take};
 ghost use Rattle.sheet.specs.Sections.{Located, nodeCount, arcCount, regionWords};
 ghost use Rattle.sheet.specs.Regions.{regionCount};
 ghost use Rattle.refusals.specs.Judgement.{Accepted};
 ghost use Rattle.procedure.specs.OfSheet.{graphOf, divisionOf};
-ghost use Rattle.slices.specs.Tables.{tablesOf};
-ghost use Rattle.layout.specs.Layout.{Sized, Laid, ArcsLaid, RegionsLaid};
+ghost use Rattle.sizes.specs.InUse.{InUse};
+ghost use Rattle.layout.specs.Layout.{ArcsLaid, RegionsLaid, GraphLaid, DivisionLaid};
 use sheet::Node;
 use sheet::Sections;
+use sizes::Sizes;
+use slices::REGIONS;
 
 // The rows of the arcs, and each node's first arc.
 fn lay_arcs(s: &[u8], at: Sections, arcs: &mut [u16], firsts: &mut [u16])
@@ -42,25 +44,47 @@ pub fn source_of(s: &[u8]) -> Node
     Node(sheet::source_number(s) as u16)
 }
 
-// Lays out all that a run reads, from an accepted sheet. `parents` is for this call's own use: nothing is promised of what it holds afterwards.
-pub fn lay_out(
+// The rows of the arcs, each node's first arc and each arc's length, in slices of which the front is used.
+pub fn lay_graph(
     s: &[u8],
     at: Sections,
-    parents: &mut [u16],
-    rows: &mut [u16],
+    sizes: Sizes,
     arcs: &mut [u16],
     firsts: &mut [u16],
     lengths: &mut [u32],
+)
+    requires { ⌜ Accepted (now s) × Located (now s) at × InUse (now s) sizes × (4 * sizes .arcs ≤ length (now arcs))
+        × (sizes .nodes ≤ length (now firsts)) × (sizes .arcs ≤ length (now lengths)) ⌝ }
+    ensures { λ _. ⌜ GraphLaid (now (s .entry)) (take (4 * sizes .arcs) (now (arcs .exit))) (now (firsts .exit)) (now (lengths .exit)) ⌝ }
+{
+    let n = sizes.nodes;
+    let m = sizes.arcs;
+    lay_arcs(s, at, &mut arcs[..4 * m], &mut firsts[..n]);
+    arc_entries::enter_lengths(s, at, &mut lengths[..m]);
+}
+
+// The rows of the regions, for the tables and for the queues, and the span of each height, in slices of which the front is used.
+pub fn lay_division(
+    s: &[u8],
+    at: Sections,
+    sizes: Sizes,
+    rows: &mut [u16],
     spans: &mut [u32],
     regions: &mut [u16],
 )
-    requires { ⌜ Accepted (now s) × Located (now s) at
-        × Sized (now s) (now parents) (now rows) (now arcs) (now firsts) (now lengths) (now spans) (now regions) ⌝ }
-    ensures { λ _. ⌜ Laid (now (s .entry)) (tablesOf (now (rows .exit)) (now (arcs .exit)) (now (firsts .exit)) (now (lengths .exit)) (now (spans .exit))
-        (now (regions .exit))) ⌝ }
+    requires { ⌜ Accepted (now s) × Located (now s) at × InUse (now s) sizes × (4 * sizes .regions ≤ length (now rows))
+        × (sizes .spans ≤ length (now spans)) × (2 * sizes .regions ≤ length (now regions)) ⌝ }
+    ensures { λ _. ⌜ DivisionLaid (now (s .entry)) (now (rows .exit)) (take (sizes .spans) (now (spans .exit))) (now (regions .exit)) ⌝ }
 {
-    lay_arcs(s, at, arcs, firsts);
-    arc_entries::enter_lengths(s, at, lengths);
-    arc_entries::enter_spans(s, at, spans);
-    lay_regions(s, at, parents, rows, regions);
+    let k = sizes.spans;
+    let r = sizes.regions;
+    let mut parents = [0u16; REGIONS];
+    arc_entries::enter_spans(s, at, &mut spans[..k]);
+    lay_regions(
+        s,
+        at,
+        &mut parents[..r],
+        &mut rows[..4 * r],
+        &mut regions[..2 * r],
+    );
 }

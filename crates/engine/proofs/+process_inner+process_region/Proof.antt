@@ -3,14 +3,17 @@
 use Prim.Native.Nat.{ℕ, _+_, _*_, _<_}
 use mathlib.Core.List.{List}
 use native.Mathlib.Omega.{arith}
+use lib.ListN.{take}
 use Rattle.procedure.specs.Graph.{Graph, arcs}
 use Rattle.procedure.specs.Division.{Division}
-use Rattle.slices.specs.Tables.{tablesOf, heightEntry}
+use Rattle.procedure.specs.State.{State}
+use Rattle.slices.specs.Tables.{Tables, tablesOf, heightEntry}
 use Rattle.slices.specs.States.{stateIn}
 use Rattle.engine.proofs.Loops.{
   Looping,
   turn,
   Framed,
+  Turning,
   framed-first,
   span-asks,
   turns-worked,
@@ -189,91 +192,92 @@ process-inner-min-item-requires t c κs =
     let L = loop .inv G D (pre .1 .2) F in
     (D, L .0, L .1 .represents .queues, F .in-range)
 
-process-inner-process-region-requires : (t : ℕ) → process-inner-lts.Need-process-region-requires (process-inner-heard t) (process-inner-at t)
+-- after the first-chosen child is found: what is known there, at any graph and division that the loop began with, and at those of the contract
+abbrev process-inner-Found : ℕ → Type 0
+process-inner-Found t = process-inner-lts.After-min-item (process-inner-heard t) (process-inner-at t) process-inner.Post process-inner-Inv-loop
+    process-inner-μ-loop
+
+abbrev process-inner-begun : (t : ℕ) → process-inner-Found t → process-inner-lts.After-count-inner (process-inner-heard t) (process-inner-at t)
     process-inner.Post process-inner-Inv-loop process-inner-μ-loop
-unfolding top
-process-inner-process-region-requires t c κs =
+process-inner-begun t c =
     let earlier = c .before .before .before .before in
     let early = earlier .before .before .before .before in
-    let prior = early .before .before .before .before in
-    let first = prior .before .before .before .before in
-    let opening = first .before .before .before .before in
-    let min-item = earlier .min-item in
-    let if1 = early .if1 in
-    let min-key = early .before .min-key in
-    let loop-test = prior .before .loop-test in
-    let loop = prior .before .before .loop in
-    let count-inner = prior .before .before .before .count-inner in
-    let span-of = first .span-of in
-    let pre = opening .pre in
-    let G = pre .1 .0 in
-    let D = pre .1 .1 in
-    let F = framed (pre .1 .3 .0) (pre .1 .3 .1) (span-of .ensures) (count-inner .ensures) in
-    let L = loop .inv G D (pre .1 .2) F in
-    let key = min-key .ensures D (L .0) (L .1 .represents .queues) (F .in-range) (F .inner) _ _ in
-    let item = min-item .ensures D (L .0) (L .1 .represents .queues) (F .in-range) in (
-      omega (arith, pre .0, child-lower F (L .1) key (loop-test .taken) (if1 .left) item),
-      (G, D, L .0, child-asks F (L .1) key (loop-test .taken) (if1 .left) item),
+    early .before .before .before
+
+abbrev process-inner-entry : (t : ℕ) → process-inner-Found t → process-inner-lts.Start (process-inner-heard t) (process-inner-at t)
+    process-inner.Post process-inner-Inv-loop process-inner-μ-loop
+process-inner-entry t c = process-inner-begun t c .before .before .before .before .before
+
+abbrev process-inner-Tables : (t : ℕ) → process-inner-Found t → Tables
+process-inner-Tables t c =
+    let args = process-inner-entry t c .args in
+    tablesOf (args .rows .now) (args .arcs .now) (args .firsts .now) (args .lengths .now) (args .spans .now) (args .regions .now)
+
+abbrev process-inner-first : (t : ℕ) → process-inner-Found t → Graph → List ℕ → State
+process-inner-first t c g keys =
+    let args = process-inner-entry t c .args in
+    stateIn g (args .labels .now) (args .predecessors .now) (args .own .now) keys (process-inner-begun t c .count-inner .result)
+
+abbrev process-inner-Turning : (t : ℕ) → process-inner-Found t → Graph → Division → List ℕ → List ℕ → Type 0
+process-inner-Turning t c g d keys₀ keys =
+    let begun = process-inner-begun t c in
+    let args = process-inner-entry t c .args in
+    let early = c .before .before .before .before .before in
+    let loop = early .before .before .before .before .before .loop in
+    Turning g d (process-inner-Tables t c) (args .r .0) (begun .before .span-of .result) (process-inner-first t c g keys₀) (args .winners .now) (loop .left)
+    (stateIn g (loop .labels) (loop .predecessors) (loop .own) keys (loop .n)) (loop .winners) (c .min-item .result .0)
+
+process-inner-turning : (t : ℕ) (c : process-inner-Found t) (g : Graph) (d : Division) (keys₀ : List ℕ)
+    → Framed g d (process-inner-Tables t c) (process-inner-entry t c .args .r .0) (process-inner-begun t c .before .span-of .result)
+    (process-inner-first t c g keys₀) (process-inner-entry t c .args .winners .now) → ((keys : List ℕ) × process-inner-Turning t c g d keys₀ keys)
+unfolding top
+process-inner-turning t c g d keys₀ F =
+    let earlier = c .before .before .before .before in
+    let early = earlier .before .before .before .before in
+    let loop = early .before .before .loop in
+    let L = loop .inv g d keys₀ F in
+    let key = earlier .before .min-key .ensures d (L .0) (L .1 .represents .queues) (F .in-range) (F .inner) (take (arcs g) (loop .own)) (loop .n .updates) in (
+      L .0,
+      record {
+        frame = F;
+        loop = L .1;
+        positive = early .before .loop-test .taken;
+        some = omega (arith, key, earlier .if1 .left);
+        item = c .min-item .ensures d (L .0) (L .1 .represents .queues) (F .in-range);
+      },
     )
+
+process-inner-asked : (t : ℕ) (c : process-inner-Found t) → (g : Graph) × (d : Division) × (keys₀ : List ℕ) × (keys : List ℕ)
+    × process-inner-Turning t c g d keys₀ keys
+process-inner-asked t c =
+    let begun = process-inner-begun t c in
+    let asked = process-inner-entry t c .pre .1 in
+    let T = process-inner-turning t c (asked .0) (asked .1) (asked .2) (framed (asked .3 .0) (asked .3 .1) (begun .before .span-of .ensures)
+    (begun .count-inner .ensures)) in
+    (asked .0, asked .1, asked .2, T .0, T .1)
+
+process-inner-process-region-requires : (t : ℕ) → process-inner-lts.Need-process-region-requires (process-inner-heard t) (process-inner-at t)
+    process-inner.Post process-inner-Inv-loop process-inner-μ-loop
+process-inner-process-region-requires t c κs =
+    let found = c .before .before .before .before in
+    let A = process-inner-asked t found in
+    (omega (arith, process-inner-entry t found .pre .0, child-lower (A .4)), (A .0, A .1, A .3, child-asks (A .4)))
 
 process-inner-key-of-requires : (t : ℕ) → process-inner-lts.Need-key-of-requires (process-inner-heard t) (process-inner-at t)
     process-inner.Post process-inner-Inv-loop process-inner-μ-loop
-unfolding top
 process-inner-key-of-requires t c κs =
-    let earlier = c .before .before .before .before in
-    let early = earlier .before .before .before .before in
-    let prior = early .before .before .before .before in
-    let first = prior .before .before .before .before in
-    let opening = first .before .before .before .before in
-    let min-item = earlier .before .before .before .min-item in
-    let if1 = early .before .before .before .if1 in
-    let min-key = prior .min-key in
-    let loop-test = first .loop-test in
-    let loop = first .before .loop in
-    let count-inner = first .before .before .count-inner in
-    let span-of = first .before .before .before .span-of in
-    let pre = opening .before .before .before .pre in
-    let G = pre .1 .0 in
-    let D = pre .1 .1 in
-    let F = framed (pre .1 .3 .0) (pre .1 .3 .1) (span-of .ensures) (count-inner .ensures) in
-    let L = loop .inv G D (pre .1 .2) F in
-    let key = min-key .ensures D (L .0) (L .1 .represents .queues) (F .in-range) (F .inner) _ _ in
-    let item = min-item .ensures D (L .0) (L .1 .represents .queues) (F .in-range) in
-    let W = c .before .before .process-region .ensures G D (L .0) (child-asks F (L .1) key (loop-test .taken) (if1 .left) item) in
-    (arcs G, D, W .0, key-asks F (L .1) key (loop-test .taken) (if1 .left) item (W .1))
+    let worked = c .before .before in
+    let A = process-inner-asked t (worked .before .before .before .before .before) in
+    let W = worked .process-region .ensures (A .0) (A .1) (A .3) (child-asks (A .4)) in
+    (arcs (A .0), A .1, W .0, key-asks (A .4) (W .1))
 
 process-inner-write-requires : (t : ℕ) → process-inner-lts.Need-write-requires (process-inner-heard t) (process-inner-at t)
     process-inner.Post process-inner-Inv-loop process-inner-μ-loop
-unfolding top
 process-inner-write-requires t c κs =
-    let earlier = c .before .before .before .before in
-    let early = earlier .before .before .before .before in
-    let prior = early .before .before .before .before in
-    let first = prior .before .before .before .before in
-    let opening = first .before .before .before .before in
-    let origin = opening .before .before .before .before in
-    let process-region = earlier .before .process-region in
-    let min-item = early .before .before .min-item in
-    let if1 = prior .before .before .if1 in
-    let min-key = prior .before .before .before .min-key in
-    let loop-test = first .before .before .before .loop-test in
-    let loop = opening .loop in
-    let count-inner = opening .before .count-inner in
-    let span-of = opening .before .before .span-of in
-    let pre = origin .before .before .pre in
-    let G = pre .1 .0 in
-    let D = pre .1 .1 in
-    let F = framed (pre .1 .3 .0) (pre .1 .3 .1) (span-of .ensures) (count-inner .ensures) in
-    let L = loop .inv G D (pre .1 .2) F in
-    let key = min-key .ensures D (L .0) (L .1 .represents .queues) (F .in-range) (F .inner) _ _ in
-    let item = min-item .ensures D (L .0) (L .1 .represents .queues) (F .in-range) in
-    let W = process-region .ensures G D (L .0) (child-asks F (L .1) key (loop-test .taken) (if1 .left) item) in (
-      D,
-      W .0,
-      W .1 .represents .queues,
-      child-positive F (L .1) key (loop-test .taken) (if1 .left) item,
-      child-in F (L .1) key (loop-test .taken) (if1 .left) item,
-    )
+    let worked = c .before .before .before .before .before in
+    let A = process-inner-asked t (worked .before .before .before .before .before) in
+    let W = worked .process-region .ensures (A .0) (A .1) (A .3) (child-asks (A .4)) in
+    (A .1, W .0, W .1 .represents .queues, child-positive (A .4), child-in (A .4))
 
 process-inner-sub-left : (t : ℕ) → process-inner-lts.Need-sub-left (process-inner-heard t) (process-inner-at t)
     process-inner.Post process-inner-Inv-loop process-inner-μ-loop
@@ -299,29 +303,15 @@ process-inner-loop-less t c =
 
 process-inner-loop-again : (t : ℕ) → process-inner-lts.Need-loop-again (process-inner-heard t) (process-inner-at t)
     process-inner.Post process-inner-Inv-loop process-inner-μ-loop
-unfolding top
 process-inner-loop-again t c =
-    let earlier = c .before .before .before .before in
-    let early = earlier .before .before .before .before in
-    let prior = early .before .before .before .before in
-    let first = prior .before .before .before .before in
-    let opening = first .before .before .before .before in
-    let key-of = c .before .before .before .key-of in
-    let process-region = earlier .before .before .process-region in
-    let min-item = early .before .before .before .min-item in
-    let if1 = prior .before .before .before .if1 in
-    let min-key = first .min-key in
-    let loop-test = opening .loop-test in
-    let loop = opening .before .loop in
+    let keyed = c .before .before .before in
+    let worked = keyed .before .before .before in
     λ g d keys F.
-    let L = loop .inv g d keys F in
-    let key = min-key .ensures d (L .0) (L .1 .represents .queues) (F .in-range) (F .inner) _ _ in
-    let item = min-item .ensures d (L .0) (L .1 .represents .queues) (F .in-range) in
-    let W = process-region .ensures g d (L .0) (child-asks F (L .1) key (loop-test .taken) (if1 .left) item) in
-    let new = key-of .ensures (arcs g) d (W .0) _ (key-asks F (L .1) key (loop-test .taken) (if1 .left) item (W .1)) in
-    let inside = child-in F (L .1) key (loop-test .taken) (if1 .left) item in
-    let valid = c .write .ensures d (W .0) (W .1 .represents .queues) inside in
-    (_, turned F (L .1) key (loop-test .taken) (if1 .left) item (W .1) new valid)
+    let T = process-inner-turning t (worked .before .before .before .before .before) g d keys F in
+    let W = worked .process-region .ensures g d (T .0) (child-asks (T .1)) in
+    let new = keyed .key-of .ensures (arcs g) d (W .0) _ (key-asks (T .1) (W .1)) in
+    let valid = c .write .ensures d (W .0) (W .1 .represents .queues) (child-in (T .1)) in
+    (_, turned (T .1) (W .1) new valid)
 
 process-inner-returns-2 : (t : ℕ) → process-inner-lts.Need-returns-2 (process-inner-heard t) (process-inner-at t)
     process-inner.Post process-inner-Inv-loop process-inner-μ-loop

@@ -1,9 +1,19 @@
 -- `run_tables` meets its contract: the start, the rounds, and the table of the state that they leave. Assumes nothing.
-use mathlib.Core.Path.{sym, _∙_}
+use Prim.Native.Nat.{ℕ, _≤_}
+use mathlib.Core.Path.{_≡_, refl, sym, _∙_}
+use mathlib.Core.List.{List}
 use native.Mathlib.Omega.{arith}
+use lib.ListN.{length}
 use Rattle.procedure.specs.OfSheet.{graphOf, divisionOf}
+use Rattle.procedure.specs.State.{State}
+use Rattle.procedure.specs.Procedure.{after}
 use Rattle.procedure.proofs.OfSheet.{division-regions}
-use Rattle.engine.proofs.Runs.{started-after}
+use Rattle.answers.specs.Runs.{stateAfter}
+use Rattle.tree_places.specs.Trees.{QueuesOk}
+use Rattle.slices.specs.Tables.{Tables, tablesOf}
+use Rattle.slices.specs.States.{stateIn, Represents}
+use Rattle.rounds.proofs.Runs.{started-after}
+use Rattle.sizes.proofs.Parts.{part-length}
 use Rattle.laid_run.proofs.Stages.{blank, ran, parts-in, writable, outcome}
 use Rattle.laid_run.proofs.run_tables.Statement.{statement}
 use Rattle.laid_run.proofs.run_tables.Tie as tie
@@ -39,90 +49,107 @@ start-requires c κs =
       pre .2 .regions-all ∙ sym (division-regions b),
     )
 
+-- where the function begins, and what the start leaves: the state after no rounds
+abbrev outset : tie.After-start → tie.Start
+outset c =
+    let named = c .before .before .before .before .before .before in
+    named .before .before .before .before .before
+
+abbrev tables : tie.Start → Tables
+tables c = tablesOf (c .args .rows .now) (c .args .arcs .now) (c .args .firsts .now) (c .args .lengths .now) (c .args .spans .now) (c .args .regions .now)
+
+abbrev state : tie.After-start → List ℕ → State
+state c keys = stateIn (graphOf (outset c .args .s .now)) (c .start .last .1 .1 .1 .0) (c .start .last .1 .1 .1 .1 .0) (c .start .last .1 .1 .1 .1 .1 .0) keys
+    (c .start .result)
+
+started : (c : tie.After-start) → let b = outset c .args .s .now in
+    (keys : List ℕ) × Represents (graphOf b) (divisionOf b) (tables (outset c)) (state c keys) (c .start .last .1 .1 .1 .1 .1 .1 .0)
+    × (state c keys ≡ after (graphOf b) (divisionOf b) (outset c .args .spans .now) 0)
+started c =
+    let named = c .before .before .before .before .before .before in
+    let args = outset c .args in
+    let pre = outset c .pre in
+    let b = args .s .now in
+    let S = c .start .ensures (graphOf b) (divisionOf b) (args .lengths .now) (args .spans .now) (args .regions .now) (blank (pre .3)) (named .source-of .ensures)
+    (pre .2 .regions-all ∙ sym (division-regions b)) in
+    (S .0, S .1 .represents, started-after (S .1))
+
 rounds-requires : tie.Need-rounds-requires
 rounds-requires c κs =
-    let earlier = c .before .before .before .before in
-    let early = earlier .before .before .before .before in
-    let prior = early .before .before .before .before in
-    let start = earlier .start in
-    let source-of = early .before .before .source-of in
-    let args = prior .before .before .before .args in
-    let pre = prior .before .before .before .pre in
-    let b = args .s .now in
-    let counted = pre .2 .regions-all ∙ sym (division-regions b) in
-    let S = start .ensures (graphOf b) (divisionOf b) (args .lengths .now) (args .spans .now) (args .regions .now) (blank (pre .3)) (source-of .ensures)
-    counted in
-    (graphOf b, divisionOf b, 0, S .0, (S .1 .represents, started-after (S .1)))
+    let begun = c .before .before .before .before in
+    let S = started begun in
+    let b = outset begun .args .s .now in
+    (graphOf b, divisionOf b, 0, S .0, (S .1, S .2))
+
+-- what the rounds leave
+abbrev entry : tie.After-rounds → tie.Start
+entry c = outset (c .before .before .before .before .before)
+
+abbrev labels : tie.After-rounds → List ℕ
+labels c = c .rounds .last .1 .1 .1 .1 .1 .1 .0
+
+abbrev predecessors : tie.After-rounds → List ℕ
+predecessors c = c .rounds .last .1 .1 .1 .1 .1 .1 .1 .0
+
+abbrev own : tie.After-rounds → List ℕ
+own c = c .rounds .last .1 .1 .1 .1 .1 .1 .1 .1 .0
+
+-- the state after the rounds is that which the run defines
+rounds-made : (c : tie.After-rounds) → let args = entry c .args in
+    (keys : List ℕ) × (stateIn (graphOf (args .s .now)) (labels c) (predecessors c) (own c) keys (c .rounds .result) ≡ stateAfter (args .s .now) (args .limit))
+    × QueuesOk (divisionOf (args .s .now)) (args .rows .now) keys (c .rounds .last .1 .1 .1 .1 .1 .1 .1 .1 .1 .0)
+rounds-made c =
+    let S = started (c .before .before .before .before .before) in
+    let args = entry c .args in
+    let R = c .rounds .ensures (graphOf (args .s .now)) (divisionOf (args .s .now)) 0 (S .0) (S .1) (S .2) in
+    (R .0, ran (args .limit) (entry c .pre .3) (S .2) (R .1), R .1 .represents .queues)
 
 has-ended-requires : tie.Need-has-ended-requires
 has-ended-requires c κs =
-    let earlier = c .before .before .before .before in
-    let early = earlier .before .before .before .before in
-    let prior = early .before .before .before .before in
-    let first = prior .before .before .before .before in
-    let start = earlier .before .before .start in
-    let source-of = prior .source-of in
-    let args = first .before .args in
-    let pre = first .before .pre in
-    let b = args .s .now in
-    let counted = pre .2 .regions-all ∙ sym (division-regions b) in
-    let S = start .ensures (graphOf b) (divisionOf b) (args .lengths .now) (args .spans .now) (args .regions .now) (blank (pre .3)) (source-of .ensures)
-    counted in
-    let R = c .before .rounds .ensures (graphOf b) (divisionOf b) 0 (S .0) (S .1 .represents) (started-after (S .1)) in
-    (divisionOf b, R .0, R .1 .represents .queues)
+    let R = rounds-made (c .before) in
+    (divisionOf (entry (c .before) .args .s .now), R .0, R .2)
 
-write-parts-requires : tie.Need-write-parts-requires
-write-parts-requires c κs =
-    let earlier = c .before .before .before .before in
-    let early = earlier .before .before .before .before in
-    let prior = early .before .before .before .before in
-    let first = prior .before .before .before .before in
-    let opening = first .before .before .before .before in
-    let rounds = earlier .before .before .before .rounds in
-    let start = prior .start in
-    let source-of = first .before .before .source-of in
-    let args = opening .before .before .before .args in
-    let pre = opening .before .before .before .pre in
-    let b = args .s .now in
-    let counted = pre .2 .regions-all ∙ sym (division-regions b) in
-    let S = start .ensures (graphOf b) (divisionOf b) (args .lengths .now) (args .spans .now) (args .regions .now) (blank (pre .3)) (source-of .ensures)
-    counted in
-    let R = rounds .ensures (graphOf b) (divisionOf b) 0 (S .0) (S .1 .represents) (started-after (S .1)) in
-    let e = ran (args .limit) (pre .3) (S .1) (R .1) in
-    let inside = parts-in b (args .limit) (rounds .last .1 .1 .1 .1 .1 .1 .0) (rounds .last .1 .1 .1 .1 .1 .1 .1 .0) (rounds .last .1 .1 .1 .1 .1 .1 .1 .1 .0)
-    (pre .0) (pre .2 .nodes-all) e in (
-      inside .0,
-      inside .1,
-      writable b (args .limit) (rounds .last .1 .1 .1 .1 .1 .1 .0) (rounds .last .1 .1 .1 .1 .1 .1 .1 .0) (rounds .last .1 .1 .1 .1 .1 .1 .1 .1 .0)
-          (pre .0) (pre .2 .nodes-all) e _ (pre .1),
-    )
+parts : (c : tie.After-rounds) → (entry c .args .sizes .nodes ≤ length (labels c)) × (entry c .args .sizes .nodes ≤ length (predecessors c))
+parts c =
+    let pre = entry c .pre in
+    parts-in (entry c .args .s .now) (entry c .args .limit) (labels c) (predecessors c) (own c) (pre .0) (pre .2 .nodes-all) (rounds-made c .1)
+
+array-share-prefix-labels : tie.Need-array-share-prefix-labels
+array-share-prefix-labels c = parts (c .before .before) .0
+
+slice-aggregate-write-table : tie.Need-slice-aggregate-write-table
+slice-aggregate-write-table c =
+    let ran = c .before .before .before in
+    part-length (labels ran) (entry ran .args .sizes .nodes) refl (parts ran .0)
+
+array-share-prefix-predecessors : tie.Need-array-share-prefix-predecessors
+array-share-prefix-predecessors c = parts (c .before .before .before) .1
+
+slice-aggregate-write-table-2 : tie.Need-slice-aggregate-write-table-2
+slice-aggregate-write-table-2 c =
+    let ran = c .before .before .before .before in
+    part-length (predecessors ran) (entry ran .args .sizes .nodes) refl (parts ran .1)
+
+write-table-requires : tie.Need-write-table-requires
+write-table-requires c κs =
+    let ran = c .before .before .before .before .before in
+    let args = entry ran .args in
+    let pre = entry ran .pre in
+    writable (args .s .now) (args .limit) (labels ran) (predecessors ran) (own ran) (pre .0) (pre .2 .nodes-all) (rounds-made ran .1) _ (pre .1)
 
 same-length : tie.Need-same-length
-same-length c = c .before .before .write-parts .kept .1 .1 .1 .1 .1 .0
+same-length c = c .before .before .write-table .kept .1 .1 .1 .1 .0
 
 returns : tie.Need-returns
 returns c =
-    let earlier = c .before .before .before .before in
-    let early = earlier .before .before .before .before in
-    let prior = early .before .before .before .before in
-    let first = prior .before .before .before .before in
-    let opening = first .before .before .before .before in
-    let origin = opening .before .before .before .before in
-    let has-ended = early .has-ended in
-    let rounds = early .before .before .rounds in
-    let start = prior .before .before .before .start in
-    let source-of = opening .before .source-of in
-    let args = origin .before .before .args in
-    let pre = origin .before .before .pre in
-    let b = args .s .now in
-    let counted = pre .2 .regions-all ∙ sym (division-regions b) in
-    let S = start .ensures (graphOf b) (divisionOf b) (args .lengths .now) (args .spans .now) (args .regions .now) (blank (pre .3)) (source-of .ensures)
-    counted in
-    let R = rounds .ensures (graphOf b) (divisionOf b) 0 (S .0) (S .1 .represents) (started-after (S .1)) in
-    outcome b (args .limit) (rounds .last .1 .1 .1 .1 .1 .1 .0) (rounds .last .1 .1 .1 .1 .1 .1 .1 .0) (rounds .last .1 .1 .1 .1 .1 .1 .1 .1 .0)
-    (pre .0) (pre .2 .nodes-all) (ran (args .limit) (pre .3) (S .1) (R .1))
-    (has-ended .ensures (graphOf b) (divisionOf b) _ _ _ (R .0) _ (R .1 .represents .queues) (pre .3 .tabled .ok .division .root-inner))
-    (c .before .before .write-parts .ensures)
+    let told = c .before .before .before .before .before .before in
+    let ran = told .before .before in
+    let args = entry ran .args in
+    let pre = entry ran .pre in
+    let R = rounds-made ran in
+    outcome (args .s .now) (args .limit) (labels ran) (predecessors ran) (own ran) (pre .0) (pre .2 .nodes-all) (R .1)
+    (told .has-ended .ensures (graphOf (args .s .now)) (divisionOf (args .s .now)) _ _ _ (R .0) _ (R .2) (pre .3 .tabled .ok .division .root-inner))
+    (c .before .before .write-table .ensures)
 
 pub run-tables-spec : {M : Type 1} → statement M
 run-tables-spec =
@@ -133,6 +160,10 @@ run-tables-spec =
     start-requires
     rounds-requires
     has-ended-requires
-    write-parts-requires
+    array-share-prefix-labels
+    slice-aggregate-write-table
+    array-share-prefix-predecessors
+    slice-aggregate-write-table-2
+    write-table-requires
     same-length
     returns)

@@ -1,5 +1,5 @@
 -- `lay_arcs` meets its contract: ends, then leaves, then links. Assumes nothing.
-use borrow.Author.Needs.{needs}
+use mathlib.Core.Path.{_∙_}
 use native.Mathlib.Omega.{arith}
 use Rattle.refusals.proofs.Accepted.{few-arcs}
 use Rattle.layout.proofs.Represented.{leaves-apart, linkable, arcs-laid}
@@ -13,7 +13,9 @@ enter-ends-requires c κs =
     (pre .1, few-arcs _ (pre .0), pre .2)
 
 region-words-requires : tie.Need-region-words-requires
-region-words-requires c κs = search needs
+region-words-requires c κs =
+    let earlier = c .before .before .before .before in
+    earlier .before .before .before .pre .1
 
 enter-leaves-requires : tie.Need-enter-leaves-requires
 enter-leaves-requires c κs =
@@ -36,10 +38,15 @@ link-requires c κs =
     (omega (arith, enter-leaves .kept, enter-ends .kept, pre .2)) _ (pre .3)
 
 same-length : tie.Need-same-length
-same-length c = search needs
+same-length c =
+    let earlier = c .before .before .before .before .before .before .before .before in
+    let enter-ends = earlier .before .before .before .before .before .before .enter-ends in
+    let enter-leaves = earlier .before .enter-leaves in
+    let link = c .before .before .before .before .link in
+    link .kept .0 ∙ enter-leaves .kept .1 .0 ∙ enter-ends .kept .1 .1 .0
 
 same-length-2 : tie.Need-same-length-2
-same-length-2 c = search needs
+same-length-2 c = c .before .before .before .before .link .kept .1 .0
 
 returns : tie.Need-returns
 returns c =

@@ -7,10 +7,11 @@ use Rattle.procedure.specs.Graph.{Graph}
 use Rattle.procedure.specs.Division.{Division}
 use Rattle.slices.specs.Tables.{tablesOf}
 use Rattle.slices.specs.States.{stateIn, Represents}
-use Rattle.engine.proofs.Loops.{Looping, loop-spent, running, rounds-first, rounds-ended, next-asks, rounds-step}
+use Rattle.engine.proofs.Loops.{Looping, loop-spent}
+use Rattle.rounds.proofs.Loops.{round-count-fits, round-asks, round-made, running, rounds-first, rounds-ended, next-asks, rounds-step}
 use Rattle.procedure.specs.Procedure.{round, after}
-use Rattle.engine.proofs.rounds.Statement.{statement}
-use Rattle.engine.proofs.rounds.Tie as tie
+use Rattle.rounds.proofs.rounds.Statement.{statement}
+use Rattle.rounds.proofs.rounds.Tie as tie
 
 abbrev Inv-loop : tie.InvT-loop
 Inv-loop rows arcs firsts lengths spans regions labels₀ predecessors₀ own₀ winners₀ limit left₀ n₀ labels predecessors own winners left n =
@@ -41,8 +42,8 @@ returns c =
     let told = c .before .has-ended .ensures g d _ _ _ (L .0) _ (L .1 .represents .queues) (R .tabled .ok .division .root-inner) in
     (L .0, rounds-ended (L .1) (sym told ∙ c .if1 .taken))
 
-round-requires : tie.Need-round-requires Inv-loop μ-loop
-round-requires c κs =
+count-round-requires : tie.Need-count-round-requires Inv-loop μ-loop
+count-round-requires c κs =
     let earlier = c .before .before .before .before in
     let early = earlier .before .before .before .before in
     let if1 = earlier .if1 in
@@ -53,36 +54,58 @@ round-requires c κs =
     let R = pre .4 .0 in
     let L = loop .inv (pre .0) (pre .1) (pre .2) (pre .3) R (pre .4 .1) in
     let told = has-ended .ensures (pre .0) (pre .1) _ _ _ (L .0) _ (L .1 .represents .queues) (R .tabled .ok .division .root-inner) in
-    (pre .0, pre .1, L .0, next-asks (L .1) (loop-test .taken) (sym told ∙ if1 .left) (pre .2) (pre .4 .1))
+    round-count-fits (next-asks (L .1) (loop-test .taken) (sym told ∙ if1 .left) (pre .2) (pre .4 .1))
+
+process-inner-requires : tie.Need-process-inner-requires Inv-loop μ-loop
+process-inner-requires c κs =
+    let earlier = c .before .before .before .before in
+    let early = earlier .before .before .before .before in
+    let prior = early .before .before .before .before in
+    let count-round = c .count-round in
+    let if1 = earlier .before .if1 in
+    let has-ended = earlier .before .before .has-ended in
+    let loop-test = early .loop-test in
+    let loop = early .before .loop in
+    let pre = prior .pre in
+    let R = pre .4 .0 in
+    let L = loop .inv (pre .0) (pre .1) (pre .2) (pre .3) R (pre .4 .1) in
+    let inner = R .tabled .ok .division .root-inner in
+    let told = has-ended .ensures (pre .0) (pre .1) _ _ _ (L .0) _ (L .1 .represents .queues) inner in
+    let P = next-asks (L .1) (loop-test .taken) (sym told ∙ if1 .left) (pre .2) (pre .4 .1) in
+    (pre .0, pre .1, L .0, (round-asks P (count-round .ensures), inner))
 
 sub-left : tie.Need-sub-left Inv-loop μ-loop
 sub-left c =
     let earlier = c .before .before .before .before in
     let early = earlier .before .before .before .before in
-    let loop-test = early .loop-test in
+    let loop-test = early .before .loop-test in
     omega (arith, loop-test .taken)
 
 loop-less : tie.Need-loop-less Inv-loop μ-loop
 loop-less c =
     let earlier = c .before .before .before .before in
     let early = earlier .before .before .before .before in
-    let loop-test = early .loop-test in
+    let loop-test = early .before .loop-test in
     omega (arith, loop-test .taken)
 
 loop-again : tie.Need-loop-again Inv-loop μ-loop
 loop-again c =
     let earlier = c .before .before .before .before in
     let early = earlier .before .before .before .before in
-    let if1 = earlier .before .if1 in
-    let has-ended = earlier .before .before .has-ended in
-    let loop-test = early .loop-test in
-    let loop = early .before .loop in
+    let process-inner = c .process-inner in
+    let count-round = c .before .count-round in
+    let if1 = earlier .before .before .if1 in
+    let has-ended = earlier .before .before .before .has-ended in
+    let loop-test = early .before .loop-test in
+    let loop = early .before .before .loop in
     λ g d k keys R e.
     let L = loop .inv g d k keys R e in
-    let told = has-ended .ensures g d _ _ _ (L .0) _ (L .1 .represents .queues) (R .tabled .ok .division .root-inner) in
+    let inner = R .tabled .ok .division .root-inner in
+    let told = has-ended .ensures g d _ _ _ (L .0) _ (L .1 .represents .queues) inner in
     let going = sym told ∙ if1 .left in
-    let W = c .round .ensures g d (L .0) (next-asks (L .1) (loop-test .taken) going k e) in
-    (W .0, rounds-step (L .1) (loop-test .taken) going (W .1))
+    let P = next-asks (L .1) (loop-test .taken) going k e in
+    let W = process-inner .ensures g d (L .0) (round-asks P (count-round .ensures)) inner in
+    (W .0, rounds-step (L .1) (loop-test .taken) going (round-made P (count-round .ensures) (W .1)))
 
 returns-2 : tie.Need-returns-2 Inv-loop μ-loop
 returns-2 c = λ g d k keys R e. let L = c .before .loop .inv g d k keys R e in (L .0, loop-spent (L .1) (c .loop-test .left))
@@ -96,7 +119,8 @@ rounds-spec =
     loop-holds
     has-ended-requires
     returns
-    round-requires
+    count-round-requires
+    process-inner-requires
     sub-left
     loop-less
     loop-again

@@ -1,0 +1,117 @@
+// The run over slices and arrays that the caller lends: its start, its rounds, and whether it has ended. Each function computes its definition.
+ghost use mathlib.Core.Path.{_≡_};
+ghost use mathlib.Core.Bool.{false, not};
+ghost use mathlib.Core.List.{List};
+ghost use Prim.Native.Nat.{ℕ};
+ghost use Rattle.indices.specs.Steps.{times};
+ghost use Rattle.procedure.specs.Graph.{Graph};
+ghost use Rattle.procedure.specs.Division.{Division, regions, isLeaf};
+ghost use Rattle.procedure.specs.Procedure.{ended, start, round, after};
+ghost use Rattle.tree_places.specs.Trees.{QueuesOk};
+ghost use Rattle.slices.specs.Tables.{tablesOf};
+ghost use Rattle.slices.specs.States.{stateOf, stateIn, Represents, Computed, Blank};
+use counts::Counts;
+use queue::NONE;
+use sheet::Node;
+use sheet::Region;
+use slices::ARCS;
+use slices::NODES;
+use slices::PLACES;
+use slices::REGION_ROWS;
+use slices::ROWS;
+
+// The state before the first round, made in arrays that may hold anything. There are `count` regions. Lengths, spans and the
+// regions' rows are not read.
+pub fn start(
+    rows: &[u16; ROWS],
+    arcs: &[u16],
+    firsts: &[u16; NODES],
+    labels: &mut [u32; NODES],
+    predecessors: &mut [u32; NODES],
+    own: &mut [u32; ARCS],
+    winners: &mut [u64; PLACES],
+    source: Node,
+    count: u16,
+) -> Counts
+    requires { ⌜ ((g : Graph) × (d : Division) × (lengths : List ℕ) × (spans : List ℕ) × (regionRows : List ℕ)
+        × Blank g d (tablesOf (now rows) (now arcs) (now firsts) lengths spans regionRows) × (source .0 ≡ g .source)
+        × (count ≡ regions d)) ⌝ }
+    ensures { λ n. ⌜ ((g : Graph) (d : Division) (lengths spans regionRows : List ℕ)
+        → let t = tablesOf (now (rows .entry)) (now (arcs .entry)) (now (firsts .entry)) lengths spans regionRows in
+        Blank g d t → source .0 ≡ g .source → count ≡ regions d
+        → ((keys : List ℕ) × Computed g d t (start g d spans)
+        (stateIn g (now (labels .exit)) (now (predecessors .exit)) (now (own .exit)) keys n) (now (winners .exit)))) ⌝ }
+{
+    rows::fill_keys(labels, NONE);
+    rows::fill_keys(predecessors, NONE);
+    rows::fill_keys(own, NONE);
+    queue::clear(rows, winners, count);
+    let i = source.0 as usize;
+    labels[i] = 0;
+    let n = updates::update_outgoing(rows, arcs, firsts, own, winners, source, 0, 0);
+    Counts {
+        rounds: 0,
+        leaves: 0,
+        inner: 0,
+        updates: n,
+    }
+}
+
+// Whether the run has ended.
+pub fn has_ended(rows: &[u16; ROWS], winners: &[u64; PLACES]) -> bool
+    requires { ⌜ ((d : Division) × (keys : List ℕ) × QueuesOk d (now rows) keys (now winners)) ⌝ }
+    ensures { λ b. ⌜ ((g : Graph) (d : Division) (labels predecessors own keys : List ℕ) (c : Counts)
+        → QueuesOk d (now (rows .entry)) keys (now (winners .entry)) → isLeaf d 0 ≡ false → b ≡ ended g d (stateOf labels predecessors own keys c)) ⌝ }
+{
+    NONE <= queue::min_key(rows, winners, Region(0))
+}
+
+// At most `limit` more rounds, from a state after any number of them. A round is one working of region 0, which is never a leaf.
+pub fn rounds(
+    rows: &[u16; ROWS],
+    arcs: &[u16],
+    firsts: &[u16; NODES],
+    lengths: &[u32; ARCS],
+    spans: &[u32],
+    regions: &[u16; REGION_ROWS],
+    labels: &mut [u32; NODES],
+    predecessors: &mut [u32; NODES],
+    own: &mut [u32; ARCS],
+    winners: &mut [u64; PLACES],
+    limit: u64,
+    c: Counts,
+) -> Counts
+    requires { ⌜ (let t = tablesOf (now rows) (now arcs) (now firsts) (now lengths) (now spans) (now regions) in
+        (g : Graph) × (d : Division) × (k : ℕ) × (keys : List ℕ) × let s = stateIn g (now labels) (now predecessors) (now own) keys c in
+        Represents g d t s (now winners) × (s ≡ after g d (t .spans) k)) ⌝ }
+    ensures { λ n. ⌜ (let t = tablesOf (now (rows .entry)) (now (arcs .entry)) (now (firsts .entry)) (now (lengths .entry)) (now (spans .entry))
+        (now (regions .entry)) in
+        (g : Graph) (d : Division) (k : ℕ) (keys : List ℕ) → let s = stateIn g (now (labels .entry)) (now (predecessors .entry)) (now (own .entry)) keys c in
+        Represents g d t s (now (winners .entry)) → s ≡ after g d (t .spans) k
+        → ((keys′ : List ℕ) × Computed g d t (times limit (λ s. not (ended g d s)) (round g d (t .spans)) s)
+        (stateIn g (now (labels .exit)) (now (predecessors .exit)) (now (own .exit)) keys′ n) (now (winners .exit)))) ⌝ }
+{
+    let mut left = limit;
+    let mut n = c;
+    while 0 < left {
+        if has_ended(rows, winners) {
+            return n;
+        }
+        n = engine::process_inner(
+            rows,
+            arcs,
+            firsts,
+            lengths,
+            spans,
+            regions,
+            labels,
+            predecessors,
+            own,
+            winners,
+            Region(0),
+            counts::count_round(n),
+        );
+        left -= 1;
+    }
+    n
+}
