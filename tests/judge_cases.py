@@ -1,11 +1,11 @@
-"""The cases of the judge: a sheet in hexadecimal, and the answer expected to it.
+"""The cases of the judge: a sheet, and the answer expected to it.
 
 The judge of tests/paper.py has to agree with every line of tests/judge_vectors.txt and with each answer that a case states; otherwise
 the script stops.
 """
 import sys
 
-from cases import bytes_in, data, digits_of, hold, lines_of
+from cases import bytes_in, case_of, data, hold, lines_of
 from paper import applies, judge
 from sheets import (
     FAULTS, HALL_A, Chance, alternate, chain, changed, damaged, flat, halving, inner, leaf, many_chains, one_deep, packed, random_words,
@@ -247,17 +247,16 @@ def vectors():
 
 
 def said(answer):
-    """The line expected for an answer of the judge."""
     return 'refused input %d' % answer if answer else 'accepted'
 
 
 def checked(family):
-    """The cases of a family with the lines expected."""
+    """The cases of a family with the answers expected."""
     for sheet, stated in family():
-        case, line = digits_of(sheet), said(judge(sheet))
-        hold(family, case, line, None if stated is None else said(stated))
-        yield case, line
+        case, answer = case_of(1, sheet), said(judge(sheet))
+        hold(family, case, answer, None if stated is None else said(stated))
+        yield case, answer
 
 
 def lines():
-    return lines_of([vectors], FAMILIES, checked, str)
+    return lines_of([vectors], FAMILIES, checked)

@@ -1,10 +1,10 @@
-"""The cases of the listing: a sheet in hexadecimal, and what `marks` prints of it.
+"""The cases of the listing: a sheet, and what `marks` prints of it.
 
 What is expected comes from tests/procedure.py. It has to agree with every line of tests/marks_vectors.txt and with each text that a case
 states, and what is printed of an ended run has to be shortest. Otherwise the script stops.
 """
 
-from cases import bytes_in, data, digits_of, hold, lines_of
+from cases import bytes_in, case_of, data, hold, lines_of
 from procedure import printed
 from sheets import (
     FAULTS, HALL_A, Chance, balanced, chain, changed, divided, flat, halving, ladder, one_deep, packed, random_arcs, random_regions, two_each_way,
@@ -80,7 +80,7 @@ def vectors():
 def checked(family):
     """The cases of a family with the texts expected."""
     for sheet, stated in family():
-        case, text = digits_of(sheet), '\n'.join(printed(sheet))
+        case, text = case_of(5, sheet), '\n'.join(printed(sheet))
         hold(family, case, text, stated)
         yield case, text
 
@@ -90,4 +90,4 @@ def kind(text):
 
 
 def lines():
-    return lines_of([vectors], FAMILIES, checked, kind)
+    return lines_of([vectors], FAMILIES, checked, kind, str)

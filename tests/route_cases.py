@@ -1,10 +1,9 @@
-"""The cases of the route reader: a sheet and a table's words in hexadecimal, a node and the buffer's length, and the route, 'no route' or the refusal
-expected.
+"""The cases of the route reader: a sheet, a table's words, a node and the buffer's length, and the route, 'no route' or the refusal expected.
 
 What is expected comes from the route reader of tests/procedure.py. It has to agree with every line of tests/route_vectors.txt and with each answer that
 a case states; otherwise the script stops.
 """
-from cases import bytes_in, data, digits_of, digits_of_words, hold, lines_of, words_in
+from cases import bytes_in, case_of, data, hold, lines_of, with_words, words_in
 from procedure import HEADER, NONE, Hall, distances, route, tables
 from sheets import (
     FAULTS, HALL_A, Chance, balanced, chain, changed, divided, flat, halving, ladder, one_deep, packed, random_arcs, random_regions,
@@ -163,7 +162,7 @@ def unreached():
     sheet = sheet_of(4, 0, [1], [(0, 1, 5), (3, 2, 1)], flat(2))
     table = ended(sheet)
     for room in (0, 1, 9):
-        yield (sheet, table, 2, room), 'no route, unchanged'
+        yield (sheet, table, 2, room), 'no route'
     for at, payload in ((label_at(2), 0), (label_at(2), 6), (feeding_at(2), 1), (feeding_at(2), 0), (label_at(1), NONE), (feeding_at(1), NONE)):
         for node in range(4):
             yield (sheet, with_payload(table, at, payload), node, 0), 'refused state 24'
@@ -304,29 +303,27 @@ def vectors():
         if answer.startswith('route:'):
             stated = said(('route', [] if arcs == '-' else [int(arc) for arc in arcs.split(',')]))
         else:
-            stated = 'no route, unchanged' if answer == 'no-route' else 'refused %s, unchanged' % answer.replace(':', ' ')
+            stated = 'no route' if answer == 'no-route' else 'refused ' + answer.replace(':', ' ')
         yield (bytes_in(sheet), words_in(words), int(node), int(room)), stated
 
 
 def said(answer):
-    """The line expected for an answer of the route reader."""
     if answer[0] == 'route':
-        return 'route %d: %s, unchanged' % (len(answer[1]), digits_of_words(answer[1]))
-    return 'no route, unchanged' if answer[0] == 'no route' else 'refused %s %d, unchanged' % answer
+        return with_words('route %d' % len(answer[1]), answer[1])
+    return 'no route' if answer[0] == 'no route' else 'refused %s %d' % answer
 
 
 def checked(family):
-    """The cases of a family with the lines expected."""
+    """The cases of a family with the answers expected."""
     for (sheet, table, node, room), stated in family():
-        case = '%s %s %d %d' % (digits_of(sheet), digits_of_words(table) or '-', node, room)
-        line = said(route(sheet, table, node, room))
-        hold(family, case, line, stated)
-        yield case, line
+        case, answer = case_of(4, sheet, node, room, table), said(route(sheet, table, node, room))
+        hold(family, case, answer, stated)
+        yield case, answer
 
 
-def kind(line):
-    """The answer that a line says, without the route."""
-    return 'route' if line.startswith('route') else line.split(',')[0]
+def kind(answer):
+    """An answer without the route."""
+    return 'route' if answer.startswith('route') else answer
 
 
 def lines():

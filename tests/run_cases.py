@@ -1,5 +1,4 @@
-"""The cases of a run: a sheet in hexadecimal, a limit of rounds ('-' for none) and the table's length, and the answer and the table expected, or the
-refusal.
+"""The cases of a run: a sheet, a limit of rounds (None for none) and the table's length, and the answer and the table expected, or the refusal.
 
 What is expected comes from tests/procedure.py. It has to agree with every line of tests/limited_vectors.txt and tests/marks_vectors.txt
 and with each answer that a case states; every ended table has to hold the distances found a second way, and on small halls the run without heaps has
@@ -7,7 +6,7 @@ to make the same tables. Otherwise the script stops.
 """
 import sys
 
-from cases import bytes_in, data, digits_of, digits_of_words, hold, lines_of
+from cases import bytes_in, case_of, data, hold, lines_of, with_words, words_in
 from paper import judge
 from procedure import HEADER, Hall, PlainRun, distances, printed, shortest, table_refusal, table_size, tables
 from sheets import (
@@ -173,8 +172,8 @@ FAMILIES = [marked, lengths_of_tables, refused, small, middling, woken_again, fu
 def limited_vectors():
     for line in data('limited_vectors.txt'):
         sheet, limit, length, answer, words = line.split()
-        said = {'ended': 'ended ' + words, 'paused': 'paused ' + words}.get(answer, 'refused %s, unchanged' % answer.replace(':', ' '))
-        yield bytes_in(sheet), [(int(limit), int(length), said)]
+        stated = with_words(answer, words_in(words)) if answer in ('ended', 'paused') else 'refused ' + answer.replace(':', ' ')
+        yield bytes_in(sheet), [(int(limit), int(length), stated)]
 
 
 def marks_vectors():
@@ -199,37 +198,28 @@ def sound(hall, table):
 
 
 def answers(sheet, wanted):
-    """The lines expected for a sheet and pairs of a limit and a length."""
+    """The answers expected for a sheet and pairs of a limit and a length."""
     refusals = [table_refusal(sheet, length) for _, length in wanted]
     if all(refusals):
-        return ['refused %s %d, unchanged' % refusal for refusal in refusals]
+        return ['refused %s %d' % refusal for refusal in refusals]
     hall = Hall(sheet)
     made = tables(hall, [limit for limit, _ in wanted])
     if not all(sound(hall, table) for table in made.values()):
         sys.exit('a table is not one of a run: %s' % sheet.hex()[:300])
     if len(hall.tails) < 40 and tables(hall, list(made), PlainRun) != made:
         sys.exit('the run without heaps differs: %s' % sheet.hex()[:300])
-    lines = []
-    for refusal, (limit, _) in zip(refusals, wanted):
-        table = made[limit]
-        said = ('paused ', 'ended ')[table[0] % 2] + digits_of_words(table)
-        lines.append('refused %s %d, unchanged' % refusal if refusal else said)
-    return lines
+    said = {limit: with_words(('paused', 'ended')[table[0] % 2], table) for limit, table in made.items()}
+    return ['refused %s %d' % refusal if refusal else said[limit] for refusal, (limit, _) in zip(refusals, wanted)]
 
 
 def checked(family):
-    """The cases of a family with the lines expected."""
+    """The cases of a family with the answers expected."""
     for sheet, cases in family():
-        for (limit, length, stated), line in zip(cases, answers(sheet, [case[:2] for case in cases])):
-            case = '%s %s %d' % (digits_of(sheet), '-' if limit is None else limit, length)
-            hold(family, case, line, stated)
-            yield case, line
-
-
-def kind(line):
-    """The answer that a line says."""
-    return line.split(',')[0] if line.startswith('refused') else line.split(' ')[0]
+        for (limit, length, stated), answer in zip(cases, answers(sheet, [case[:2] for case in cases])):
+            case = case_of(2, sheet, words=length) if limit is None else case_of(3, sheet, limit, length)
+            hold(family, case, answer, stated)
+            yield case, answer
 
 
 def lines():
-    return lines_of([limited_vectors, marks_vectors], FAMILIES, checked, kind)
+    return lines_of([limited_vectors, marks_vectors], FAMILIES, checked)

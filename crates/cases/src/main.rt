@@ -1,63 +1,276 @@
-// Tries each case of standard input, a line whose first field is the number of its call: 1 the judge, 2 a run, 3 the route reader, 4 the listing. It
-// prints what the call answers, and `unreadable` for a line that is no case.
-mod marks_line;
-mod run_line;
-
-use case_fields::BLOCK;
-use case_fields::Place;
+// Tries each case of standard input, a line of hexadecimal digits in which spaces are passed over: CALL NUMBER WORDS SIZE SHEET TABLE. The first four are
+// words of eight digits. CALL is 1 to judge, 2 to run to the end, 3 to run for at most NUMBER rounds, 4 for the route to node NUMBER, 5 for the listing.
+// WORDS words are lent, as the table of a run or the buffer of a route. SHEET has SIZE bytes. TABLE, for a route alone, is the rest of the line.
+// For a listing, what `marks` prints is printed; for another case the answer's word and, where a lent word has changed, the lent words up to the last
+// changed one; for a line that is no case `unreadable`.
+ghost use Prim.Native.Nat.{_≤_};
+ghost use lib.ListN.{length};
+ghost use Rattle.io.specs.Counts.{Counts};
+use judge::Judged;
+use lent_words::FILLING;
+use libc::STDIN_FILENO;
 use libc::STDOUT_FILENO;
+use route_answer::Routed;
+use run_answer::Ran;
+use sheet::Fault;
 
-// The longest sheet, in bytes. A case with a longer one is unreadable.
-const ROOM: usize = 65536;
+// The bytes of the longest line: its four words, and a sheet.
+const ROOM: usize = 65552;
 
-// The place after a line that names no call.
-fn no_case(block: &mut [u8; BLOCK], place: Place) -> Place {
-    let after = case_fields::end_line(block, place);
-    Place {
-        at: after.at,
-        filled: after.filled,
-        over: after.over,
-        readable: false,
+// The most words of a table, and the most that are lent.
+const MOST_WORDS: usize = 4096;
+
+// Stands for the number of digits read where a line holds another sign or is too long. It is odd, and more than there is room for.
+const NO_DIGITS: usize = usize::MAX;
+
+// The upper halves of the answers' words. The lower half is the number in the answer.
+const INPUT: u32 = 0;
+
+const STATE: u32 = 65536;
+
+const ACCEPTED: u32 = 131072;
+
+const ENDED: u32 = 196608;
+
+const PAUSED: u32 = 262144;
+
+const NO_ROUTE: u32 = 327680;
+
+const ROUTE: u32 = 393216;
+
+fn fault_word(fault: Fault) -> u32 {
+    match fault {
+        Fault::Input(n) => INPUT + n as u32,
+        Fault::State(n) => STATE + n as u32,
     }
 }
 
-fn print_case(block: &mut [u8; BLOCK], place: Place, sheet: &mut [u8]) -> Place {
-    let call = case_fields::read_number(block, place, 4);
-    let number = call.value;
-    let fields = call.place;
-    match number {
-        1 => judge_line::print_case(block, fields, sheet),
-        2 => run_line::print_case(block, fields, sheet),
-        3 => route_line::print_case(block, fields, sheet),
-        4 => marks_line::print_case(block, fields, sheet),
-        _ => no_case(block, fields),
+fn judged_word(judged: Judged) -> u32 {
+    match judged {
+        Judged::Accepted => ACCEPTED,
+        Judged::Refused(fault) => fault_word(fault),
     }
 }
 
-fn print_line(block: &mut [u8; BLOCK], place: Place, sheet: &mut [u8]) -> Place {
-    let after = print_case(block, place, sheet);
-    if !after.readable {
-        io::write_all(STDOUT_FILENO, b"unreadable\n");
+fn ran_word(ran: Ran) -> u32 {
+    match ran {
+        Ran::Ended => ENDED,
+        Ran::Paused => PAUSED,
+        Ran::Refused(fault) => fault_word(fault),
     }
-    after
+}
+
+fn routed_word(routed: Routed) -> u32 {
+    match routed {
+        Routed::Route(arcs) => ROUTE + arcs % 65536,
+        Routed::NoRoute => NO_ROUTE,
+        Routed::Refused(fault) => fault_word(fault),
+    }
+}
+
+// Takes words out of bytes, as many as have room, and answers how many.
+fn read_words(bytes: &[u8], table: &mut [u32]) -> usize
+    ensures { λ r. ⌜ Counts r (now (table .exit)) ⌝ }
+{
+    let count = bytes.len() / 4;
+    let mut i = 0;
+    while i < count {
+        if i >= table.len() {
+            return i;
+        }
+        table[i] = sheet::word_at(bytes, i);
+        i += 1;
+    }
+    i
+}
+
+fn route_in(sheet: &[u8], bytes: &[u8], table: &mut [u32], node: u32, lent: &mut [u32]) -> u32 {
+    let count = read_words(bytes, table);
+    routed_word(route::route(sheet, &table[..count], node, lent))
+}
+
+fn route_word(sheet: &[u8], bytes: &[u8], node: u32, lent: &mut [u32]) -> u32 {
+    let mut table = [0u32; MOST_WORDS];
+    route_in(sheet, bytes, &mut table, node, lent)
+}
+
+// Runs a sheet to its end, or for at most so many rounds.
+fn run_word(call: u32, number: u32, sheet: &[u8], lent: &mut [u32]) -> u32 {
+    if call == 2 {
+        return ran_word(run::run(sheet, lent));
+    }
+    ran_word(run::run_limited(sheet, number, lent))
+}
+
+// The word of what a call answers.
+fn answer_word(call: u32, number: u32, sheet: &[u8], bytes: &[u8], lent: &mut [u32]) -> u32 {
+    match call {
+        1 => judged_word(judge::judge(sheet)),
+        4 => route_word(sheet, bytes, number, lent),
+        _ => run_word(call, number, sheet, lent),
+    }
+}
+
+fn print_word(word: u32) {
+    io::print_hex(STDOUT_FILENO, word as u64, 8);
+}
+
+fn print_words(words: &[u32]) {
+    let mut i = 0;
+    while i < words.len() {
+        print_word(words[i]);
+        i += 1;
+    }
+}
+
+// Prints the answer's word and, where a lent word has changed, the lent words up to the last changed one.
+fn print_answer(word: u32, lent: &[u32]) {
+    print_word(word);
+    let used = lent_words::used(lent);
+    if used > 0 {
+        io::write_all(STDOUT_FILENO, b" ");
+        print_words(&lent[0..used]);
+    }
+    io::write_all(STDOUT_FILENO, b"\n");
+}
+
+// Lends the first words.
+fn print_lent(call: u32, number: u32, words: usize, sheet: &[u8], bytes: &[u8], lent: &mut [u32])
+    requires { ⌜ words ≤ length (now lent) ⌝ }
+{
+    let word = answer_word(call, number, sheet, bytes, &mut lent[0..words]);
+    print_answer(word, lent);
+}
+
+fn print_call(call: u32, number: u32, words: usize, sheet: &[u8], bytes: &[u8])
+    requires { ⌜ words ≤ 4096 ⌝ }
+{
+    let mut lent = [FILLING; MOST_WORDS];
+    print_lent(call, number, words, sheet, bytes, &mut lent);
+}
+
+fn print_listing(sheet: &[u8]) {
+    let mut table = [0u32; report::MOST_TABLE];
+    let mut out = [0u8; listing::MOST_LISTING];
+    report::print_report(sheet, &mut table, &mut out);
+}
+
+// Whether there is such a call, and so many bytes can follow its sheet: for a route whole words for which there is room, and else none.
+fn is_case(call: u32, bytes: usize) -> bool {
+    if call == 4 {
+        return bytes % 4 == 0 && bytes / 4 <= MOST_WORDS;
+    }
+    1 <= call && call <= 5 && bytes == 0
+}
+
+// Prints what is answered to a case, given as its bytes, and answers whether it is one.
+fn print_case(case: &[u8]) -> bool {
+    if case.len() < 16 {
+        return false;
+    }
+    let words = sheet::word_at(case, 2) as usize;
+    if words > MOST_WORDS {
+        return false;
+    }
+    let size = sheet::word_at(case, 3) as usize;
+    if size > case.len() - 16 {
+        return false;
+    }
+    let end = 16 + size;
+    let call = sheet::word_at(case, 0);
+    if !is_case(call, case.len() - end) {
+        return false;
+    }
+    if call == 5 {
+        print_listing(&case[16..end]);
+        return true;
+    }
+    print_call(
+        call,
+        sheet::word_at(case, 1),
+        words,
+        &case[16..end],
+        &case[end..],
+    );
+    true
+}
+
+// Prints what is answered to a line.
+fn print_line(line: &[u8], digits: usize) {
+    let size = digits / 2;
+    if digits % 2 == 0 {
+        if size <= line.len() {
+            if print_case(&line[0..size]) {
+                return;
+            }
+        }
+    }
+    io::write_all(STDOUT_FILENO, b"unreadable\n");
+}
+
+// The value of a digit, and 16 for another sign.
+fn digit_value(sign: u8) -> u8 {
+    if b'0' <= sign && sign <= b'9' {
+        return sign - b'0';
+    }
+    if b'a' <= sign && sign <= b'f' {
+        return sign - b'a' + 10;
+    }
+    16
+}
+
+// Shifts a digit into its byte of the line, and answers how many digits there are then.
+fn take_digit(line: &mut [u8; ROOM], digits: usize, sign: u8) -> usize {
+    let value = digit_value(sign);
+    if value > 15 {
+        return NO_DIGITS;
+    }
+    let at = digits / 2;
+    if at >= ROOM {
+        return NO_DIGITS;
+    }
+    line[at] = line[at] << 4 | value;
+    digits + 1
+}
+
+// Takes a sign of a line, prints what is answered to the line at its end, and answers how many digits of a line are read then.
+fn take_sign(line: &mut [u8; ROOM], digits: usize, sign: u8) -> usize {
+    if sign == b' ' {
+        return digits;
+    }
+    if sign == b'\n' {
+        print_line(line, digits);
+        return 0;
+    }
+    take_digit(line, digits, sign)
+}
+
+fn take_block(line: &mut [u8; ROOM], digits: usize, block: &[u8]) -> usize {
+    let mut digits = digits;
+    let mut i = 0;
+    while i < block.len() {
+        digits = take_sign(line, digits, block[i]);
+        i += 1;
+    }
+    digits
 }
 
 // A proved loop has to end, so it counts down from a number that no run uses up.
-fn print_lines(block: &mut [u8; BLOCK], sheet: &mut [u8]) {
-    let mut place = case_fields::start();
+fn take_input(line: &mut [u8; ROOM], block: &mut [u8]) {
+    let mut digits = 0;
     let mut turns = u64::MAX;
     while turns > 0 {
         turns -= 1;
-        place = case_fields::next_line(block, place);
-        if place.filled == 0 {
+        let filled = io::read_full(STDIN_FILENO, block);
+        if filled == 0 {
             return;
         }
-        place = print_line(block, place, sheet);
+        digits = take_block(line, digits, &block[..filled]);
     }
 }
 
 fn main() {
-    let mut block = [0u8; BLOCK];
-    let mut sheet = [0u8; ROOM];
-    print_lines(&mut block, &mut sheet);
+    let mut line = [0u8; ROOM];
+    let mut block = io::buffer();
+    take_input(&mut line, &mut block);
 }
