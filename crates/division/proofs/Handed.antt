@@ -7,7 +7,7 @@ use mathlib.Core.Path.{_≡_, refl, sym, ap, _∙_}
 use borrow.Author.Tests.{le-leb, lt-leb, eq-eqb, ne-eqb}
 use native.Mathlib.Decide.{decLt, ℕ-discrete}
 use native.Mathlib.Omega.{arith}
-use lib.ListN.{length, getD, set, replicate, length-set, length-replicate, getD-replicate}
+use lib.ListN.{length, getD, replicate, length-set, length-replicate, getD-replicate}
 use lib.Seq.{getD-set-same, getD-set-other}
 use lib.Dec.{eqb, leb}
 use Rattle.indices.specs.Tests.{most}
@@ -15,6 +15,7 @@ use Rattle.indices.proofs.Most.{most-le, most-one}
 use Rattle.sheet.specs.Heights.{Nesting, heightIn, heightOf}
 use Rattle.sheet.proofs.Heights.{height-le, leaf-height}
 use Rattle.sheet.proofs.Highest.{highestFrom, height-highest}
+use Rattle.region_turn.specs.Turn.{raised}
 
 -- what region c, if it is one of those from i on, hands to q
 abbrev pub hand : (ℕ → Bool) → (ℕ → ℕ) → ℕ → ℕ → ℕ → ℕ → ℕ
@@ -107,21 +108,31 @@ module _ (leaf : ℕ → Bool) (parent : ℕ → ℕ) (n : ℕ) where
             let held : (handedFrom leaf parent n (suc r) r ≡ 0 → ⊥) = λ z. true≢false (sym (settled z) ∙ inner) in
             omega (arith, inner-high (suc r) r lr (omega arith) inner)
 
-    stored : (best : List ℕ) (r p x : ℕ) → r < n → p < length best → parent r ≡ p → x ≡ max (getD best p 0) (suc (heightOf leaf parent n r))
-        → Handed leaf parent n best r → (q : ℕ) → q < length best → Dec (q ≡ p) → getD (set best p x) q 0 ≡ handedFrom leaf parent n r q
-    stored best r p x l lp e ex t q lq (yes same) =
-        rw (same, getD-set-same best p x 0 lp, ex, t .entry p lp, handed-more r p l, eq-eqb (parent r) p e)
-    stored best r p x l lp e ex t q lq (no ne) =
-        rw (getD-set-other best p q x 0 ne, t .entry q lq, handed-more r q l, ne-eqb (parent r) q (λ h. ne (sym h ∙ e))) (omega arith)
+    stored : (best : List ℕ) (r own : ℕ) → r < n → parent r < length best → own ≡ heightOf leaf parent n r → Handed leaf parent n best r
+        → (q : ℕ) → q < length best → Dec (q ≡ parent r) → getD (raised best (parent r) (own + 1)) q 0 ≡ handedFrom leaf parent n r q
+    stored best r own l lp e t q lq (yes same) =
+        rw (
+          same,
+          getD-set-same best (parent r) (max (getD best (parent r) 0) (own + 1)) 0 lp,
+          t .entry (parent r) lp,
+          handed-more r (parent r) l,
+          eq-eqb (parent r) (parent r) refl,
+        ) (omega arith)
+    stored best r own l lp e t q lq (no ne) =
+        rw (
+          getD-set-other best (parent r) q (max (getD best (parent r) 0) (own + 1)) 0 ne,
+          t .entry q lq,
+          handed-more r q l,
+          ne-eqb (parent r) q (λ h. ne (sym h)),
+        ) (omega arith)
 
-    -- region r hands up to its parent p
-    pub handed-turn : (best : List ℕ) (r p x : ℕ) → 0 < r → r < n → r < length best → p < length best → p ≡ parent r
-        → (getD best r 0 ≡ 0 → leaf r ≡ true) → x ≡ max (getD best p 0) (getD best r 0 + 1) → Handed leaf parent n best r
-        → Handed leaf parent n (set best p x) (r - 1)
-    handed-turn best zero p x pos l lr lp ep settled ex t = absurd (omega arith)
-    handed-turn best (suc k) p x pos l lr lp ep settled ex t =
+    -- region r hands up to its parent
+    pub handed-turn : (best : List ℕ) (r : ℕ) → 0 < r → r < n → r < length best → (getD best r 0 ≡ 0 → leaf r ≡ true) → Handed leaf parent n best r
+        → Handed leaf parent n (raised best (parent r) (getD best r 0 + 1)) (r - 1)
+    handed-turn best zero pos l lr settled t = absurd (omega arith)
+    handed-turn best (suc k) pos l lr settled t =
         let held = t .entry (suc k) lr in
         let own : getD best (suc k) 0 ≡ heightOf leaf parent n (suc k) = held ∙ own-height (suc k) l (λ z. settled (held ∙ z)) in
-        let larger : x ≡ max (getD best p 0) (suc (heightOf leaf parent n (suc k))) = omega arith in
+        let below : parent (suc k) < length best = omega (arith, nests .lower (suc k) pos l) in
         let e : suc (suc k - 1) ≡ suc k = omega arith in
-        record { entry = λ q lq. rw e (stored best (suc k) p x l lp (sym ep) larger t q (simp length-set at lq) (ℕ-discrete q p)) }
+        record { entry = λ q lq. rw e (stored best (suc k) (getD best (suc k) 0) l below own t q (simp length-set at lq) (ℕ-discrete q (parent (suc k)))) }
