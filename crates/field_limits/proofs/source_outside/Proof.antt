@@ -1,8 +1,8 @@
 -- `source_outside` meets its contract: one comparison. Assumes nothing.
 use borrow.Author.Needs.{needs}
 use Rattle.refusals.specs.Form.{sourceOutside}
-use Rattle.limits.proofs.source_outside.Statement.{statement}
-use Rattle.limits.proofs.source_outside.Tie as tie
+use Rattle.field_limits.proofs.source_outside.Statement.{statement}
+use Rattle.field_limits.proofs.source_outside.Tie as tie
 
 node-count-requires : tie.Need-node-count-requires
 node-count-requires c κs = search needs

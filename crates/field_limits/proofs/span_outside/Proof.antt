@@ -2,8 +2,8 @@
 use borrow.Author.Tests.{lt-ltb, le-ltb}
 use native.Mathlib.Omega.{arith}
 use Rattle.sheet.proofs.Bounds.{spans-le}
-use Rattle.limits.proofs.span_outside.Statement.{statement}
-use Rattle.limits.proofs.span_outside.Tie as tie
+use Rattle.field_limits.proofs.span_outside.Statement.{statement}
+use Rattle.field_limits.proofs.span_outside.Tie as tie
 
 span-at-requires : tie.Need-span-at-requires
 span-at-requires c κs = omega (arith, spans-le (c .before .args .s .now) 2)

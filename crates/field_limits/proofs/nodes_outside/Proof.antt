@@ -2,8 +2,8 @@
 use borrow.Author.Needs.{needs}
 use borrow.Author.Tests.{lt-ltb, le-ltb}
 use Rattle.refusals.specs.Form.{nodesOutside}
-use Rattle.limits.proofs.nodes_outside.Statement.{statement}
-use Rattle.limits.proofs.nodes_outside.Tie as tie
+use Rattle.field_limits.proofs.nodes_outside.Statement.{statement}
+use Rattle.field_limits.proofs.nodes_outside.Tie as tie
 
 node-count-requires : tie.Need-node-count-requires
 node-count-requires c κs = search needs
