@@ -31,7 +31,12 @@ fn report_accepted(sheet: &[u8], table: &mut [u32], out: &mut [u8]) -> usize
     ensures { λ r. ⌜ Reported (now (sheet .entry)) (now (table .entry)) (now (out .entry)) (now (table .exit)) (now (out .exit)) r ⌝ }
 {
     let nodes = sheet::node_count(sheet) as usize;
-    report_table(sheet, nodes, &mut table[..9 + 2 * nodes], out)
+    report_table(
+        sheet,
+        nodes,
+        &mut table[..table_length::table_length(nodes)],
+        out,
+    )
 }
 
 // Writes what is printed of a sheet to the front of the buffer, and returns how many bytes it has. The second promise follows from the first, in the
