@@ -6,7 +6,7 @@ use Rattle.sheet.specs.Answer.{input, Answer, accepted, refused, Case, lowest, 
 use Rattle.sheet.proofs.Lowest.{lowest-stop}
 
 -- a number other than 0 is a refusal
-pub a-refusal : (n : ℕ) → (n ≡ 0 → ⊥) → numbered n ≡ refused (input n)
+a-refusal : (n : ℕ) → (n ≡ 0 → ⊥) → numbered n ≡ refused (input n)
 a-refusal zero ne = absurd (ne refl)
 a-refusal (suc n) ne = refl
 
