@@ -29,7 +29,7 @@ fn bit_set(s: &[u8], at: Sections) -> bool
     if arcs::bit_set(s, at) {
         return true;
     }
-    leaves::bit_set(reader::region_words(s, at))
+    leaf_words::bit_set(reader::region_words(s, at))
 }
 
 // Refusals 3 to 14, of a sheet to which neither 1 nor 2 applies: the number, or 0.

@@ -10,9 +10,9 @@ use Rattle.indices.proofs.Tally.{tally-none}
 use Rattle.sheet.specs.Limits.{mostRegionWords}
 use Rattle.sheet.specs.Words.{words}
 use Rattle.refusals.specs.Nesting.{leafOfArc}
-use Rattle.leaves.proofs.Leaves.{a-bit, word-counted}
-use Rattle.leaves.proofs.count_leaves.Statement.{statement}
-use Rattle.leaves.proofs.count_leaves.Tie as tie
+use Rattle.leaf_words.proofs.Counted.{a-bit, word-counted}
+use Rattle.leaf_words.proofs.count_leaves.Statement.{statement}
+use Rattle.leaf_words.proofs.count_leaves.Tie as tie
 
 abbrev Inv-loop : tie.InvT-loop
 Inv-loop d seen₀ n k₀ seen k = (k ≤ words d) × (length seen ≡ 2048) × Tally (leafOfArc d) mostRegionWords seen k

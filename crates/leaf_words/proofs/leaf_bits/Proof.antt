@@ -2,8 +2,8 @@
 use mathlib.Core.Bool.{and-true, and-false}
 use borrow.Author.Needs.{needs}
 use borrow.Author.Tests.{le-leb, lt-leb}
-use Rattle.leaves.proofs.leaf_bits.Statement.{statement}
-use Rattle.leaves.proofs.leaf_bits.Tie as tie
+use Rattle.leaf_words.proofs.leaf_bits.Statement.{statement}
+use Rattle.leaf_words.proofs.leaf_bits.Tie as tie
 
 payload-at-requires : tie.Need-payload-at-requires
 payload-at-requires c κs = search needs

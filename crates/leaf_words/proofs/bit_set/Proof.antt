@@ -8,8 +8,8 @@ use Rattle.indices.specs.Tests.{any}
 use Rattle.indices.proofs.Tests.{any-none, any-more, any-hit, any-end}
 use Rattle.sheet.specs.Words.{words}
 use Rattle.refusals.specs.Form.{leafBits}
-use Rattle.leaves.proofs.bit_set.Statement.{statement}
-use Rattle.leaves.proofs.bit_set.Tie as tie
+use Rattle.leaf_words.proofs.bit_set.Statement.{statement}
+use Rattle.leaf_words.proofs.bit_set.Tie as tie
 
 abbrev Inv-loop : tie.InvT-loop
 Inv-loop d n k₀ k = (k ≤ words d) × (any (leafBits d) k ≡ false)
