@@ -2,7 +2,6 @@
 use mathlib.Core.Path.{sym}
 use mathlib.Core.Bool.{true≢false}
 use borrow.Author.Needs.{needs}
-use native.Mathlib.Omega.{arith}
 use lib.ListN.{getD}
 use Rattle.region_turn.proofs.Held.{holds-none, holds-one}
 use Rattle.region_turn.proofs.without_child.Statement.{statement}
