@@ -2,11 +2,11 @@
 ghost use mathlib.Core.Path.{_≡_};
 ghost use Prim.Native.Nat.{_<_};
 ghost use Rattle.sheet.specs.Answer.{numberOf, refusalOf};
-ghost use Rattle.judge.specs.Said.{said as saidByJudge};
+ghost use Rattle.judge_answer.specs.Said.{said as saidByJudge};
 ghost use Rattle.run_answer.specs.Said.{said as saidByRun};
 ghost use Rattle.route_answer.specs.Said.{said as saidByRoute};
 ghost use Rattle.codes.specs.Codes.{codeOf, arcsOf};
-use judge::Judged;
+use judge_answer::Judged;
 use route_answer::Routed;
 use run_answer::Ran;
 use sheet::Fault;
@@ -23,12 +23,12 @@ const NO_ROUTE: u32 = 259;
 const ROUTE: u32 = 65536;
 
 // The number of a refusal.
-fn fault_code(fault: Fault) -> u32
+pub fn number_of(fault: Fault) -> u8
     ensures { λ r. ⌜ r ≡ numberOf (refusalOf fault) ⌝ }
 {
     match fault {
-        Fault::Input(n) => n as u32,
-        Fault::State(n) => n as u32,
+        Fault::Input(n) => n,
+        Fault::State(n) => n,
     }
 }
 
@@ -37,7 +37,7 @@ pub fn judged_code(judged: Judged) -> u32
 {
     match judged {
         Judged::Accepted => ACCEPTED,
-        Judged::Refused(fault) => fault_code(fault),
+        Judged::Refused(fault) => number_of(fault) as u32,
     }
 }
 
@@ -47,7 +47,7 @@ pub fn ran_code(ran: Ran) -> u32
     match ran {
         Ran::Ended => ENDED,
         Ran::Paused => PAUSED,
-        Ran::Refused(fault) => fault_code(fault),
+        Ran::Refused(fault) => number_of(fault) as u32,
     }
 }
 
@@ -58,6 +58,6 @@ pub fn routed_code(routed: Routed) -> u32
     match routed {
         Routed::Route(arcs) => ROUTE + arcs,
         Routed::NoRoute => NO_ROUTE,
-        Routed::Refused(fault) => fault_code(fault),
+        Routed::Refused(fault) => number_of(fault) as u32,
     }
 }

@@ -1,13 +1,12 @@
 -- Regions to which nothing is handed up have no child: what the pass from the last region back finds of refusals 13 and 14. Assumes nothing.
-use Prim.Native.Nat.{ℕ, zero, suc, max, _+_, _-_, _<_, _≤_}
+use Prim.Native.Nat.{ℕ, zero, suc, max, _-_, _<_, _≤_}
 use mathlib.Core.Bool.{Bool, true, false, not, _&&_, true≢false}
 use mathlib.Core.List.{List}
 use mathlib.Core.Logic.{_≢_, ⊎-elim}
 use mathlib.Core.Path.{_≡_, refl, sym, ap, _∙_}
-use borrow.Author.Tests.{eq-eqb, ne-eqb}
+use borrow.Author.Tests.{eqb-true, eqb-false, eq-eqb, ne-eqb}
 use native.Mathlib.Omega.{arith}
-use mir.Val.{boolByte}
-use lib.ListN.{length, getD, set, replicate}
+use lib.ListN.{length, getD, replicate}
 use lib.Dec.{eqb}
 use Rattle.indices.specs.Tests.{count}
 use Rattle.indices.proofs.Steps.{eq-or-ne}
@@ -20,16 +19,17 @@ use Rattle.sheet.proofs.Heights.{child-after}
 use Rattle.sheet.proofs.Handed.{Handed, handed-start, handed-ge, handed-childless}
 use Rattle.refusals.specs.Nesting.{wrongParents, childOf, childless, childlessRegions}
 use Rattle.refusals.proofs.Parents.{nesting}
-use Rattle.division.proofs.Held.{above, heldBy, inner-high, held-turn}
+use Rattle.region_turn.specs.Turn.{handedUp, holdsNone}
+use Rattle.division.proofs.Held.{above, heldBy, held-le, inner-high, held-turn}
 
--- the test at a region's turn: an inner one must hold 1 at least
-pub holds-none : (own : ℕ) (leaf : Bool) → own < boolByte (not leaf) → (own ≡ 0) × (leaf ≡ false)
-holds-none own true l = absurd (omega arith)
-holds-none own false l = (omega arith, refl)
+-- what the test at a region's turn tells
+inner-none : (own : ℕ) (leaf : Bool) → not leaf && eqb own 0 ≡ true → (own ≡ 0) × (leaf ≡ false)
+inner-none own true e = absurd (true≢false (sym e))
+inner-none own false e = (eqb-true own 0 e, refl)
 
-pub none-held : (own : ℕ) (leaf : Bool) → boolByte (not leaf) ≤ own → own ≡ 0 → leaf ≡ true
-none-held own true l z = refl
-none-held own false l z = absurd (omega arith)
+none-leaf : (own : ℕ) (leaf : Bool) → not leaf && eqb own 0 ≡ false → own ≡ 0 → leaf ≡ true
+none-leaf own true e z = refl
+none-leaf own false e z = absurd (eqb-false own 0 e z)
 
 -- what a region hands up
 abbrev aboveOf : List ℕ → ℕ → ℕ
@@ -73,16 +73,19 @@ module _ (d : List ℕ) (ok : wrongParents d ≡ false) (few : words d ≤ mostR
       each (suc j) lc = no-child j (omega arith) (childOf d (suc k) j) refl
 
   -- an inner region that holds 0 when its turn comes
-  pub found-childless : (best : List ℕ) (r : ℕ) → 0 < r → r ≤ words d → r < length best → Passed d best r → getD best r 0 ≡ 0 → isLeaf d r ≡ false
+  pub found-childless : (best : List ℕ) (r : ℕ) → 0 < r → r ≤ words d → r < length best → Passed d best r → holdsNone d best r ≡ true
       → childlessRegions d ≡ true
   unfolding childlessRegions
-  found-childless best zero pos l lr t z inner = absurd (omega arith)
-  found-childless best (suc k) pos l lr t z inner =
+  found-childless best zero pos l lr t none = absurd (omega arith)
+  found-childless best (suc k) pos l lr t none =
       any-hit (childless d) k (words d) (omega arith)
-      (rw (inner, eq-eqb (count (childOf d (suc k)) (words d)) 0 (count-out-all (childOf d (suc k)) (words d) (λ j lj. at j lj (childOf d (suc k) j) refl))))
+      (rw (held .1, eq-eqb (count (childOf d (suc k)) (words d)) 0 (count-out-all (childOf d (suc k)) (words d) (λ j lj. at j lj (childOf d (suc k) j) refl))))
     where
+      held : (getD best (suc k) 0 ≡ 0) × (leafWord d k ≡ false)
+      held = inner-none (getD best (suc k) 0) (leafWord d k) none
+
       at : (j : ℕ) → j < words d → (b : Bool) → childOf d (suc k) j ≡ b → childOf d (suc k) j ≡ false
-      at j lj true e = absurd (omega (arith, child-hands k j (omega arith) lj e, t .handed .entry (suc k) lr))
+      at j lj true e = absurd (omega (arith, held .0, child-hands k j (omega arith) lj e, t .handed .entry (suc k) lr))
       at j lj false e = e
 
   -- a region that is a leaf if it holds 0 is not childless
@@ -93,15 +96,24 @@ module _ (d : List ℕ) (ok : wrongParents d ≡ false) (few : words d ≤ mostR
       at true leaf = refl
       at false inner = ne-eqb (count (childOf d (suc k)) (words d)) 0 (λ e. true≢false (sym (settled (none-hands k l e)) ∙ inner))
 
-  -- region r hands up to its parent p
-  pub passed-turn : (best : List ℕ) (r p x : ℕ) → 0 < r → r ≤ words d → r < length best → p < length best → p ≡ parent d r
-      → (getD best r 0 ≡ 0 → isLeaf d r ≡ true) → x ≡ max (getD best p 0) (getD best r 0 + 1) → Passed d best r → Passed d (set best p x) (r - 1)
-  passed-turn best zero p x pos l lr lp ep settled ex t = absurd (omega arith)
-  passed-turn best (suc k) p x pos l lr lp ep settled ex t = record {
-    handed = held-turn (isLeaf d) (parent d) (regionCount d) nests best (suc k) p x pos (omega arith) lr lp ep settled ex (t .handed);
+  -- what a region holds is a height at most
+  pub passed-le : (best : List ℕ) (r : ℕ) → r < length best → Passed d best r → getD best r 0 ≤ suc (regionCount d)
+  passed-le best r lr t = omega (arith, t .handed .entry r lr, held-le (isLeaf d) (parent d) (regionCount d) r)
+
+  -- region r hands up to its parent
+  pub passed-turn : (best : List ℕ) (r : ℕ) → 0 < r → r ≤ words d → r < length best → holdsNone d best r ≡ false → Passed d best r
+      → Passed d (handedUp d best r) (r - 1)
+  passed-turn best zero pos l lr some t = absurd (omega arith)
+  passed-turn best (suc k) pos l lr some t = record {
+    handed =
+        held-turn (isLeaf d) (parent d) (regionCount d) nests best (suc k) (parent d (suc k)) _ pos (omega arith) lr
+        (omega (arith, nests .lower (suc k) pos (omega arith))) refl settled refl (t .handed);
     with-child = λ j lj mj. ⊎-elim (λ (e : j ≡ k). rw e (has-child k (omega arith) (λ z. settled (t .handed .entry (suc k) lr ∙ z))))
         (λ (ne : j ≢ k). t .with-child j (omega arith) mj) (eq-or-ne j k);
   }
+    where
+      settled : getD best (suc k) 0 ≡ 0 → leafWord d k ≡ true
+      settled = none-leaf (getD best (suc k) 0) (leafWord d k) some
 
   -- after the last turn: refusal 13 does not apply, and what region 0 holds is its height, or 0 where it has no child
   pub all-passed : (best : List ℕ) → Passed d best 0 → childlessRegions d ≡ false

@@ -3,45 +3,42 @@
 ghost use mathlib.Core.Path.{_≡_};
 ghost use mathlib.Core.Bool.{false};
 ghost use Prim.Native.Nat.{max, _≤_};
+ghost use lib.ListN.{getD, replicate};
 ghost use Rattle.sheet.specs.Limits.{mostArcs, mostRegionWords};
 ghost use Rattle.sheet.specs.Words.{words};
+ghost use Rattle.sheet.specs.Regions.{height};
 ghost use Rattle.sheet.specs.Answer.{numbered, accepted, lowest};
-ghost use Rattle.refusals.specs.Nesting.{wrongParents};
+ghost use Rattle.refusals.specs.Nesting.{wrongParents, childlessRegions};
 ghost use Rattle.refusals.specs.Judgement.{divisionRefusals};
 ghost use Rattle.division.specs.Nesting.{nestingRefusals};
 use sheet::Region;
 
-// The larger of two numbers.
-pub fn larger(a: u16, b: u16) -> u16
-    ensures { λ r. ⌜ r ≡ max a b ⌝ }
+// Refusal 13, in one pass from the last region back, where refusal 11 does not apply. Each region hands its height and one more to its parent, which keeps
+// the largest, so that a region whose turn comes with 0 has no child.
+fn childless_regions(d: &[u8], best: &mut [u16; 4096]) -> bool
+    requires { ⌜ (words (now d) ≤ mostRegionWords) × (wrongParents (now d) ≡ false) × (now best ≡ replicate 4096 0) ⌝ }
+    ensures { λ r. ⌜ (r ≡ childlessRegions (now (d .entry))) × (r ≡ false → max 1 (getD (now (best .exit)) 0 0) ≡ height (now (d .entry)) 0) ⌝ }
 {
-    if a < b {
-        return b;
+    let mut r = (d.len() / 4) as u16;
+    while 0 < r {
+        if region_turn::without_child(d, best, Region(r)) {
+            return true;
+        }
+        r -= 1;
     }
-    a
+    false
 }
 
-// Refusals 13 and 14 in one pass from the last region back, where refusal 11 does not apply: the number, or 0. Each region hands its height and one more
-// to its parent, which keeps the largest, so that a region whose turn comes with 0 has no child; an inner one must hold 1 at least.
+// Refusals 13 and 14, where refusal 11 does not apply: the number, or 0.
 fn nesting_refusal(d: &[u8], spans: usize) -> u8
     requires { ⌜ (words (now d) ≤ mostRegionWords) × (wrongParents (now d) ≡ false) ⌝ }
     ensures { λ r. ⌜ numbered r ≡ lowest (nestingRefusals (now (d .entry)) spans) accepted ⌝ }
 {
     let mut best = [0u16; 4096];
-    let mut r = (d.len() / 4) as u16;
-    while 0 < r {
-        let i = r as usize;
-        let up = parents::parent_of(d, Region(r));
-        let p = up.0 as usize;
-        let own = best[i];
-        let least = !fields::is_leaf(d, Region(r)) as u16;
-        if own < least {
-            return 13;
-        }
-        best[p] = larger(best[p], own + 1);
-        r -= 1;
+    if childless_regions(d, &mut best) {
+        return 13;
     }
-    let height = larger(1, best[0]);
+    let height = region_turn::larger(1, best[0]);
     if spans != height as usize {
         return 14;
     }

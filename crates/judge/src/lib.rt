@@ -7,14 +7,9 @@ ghost use Rattle.sheet.specs.Sections.{Located};
 ghost use Rattle.sheet.specs.Answer.{numbered};
 ghost use Rattle.refusals.specs.Form.{wrongSize, outOfOrder, bitSet};
 ghost use Rattle.refusals.specs.Judgement.{judgement};
-ghost use Rattle.judge.specs.Said.{said};
-use sheet::Fault;
+ghost use Rattle.judge_answer.specs.Said.{said};
+pub use judge_answer::Judged;
 use sheet::Sections;
-
-pub enum Judged {
-    Accepted,
-    Refused(Fault),
-}
 
 // Refusal 1: the byte count is no multiple of 4, or too high.
 fn wrong_size(s: &[u8]) -> bool
@@ -34,7 +29,7 @@ fn bit_set(s: &[u8], at: Sections) -> bool
     if arcs::bit_set(s, at) {
         return true;
     }
-    leaves::bit_set(reader::region_words(s, at))
+    leaf_words::bit_set(reader::region_words(s, at))
 }
 
 // Refusals 3 to 14, of a sheet to which neither 1 nor 2 applies: the number, or 0.
@@ -69,19 +64,9 @@ fn lowest_refusal(s: &[u8]) -> u8
     later_refusal(s, sections::find_sections(s))
 }
 
-// The answer for the number of a refusal, or for 0.
-fn answer(n: u8) -> Judged
-    ensures { λ r. ⌜ said r ≡ numbered n ⌝ }
-{
-    if n == 0 {
-        return Judged::Accepted;
-    }
-    Judged::Refused(Fault::Input(n))
-}
-
 // Judges a sheet.
 pub fn judge(sheet: &[u8]) -> Judged
     ensures { λ r. ⌜ said r ≡ judgement (now (sheet .entry)) ⌝ }
 {
-    answer(lowest_refusal(sheet))
+    judge_answer::answer(lowest_refusal(sheet))
 }

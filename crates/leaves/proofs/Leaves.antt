@@ -1,53 +1,22 @@
 -- The leaves of each arc number: refusal 12 does not apply where each of the arcs has one and no number beyond them has any. Assumes nothing.
-use Prim.Native.Nat.{ℕ, zero, suc, _+_, _<_, _≤_}
-use mathlib.Core.Bool.{Bool, true, false, not, _&&_, and-false, or-true}
-use mathlib.Core.List.{List, [], _∷_}
+use Prim.Native.Nat.{ℕ, _<_, _≤_}
+use mathlib.Core.Bool.{Bool, true, false, not, _&&_, or-true}
+use mathlib.Core.List.{List}
 use mathlib.Core.Logic.{⊎-elim}
-use mathlib.Core.Path.{_≡_, refl, sym, ap, _∙_}
+use mathlib.Core.Path.{_≡_, refl, sym, _∙_}
 use borrow.Author.Tests.{eqb-true, eq-eqb, ne-eqb, lt-ltb, le-ltb, le-leb, lt-leb, not-false}
-use native.Mathlib.Nat.{le-of-suc-le-suc, not-suc-le-zero}
 use native.Mathlib.Omega.{arith}
 use mir.Val.{boolByte}
 use lib.Dec.{ltb, leb, eqb}
-use lib.ListN.{length, getD, set}
 use Rattle.indices.specs.Tests.{any, count}
-use Rattle.indices.specs.Tally.{Tally}
 use Rattle.indices.proofs.Steps.{lt-or-le}
-use Rattle.indices.proofs.Tally.{tally-in, tally-out}
 use Rattle.indices.proofs.Tests.{and-left, and-right, any-at, any-hit, any-false, count-hit, count-some}
 use Rattle.sheet.specs.Words.{words}
 use Rattle.sheet.specs.Regions.{leafWord, arcWord}
 use Rattle.refusals.specs.Nesting.{noSuchArc, leafOfArc, notOneLeaf, wrongLeaves}
-
-pub a-bit : (b : Bool) → boolByte b ≤ 1
-a-bit true = omega arith
-a-bit false = omega arith
-
--- an entry stored where it stands
-set-kept : (xs : List ℕ) (i x : ℕ) → i < length xs → x ≡ getD xs i 0 → set xs i x ≡ xs
-set-kept [] i x l e = absurd (not-suc-le-zero l)
-set-kept (y ∷ ys) zero x l e = ap (λ (h : ℕ). h ∷ ys) e
-set-kept (y ∷ ys) (suc i) x l e = ap (λ (t : List ℕ). y ∷ t) (set-kept ys i x (le-of-suc-le-suc l) e)
+use Rattle.leaf_words.proofs.Counted.{leaf-counts}
 
 module _ (d : List ℕ) where
-  -- a leaf counts for its arc and for no other, and any other word for none
-  leaf-counts : (k i : ℕ) → leafWord d k ≡ true → i ≡ arcWord d k → leafOfArc d i k ≡ true
-  leaf-counts k i leaf e = rw leaf (eq-eqb (arcWord d k) i (sym e))
-
-  counts-for-one : (k i v : ℕ) → i ≡ arcWord d k → (v ≡ i → ⊥) → leafOfArc d v k ≡ false
-  counts-for-one k i v e ne = rw (ne-eqb (arcWord d k) v (λ h. ne (sym h ∙ sym e)), and-false)
-
-  counts-for-none : (k v : ℕ) → leafWord d k ≡ false → leafOfArc d v k ≡ false
-  counts-for-none k v inner = rw inner
-
-  -- word k adds 1 to the counter of its arc's number if it is a leaf, and else 0
-  pub word-counted : (top : ℕ) (seen : List ℕ) (k i : ℕ) (leaf : Bool) → i ≡ arcWord d k → leaf ≡ leafWord d k → i < length seen → getD seen i 0 < top
-      → Tally (leafOfArc d) top seen k → Tally (leafOfArc d) top (set seen i (getD seen i 0 + boolByte leaf)) (k + 1)
-  word-counted top seen k i true e el inside room t =
-      tally-in (leafOfArc d) top seen k t i inside (leaf-counts k i (sym el) e) (λ v. counts-for-one k i v e) room
-  word-counted top seen k i false e el inside room t =
-      rw (set-kept seen i (getD seen i 0 + 0) inside (omega arith)) (tally-out (leafOfArc d) top seen k t (λ v. counts-for-none k v (sym el)))
-
   -- an arc's number has 11 bits
   arc-below : (k : ℕ) → arcWord d k < 2048
   unfolding arcWord
@@ -112,7 +81,7 @@ module _ (d : List ℕ) where
                 ⊎-elim (λ (lt : arcWord d k < arcs). lt-leb arcs (arcWord d k) lt)
                 (λ (le : arcs ≤ arcWord d k). absurd (omega (
                   arith,
-                  count-hit (leafOfArc d (arcWord d k)) k (words d) l (leaf-counts k (arcWord d k) leaf refl),
+                  count-hit (leafOfArc d (arcWord d k)) k (words d) l (leaf-counts d k (arcWord d k) leaf refl),
                   right (arcWord d k) (arc-below k),
                   none-wanted (arcWord d k) le,
                 )))

@@ -1,44 +1,10 @@
 // Refusals 4 to 7: the limits of nodes, source and spans, and of how many spans, arcs and region words there are.
 ghost use mathlib.Core.Path.{_≡_};
-ghost use Prim.Native.Nat.{_≤_, _<_};
-ghost use Rattle.sheet.specs.Words.{words};
-ghost use Rattle.sheet.specs.Sections.{Located, spanCount};
+ghost use Rattle.sheet.specs.Sections.{Located};
 ghost use Rattle.sheet.specs.Answer.{numbered, accepted, lowest};
-ghost use Rattle.refusals.specs.Form.{nodesOutside, sourceOutside, spanOutside, spansOutside, tooMany};
+ghost use Rattle.refusals.specs.Form.{spansOutside, tooMany};
 ghost use Rattle.refusals.specs.Judgement.{countRefusals};
 use sheet::Sections;
-
-// Refusal 4: the node count is outside its limits.
-fn nodes_outside(s: &[u8]) -> bool
-    requires { ⌜ 2 ≤ words (now s) ⌝ }
-    ensures { λ r. ⌜ r ≡ nodesOutside (now (s .entry)) ⌝ }
-{
-    let n = sheet::node_count(s);
-    if n < 1 {
-        return true;
-    }
-    n > sheet::MOST_NODES
-}
-
-// Refusal 5: the source is no node.
-fn source_outside(s: &[u8]) -> bool
-    requires { ⌜ 2 ≤ words (now s) ⌝ }
-    ensures { λ r. ⌜ r ≡ sourceOutside (now (s .entry)) ⌝ }
-{
-    sheet::node_count(s) <= sheet::source_number(s)
-}
-
-// Whether the span at place k is outside its limits.
-fn span_outside(s: &[u8], k: usize) -> bool
-    requires { ⌜ (2 ≤ words (now s)) × (k < spanCount (now s)) ⌝ }
-    ensures { λ r. ⌜ r ≡ spanOutside (now (s .entry)) k ⌝ }
-{
-    let x = sheet::span_at(s, k);
-    if x < 1 {
-        return true;
-    }
-    x > sheet::MOST_SPAN
-}
 
 // Refusal 6: a span is outside its limits.
 fn spans_outside(s: &[u8], at: Sections) -> bool
@@ -48,7 +14,7 @@ fn spans_outside(s: &[u8], at: Sections) -> bool
     let spans = at.spans;
     let mut k = 0;
     while k < spans {
-        if span_outside(s, k) {
+        if field_limits::span_outside(s, k) {
             return true;
         }
         k += 1;
@@ -75,10 +41,10 @@ pub fn count_refusal(s: &[u8], at: Sections) -> u8
     requires { ⌜ Located (now s) at ⌝ }
     ensures { λ r. ⌜ numbered r ≡ lowest (countRefusals (now (s .entry))) accepted ⌝ }
 {
-    if nodes_outside(s) {
+    if field_limits::nodes_outside(s) {
         return 4;
     }
-    if source_outside(s) {
+    if field_limits::source_outside(s) {
         return 5;
     }
     if spans_outside(s, at) {

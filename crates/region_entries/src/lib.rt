@@ -89,7 +89,7 @@ pub fn enter_heights(d: &[u8], parents: &[u16], regions: &mut [u16])
         set_height(regions, Region(r), height);
         let i = r as usize;
         let parent = Region(parents[i]);
-        let highest = division::larger(height_in(regions, parent), height);
+        let highest = region_turn::larger(height_in(regions, parent), height);
         set_height(regions, parent, highest);
         r -= 1;
     }

@@ -4,7 +4,6 @@ ghost use Prim.Native.Nat.{_≤_};
 ghost use lib.ListN.{length};
 ghost use Rattle.io.specs.Counts.{Counts};
 ghost use Rattle.sheet.specs.Sections.{nodeCount};
-ghost use Rattle.sheet.specs.Answer.{numberOf, refusalOf};
 ghost use Rattle.refusals.specs.Judgement.{Accepted};
 ghost use Rattle.answers.specs.Tables.{tableLength};
 ghost use Rattle.listing.specs.Listing.{listingOf, mostListing};
@@ -12,19 +11,9 @@ ghost use Rattle.listing.specs.Written.{Filled};
 ghost use Rattle.report.specs.Report.{endTable, Reported};
 use judge::Judged;
 use libc::STDOUT_FILENO;
-use sheet::Fault;
 
 // How many words the table of the most nodes has.
 pub const MOST_TABLE: usize = 2057;
-
-fn number_of(fault: Fault) -> u8
-    ensures { λ r. ⌜ r ≡ numberOf (refusalOf fault) ⌝ }
-{
-    match fault {
-        Fault::Input(n) => n,
-        Fault::State(n) => n,
-    }
-}
 
 // Runs an accepted sheet to its end in a table of its size, and writes the listing.
 fn report_table(sheet: &[u8], nodes: usize, table: &mut [u32], out: &mut [u8]) -> usize
@@ -42,7 +31,12 @@ fn report_accepted(sheet: &[u8], table: &mut [u32], out: &mut [u8]) -> usize
     ensures { λ r. ⌜ Reported (now (sheet .entry)) (now (table .entry)) (now (out .entry)) (now (table .exit)) (now (out .exit)) r ⌝ }
 {
     let nodes = sheet::node_count(sheet) as usize;
-    report_table(sheet, nodes, &mut table[..9 + 2 * nodes], out)
+    report_table(
+        sheet,
+        nodes,
+        &mut table[..table_length::table_length(nodes)],
+        out,
+    )
 }
 
 // Writes what is printed of a sheet to the front of the buffer, and returns how many bytes it has. The second promise follows from the first, in the
@@ -54,7 +48,7 @@ pub fn report(sheet: &[u8], table: &mut [u32], out: &mut [u8]) -> usize
 {
     let judged = judge::judge(sheet);
     match judged {
-        Judged::Refused(fault) => listing::write_refused(number_of(fault), out),
+        Judged::Refused(fault) => listing::write_refused(codes::number_of(fault), out),
         Judged::Accepted => report_accepted(sheet, table, out),
     }
 }

@@ -1,8 +1,5 @@
 -- `routed_code` meets its contract: a route's count fits behind 65,536. Assumes nothing.
-use mathlib.Core.Path.{sym, ap}
 use native.Mathlib.Omega.{arith}
-use Rattle.route_answer.specs.Said.{said}
-use Rattle.codes.specs.Codes.{codeOf}
 use borrow.Author.Needs.{needs}
 use Rattle.codes.proofs.routed_code.Statement.{statement}
 use Rattle.codes.proofs.routed_code.Tie as tie
@@ -22,17 +19,20 @@ enum-told c = search needs
 enum-known-routed-2 : tie.Need-enum-known-routed-2
 enum-known-routed-2 c = search needs
 
-fault-code-requires : tie.Need-fault-code-requires
-fault-code-requires c κs = search needs
+number-of-requires : tie.Need-number-of-requires
+number-of-requires c κs = search needs
+
+cast-result : tie.Need-cast-result
+cast-result c = search needs
 
 returns : tie.Need-returns
-returns c = sym (ap (λ x. codeOf (said x)) (c .before .routed .given .1))
+returns c = rw (c .before .routed .given .1)
 
 returns-2 : tie.Need-returns-2
-returns-2 c = search needs
+returns-2 c = rw (c .enum-told .given .1)
 
 returns-3 : tie.Need-returns-3
-returns-3 c = search needs
+returns-3 c = rw (c .before .before .routed2 .given .1) (c .number-of .ensures)
 
 pub routed-code-spec : {M : Type 1} → statement M
 routed-code-spec =
@@ -42,7 +42,8 @@ routed-code-spec =
     add-result
     enum-told
     enum-known-routed-2
-    fault-code-requires
+    number-of-requires
+    cast-result
     returns
     returns-2
     returns-3)

@@ -8,6 +8,7 @@ use Rattle.indices.specs.Tally.{Tally}
 use Rattle.indices.proofs.Tally.{tally-none}
 use Rattle.sheet.specs.Limits.{mostArcsEachWay}
 use Rattle.sheet.specs.Sections.{arcCount}
+use Rattle.sheet.specs.Arcs.{endOf}
 use Rattle.refusals.specs.Fields.{endsAt}
 use Rattle.degrees.proofs.Degrees.{one-too-many, one-more, none-too-many}
 use Rattle.degrees.proofs.crowded_nodes.Statement.{statement}
@@ -37,6 +38,11 @@ end-at-requires-2 c κs =
     let start = c .before .before .before .before in
     (start .before .pre .0, omega arith)
 
+-- the second end of the arc is its head
+head : (c : tie.After-end-at2 Inv-loop μ-loop)
+    → c .end-at2 .result .0 ≡ endOf true (c .before .before .before .before .before .before .args .s .now) (c .before .before .before .loop .a)
+head c = c .end-at2 .ensures .0
+
 cast-v : tie.Need-cast-v Inv-loop μ-loop
 cast-v c = omega arith
 
@@ -64,7 +70,7 @@ returns-2 c =
     let loop = earlier .before .before .before .loop in
     let entry = earlier .before .before .before .before in
     let pre = entry .before .before .pre in
-    sym (one-too-many _ true (loop .heads) (loop .a) (earlier .end-at2 .result .0) _ (pre .3) (omega arith) (earlier .end-at2 .ensures .0) (omega arith)
+    sym (one-too-many _ true (loop .heads) (loop .a) (earlier .end-at2 .result .0) _ (pre .3) (omega arith) (head earlier) (omega arith)
     (loop .inv .4) refl (c .if2 .taken))
 
 add-tails : tie.Need-add-tails Inv-loop μ-loop
@@ -94,7 +100,7 @@ loop-again c =
       simp length-set (loop .inv .1),
       simp length-set (loop .inv .2),
       one-more _ false (loop .tails) (loop .a) (end-at .result .0) (end-at .ensures .0) (omega arith) (c .before .if1 .left) (loop .inv .3),
-      one-more _ true (loop .heads) (loop .a) (earlier .end-at2 .result .0) (earlier .end-at2 .ensures .0) (omega arith) (c .if2 .left) (loop .inv .4),
+      one-more _ true (loop .heads) (loop .a) (earlier .end-at2 .result .0) (head earlier) (omega arith) (c .if2 .left) (loop .inv .4),
     )
 
 returns-3 : tie.Need-returns-3 Inv-loop μ-loop

@@ -1,7 +1,7 @@
 -- `report` meets its contract: the judge's refusal, or the run of the accepted sheet. Assumes nothing.
 use mathlib.Core.Path.{sym, ap, _∙_}
 use Rattle.io.proofs.Counting.{counts}
-use Rattle.judge.specs.Said.{said}
+use Rattle.judge_answer.specs.Said.{said}
 use Rattle.listing.proofs.Writing.{filled-within}
 use Rattle.report.proofs.Outcomes.{reported-refusal}
 use borrow.Author.Needs.{needs}

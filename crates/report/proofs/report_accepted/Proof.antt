@@ -1,6 +1,8 @@
 -- `report_accepted` meets its contract: the part of the table that the nodes need is lent to the run. Assumes nothing.
-use mathlib.Core.Path.{sym}
+use Prim.Native.Nat.{_≤_}
+use mathlib.Core.Path.{sym, _∙_}
 use native.Mathlib.Omega.{arith}
+use lib.ListN.{length}
 use lib.Seq.{length-take-le}
 use Rattle.refusals.proofs.Accepted.{front-there, few-nodes}
 use Rattle.report.proofs.Outcomes.{reported-listing}
@@ -16,31 +18,31 @@ node-count-requires c κs =
 cast-nodes : tie.Need-cast-nodes
 cast-nodes c = search needs
 
-mul-report-table : tie.Need-mul-report-table
-mul-report-table c = search needs
-
-add-report-table : tie.Need-add-report-table
-add-report-table c = search needs
-
-slice-relend-prefix-report-table : tie.Need-slice-relend-prefix-report-table
-slice-relend-prefix-report-table c =
+-- an accepted sheet has few nodes, so that the table is long enough
+few : (c : tie.After-node-count) → c .node-count .result ≤ 1024
+few c =
     let pre = c .before .before .before .before .pre in
     omega (arith, c .node-count .ensures, few-nodes _ (pre .0))
 
-slice-aggregate-report-table : tie.Need-slice-aggregate-report-table
-slice-aggregate-report-table c =
+long-enough : (c : tie.After-table-length) → c .table-length .result ≤ length (c .before .before .before .before .before .args .table .now)
+long-enough c =
     let pre = c .before .before .before .before .before .pre in
-    sym (length-take-le _ _ (omega (arith, c .before .node-count .ensures, few-nodes _ (pre .0))))
+    omega (arith, c .table-length .ensures, few (c .before), pre .1)
+
+table-length-requires : tie.Need-table-length-requires
+table-length-requires c κs = few c
+
+slice-relend-prefix-report-table : tie.Need-slice-relend-prefix-report-table
+slice-relend-prefix-report-table c = long-enough c
+
+slice-aggregate-report-table : tie.Need-slice-aggregate-report-table
+slice-aggregate-report-table c = sym (length-take-le _ _ (long-enough (c .before)))
 
 report-table-requires : tie.Need-report-table-requires
 report-table-requires c κs =
-    let pre = c .before .before .before .before .before .before .pre in (
-      pre .0,
-      c .before .before .node-count .ensures,
-      length-take-le _ _ (omega (arith, c .before .before .node-count .ensures, few-nodes _ (pre .0))),
-      omega (arith, c .before .before .node-count .ensures, few-nodes _ (pre .0)),
-      pre .2,
-    )
+    let sized = c .before .before in
+    let pre = c .before .before .before .before .before .before .before .pre in
+    (pre .0, sized .before .node-count .ensures, length-take-le _ _ (long-enough sized) ∙ sized .table-length .ensures, few (sized .before), pre .2)
 
 same-length : tie.Need-same-length
 same-length c = search needs
@@ -50,11 +52,11 @@ same-length-2 c = search needs
 
 returns : tie.Need-returns
 returns c =
-    let earlier = c .before .before .before .before .before .before .before .before in
     let report-table = c .before .before .before .before .report-table in
-    let node-count = c .before .before .before .before .before .before .before .node-count in
-    let pre = earlier .before .before .before .pre in
-    reported-listing _ (pre .0) (node-count .ensures) (report-table .ensures .0) (report-table .ensures .1)
+    let sized = c .before .before .before .before .before .before .before in
+    let pre = sized .before .before .before .before .before .pre in
+    rw (sized .table-length .ensures)
+    (reported-listing _ (pre .0) (sized .before .node-count .ensures) (report-table .ensures .0) (report-table .ensures .1))
 
 pub report-accepted-spec : {M : Type 1} → statement M
 report-accepted-spec =
@@ -62,8 +64,7 @@ report-accepted-spec =
     (tie.spec
     node-count-requires
     cast-nodes
-    mul-report-table
-    add-report-table
+    table-length-requires
     slice-relend-prefix-report-table
     slice-aggregate-report-table
     report-table-requires

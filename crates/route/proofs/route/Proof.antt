@@ -1,6 +1,6 @@
 -- `route` meets its contract: the sheet's refusal, or the answer for an accepted sheet. Assumes nothing.
 use mathlib.Core.Path.{sym, ap, _∙_}
-use Rattle.judge.specs.Said.{said as saidByJudge}
+use Rattle.judge_answer.specs.Said.{said as saidByJudge}
 use Rattle.answers.proofs.Routes.{sheet-stops}
 use Rattle.found_route.proofs.Found.{left-refused}
 use Rattle.route.proofs.Stages.{left-after, answer-known}

@@ -1,7 +1,7 @@
 -- `run_rounds` meets its contract: the judge's refusal, or the run of the accepted sheet. Assumes nothing.
 use borrow.Author.Needs.{needs}
 use mathlib.Core.Path.{sym, ap, _∙_}
-use Rattle.judge.specs.Said.{said as judged-says}
+use Rattle.judge_answer.specs.Said.{said as judged-says}
 use Rattle.answers.proofs.Outcome.{refused-sheet}
 use Rattle.run_rounds.proofs.run_rounds.Statement.{statement}
 use Rattle.run_rounds.proofs.run_rounds.Tie as tie

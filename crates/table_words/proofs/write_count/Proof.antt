@@ -26,7 +26,7 @@ returns c =
     let earlier = c .before .before .before .before in
     let word = earlier .word in
     let word2 = c .before .before .before .word2 in
-    cc (c .before .before .write-pair .ensures, word .ensures, word2 .ensures)
+    rw (← word .ensures, ← word2 .ensures) (c .before .before .write-pair .ensures)
 
 pub write-count-spec : {M : Type 1} → statement M
 write-count-spec =

@@ -1,0 +1,20 @@
+-- `nodes_outside` meets its contract: the two limits in turn. Assumes nothing.
+use borrow.Author.Needs.{needs}
+use borrow.Author.Tests.{lt-ltb, le-ltb}
+use Rattle.refusals.specs.Form.{nodesOutside}
+use Rattle.field_limits.proofs.nodes_outside.Statement.{statement}
+use Rattle.field_limits.proofs.nodes_outside.Tie as tie
+
+node-count-requires : tie.Need-node-count-requires
+node-count-requires c κs = search needs
+
+returns : tie.Need-returns
+unfolding nodesOutside
+returns c = rw (← c .before .node-count .ensures, lt-ltb _ _ (c .if1 .taken))
+
+returns-2 : tie.Need-returns-2
+unfolding nodesOutside
+returns-2 c = rw (← c .before .node-count .ensures, le-ltb _ _ (c .if1 .left))
+
+pub nodes-outside-spec : {M : Type 1} → statement M
+nodes-outside-spec = tie.close (tie.spec node-count-requires returns returns-2)

@@ -1,0 +1,100 @@
+-- `count_leaves` meets its contract: the counters say how many of the words passed are a leaf of each arc. Assumes nothing.
+use Prim.Native.Nat.{_-_, _≤_, _<_}
+use mathlib.Core.Path.{_≡_, refl}
+use borrow.Author.Needs.{needs}
+use native.Mathlib.Omega.{arith}
+use lib.ListN.{length, getD, length-set}
+use Rattle.indices.specs.Tally.{Tally}
+use Rattle.indices.proofs.Tests.{count-le}
+use Rattle.indices.proofs.Tally.{tally-none}
+use Rattle.sheet.specs.Limits.{mostRegionWords}
+use Rattle.sheet.specs.Words.{words}
+use Rattle.refusals.specs.Nesting.{leafOfArc}
+use Rattle.leaf_words.proofs.Counted.{a-bit, word-counted}
+use Rattle.leaf_words.proofs.count_leaves.Statement.{statement}
+use Rattle.leaf_words.proofs.count_leaves.Tie as tie
+
+abbrev Inv-loop : tie.InvT-loop
+Inv-loop d seen₀ n k₀ seen k = (k ≤ words d) × (length seen ≡ 2048) × Tally (leafOfArc d) mostRegionWords seen k
+
+abbrev μ-loop : tie.MeasureT-loop
+μ-loop d seen₀ n k₀ seen k = words d - k
+
+loop-holds : tie.Need-loop-holds Inv-loop μ-loop
+loop-holds c = (search needs, refl, tally-none _ mostRegionWords 2048)
+
+arc-word-requires : tie.Need-arc-word-requires Inv-loop μ-loop
+arc-word-requires c κs = omega arith
+
+cast-at : tie.Need-cast-at Inv-loop μ-loop
+cast-at c = omega arith
+
+mul-x : tie.Need-mul-x Inv-loop μ-loop
+mul-x c = omega arith
+
+array-read-x : tie.Need-array-read-x Inv-loop μ-loop
+array-read-x c = omega arith
+
+leaf-word-requires : tie.Need-leaf-word-requires Inv-loop μ-loop
+leaf-word-requires c κs = omega arith
+
+cast-seen : tie.Need-cast-seen Inv-loop μ-loop
+cast-seen c = tt
+
+add-seen : tie.Need-add-seen Inv-loop μ-loop
+add-seen c =
+    let loop = c .before .before .before .before .loop in
+    omega (arith, loop .inv .2 .below (c .before .before .arc-word .result .0) (omega arith), a-bit (c .leaf-word .result))
+
+mul-seen : tie.Need-mul-seen Inv-loop μ-loop
+mul-seen c = omega arith
+
+array-write-seen : tie.Need-array-write-seen Inv-loop μ-loop
+array-write-seen c = omega arith
+
+add-k : tie.Need-add-k Inv-loop μ-loop
+add-k c = omega arith
+
+loop-less : tie.Need-loop-less Inv-loop μ-loop
+loop-less c = omega arith
+
+loop-again : tie.Need-loop-again Inv-loop μ-loop
+loop-again c =
+    let earlier = c .before .before .before .before in
+    let loop = earlier .loop in
+    let d = earlier .before .before .args .d .now in
+    let arc-word = c .before .before .arc-word in
+    let i = arc-word .result .0 in
+    let room : getD (loop .seen) i 0 < mostRegionWords = omega (arith, loop .inv .2 .counts i (omega arith), count-le (leafOfArc d i) (loop .k)) in (
+      omega arith,
+      simp length-set (loop .inv .1),
+      word-counted d mostRegionWords (loop .seen) (loop .k) i (c .leaf-word .result) (arc-word .ensures .0) (c .leaf-word .ensures) (omega arith) room
+          (loop .inv .2),
+    )
+
+returns : tie.Need-returns Inv-loop μ-loop
+returns c =
+    let args = c .before .before .before .args in
+    let done : c .before .loop .k ≡ words (args .d .now) = omega arith in
+    (c .before .loop .inv .1, rw done at (c .before .loop .inv .2))
+
+pub count-leaves-spec : {M : Type 1} → statement M
+count-leaves-spec =
+    tie.close
+    (tie.spec
+    Inv-loop
+    μ-loop
+    loop-holds
+    arc-word-requires
+    cast-at
+    mul-x
+    array-read-x
+    leaf-word-requires
+    cast-seen
+    add-seen
+    mul-seen
+    array-write-seen
+    add-k
+    loop-less
+    loop-again
+    returns)
