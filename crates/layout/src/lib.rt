@@ -60,7 +60,7 @@ pub fn lay_out(
         (now (regions .exit))) ⌝ }
 {
     lay_arcs(s, at, arcs, firsts);
-    arc_entries::enter_lengths(s, at, lengths);
-    arc_entries::enter_spans(s, at, spans);
+    length_entries::enter_lengths(s, at, lengths);
+    length_entries::enter_spans(s, at, spans);
     lay_regions(s, at, parents, rows, regions);
 }
