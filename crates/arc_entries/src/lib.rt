@@ -1,11 +1,10 @@
-// The arcs of a sheet, with their lengths and leaves, and its spans, entered into slices. Every pass is linear in the words it reads.
+// The arcs of a sheet, with their ends and leaves, entered into rows. Every pass is linear in the words it reads.
 ghost use mathlib.Core.Path.{_≡_};
 ghost use Prim.Native.Nat.{_*_, _≤_, _<_};
 ghost use lib.ListN.{length};
 ghost use Rattle.sheet.specs.Limits.{mostArcs};
 ghost use Rattle.sheet.specs.Words.{words};
-ghost use Rattle.sheet.specs.Sections.{Located, spanCount, arcCount};
-ghost use Rattle.procedure.specs.OfSheet.{graphOf, spansOf};
+ghost use Rattle.sheet.specs.Sections.{Located, arcCount};
 ghost use Rattle.rows.specs.Rows.{rowCount};
 ghost use Rattle.arc_entries.specs.Arcs.{EndsEntered, LeavesApart, leafEntered, LeavesEntered};
 use sheet::Arc;
@@ -16,14 +15,14 @@ pub fn enter_ends(s: &[u8], at: Sections, arcs: &mut [u16])
     requires { ⌜ Located (now s) at × (arcCount (now s) ≤ mostArcs) × (length (now arcs) ≡ 4 * arcCount (now s)) ⌝ }
     ensures { λ _. ⌜ EndsEntered (now (s .entry)) (now (arcs .exit)) ⌝ }
 {
-    let n = at.arcs as u16;
-    let mut a: u16 = 0;
-    while a < n {
-        let tail = fields::end_at(s, at, Arc(a), false);
-        let head = fields::end_at(s, at, Arc(a), true);
-        rows::set_field(arcs, a, rows::TAIL, tail.0);
-        rows::set_field(arcs, a, rows::HEAD, head.0);
-        a += 1;
+    let n = at.arcs;
+    let mut i = 0;
+    while i < n {
+        let row = 4 * i;
+        let a = Arc(i as u16);
+        arcs[row + rows::TAIL] = fields::end_at(s, at, a, false).0;
+        arcs[row + rows::HEAD] = fields::end_at(s, at, a, true).0;
+        i += 1;
     }
 }
 
@@ -36,7 +35,8 @@ fn enter_leaf(d: &[u8], k: usize, arcs: &mut [u16])
         return;
     }
     let a = fields::arc_word(d, k);
-    rows::set_field(arcs, a.0, rows::LEAF, (k + 1) as u16);
+    let i = 4 * (a.0 as usize) + rows::LEAF;
+    arcs[i] = (k + 1) as u16;
 }
 
 // Each leaf, into the row of its arc.
@@ -49,32 +49,5 @@ pub fn enter_leaves(d: &[u8], arcs: &mut [u16])
     while k < n {
         enter_leaf(d, k, arcs);
         k += 1;
-    }
-}
-
-// Each arc's length.
-pub fn enter_lengths(s: &[u8], at: Sections, lengths: &mut [u32])
-    requires { ⌜ Located (now s) at × (arcCount (now s) ≤ mostArcs) × (length (now lengths) ≡ arcCount (now s)) ⌝ }
-    ensures { λ _. ⌜ now (lengths .exit) ≡ graphOf (now (s .entry)) .lengths ⌝ }
-{
-    let n = at.arcs as u16;
-    let mut a: u16 = 0;
-    while a < n {
-        let i = a as usize;
-        lengths[i] = fields::length_at(s, at, Arc(a));
-        a += 1;
-    }
-}
-
-// The span of each height.
-pub fn enter_spans(s: &[u8], at: Sections, spans: &mut [u32])
-    requires { ⌜ Located (now s) at × (length (now spans) ≡ spanCount (now s)) ⌝ }
-    ensures { λ _. ⌜ now (spans .exit) ≡ spansOf (now (s .entry)) ⌝ }
-{
-    let n = at.spans;
-    let mut i = 0;
-    while i < n {
-        spans[i] = sheet::span_at(s, i);
-        i += 1;
     }
 }

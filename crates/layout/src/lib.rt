@@ -60,7 +60,7 @@ pub fn lay_graph(
     let n = sizes.nodes;
     let m = sizes.arcs;
     lay_arcs(s, at, &mut arcs[..4 * m], &mut firsts[..n]);
-    arc_entries::enter_lengths(s, at, &mut lengths[..m]);
+    length_entries::enter_lengths(s, at, &mut lengths[..m]);
 }
 
 // The rows of the regions, for the tables and for the queues, and the span of each height, in slices of which the front is used.
@@ -79,7 +79,7 @@ pub fn lay_division(
     let k = sizes.spans;
     let r = sizes.regions;
     let mut parents = [0u16; REGIONS];
-    arc_entries::enter_spans(s, at, &mut spans[..k]);
+    length_entries::enter_spans(s, at, &mut spans[..k]);
     lay_regions(
         s,
         at,

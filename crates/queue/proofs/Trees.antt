@@ -11,9 +11,11 @@ use Rattle.indices.proofs.Steps.{eq-or-ne, lt-or-le, set-elim}
 use Rattle.procedure.specs.Division.{Division, regions, parent}
 use Rattle.procedure.specs.Queues.{minItem}
 use Rattle.theory.proofs.Chosen.{Child, parent-child, minItem-first, first-one}
-use Rattle.tree_places.specs.Trees.{entry, childCount, treeStart, seat, place, Wins, LaidOut, QueuesOk, Entered}
+use Rattle.rows.specs.Rows.{field, rowCount}
+use Rattle.tree_places.specs.Trees.{entry, childCount, treeStart, seat, place, Wins, Planned, LaidOut, QueuesOk, Entered}
 use Rattle.queue.proofs.Comparison.{entry-behind}
-use Rattle.tree_places.proofs.Seats.{tree-room, trees-apart, seat-low, seat-high, seat-one, place-child}
+use Rattle.tree_places.proofs.Seats.{tree-room, trees-apart, seat-low, seat-high, seat-one, place-child, parent-in}
+use Rattle.tree_places.proofs.RegionRows.{row-in}
 
 -- a store at place p of r's tree
 module _ (d : Division) (winners : List ℕ) (room : 2 * regions d ≤ length winners) (r p x : ℕ) (hp : p < 2 * childCount d r) where
@@ -66,6 +68,28 @@ module _ (d : Division) (winners : List ℕ) (room : 2 * regions d ≤ length wi
       go r′ q pos l (inl e) m = inl (rw (e .0, e .1) (here (omega (arith, ap (childCount d) (e .0)))))
       go r′ q pos l (inr n) (inl e) = inr (rw (e .0, e .1) (above (omega arith)))
       go r′ q pos l (inr n) (inr m) = old r′ q pos l n m (rest r′ q pos l)
+
+-- A REGION'S PLACE, BY THE ROWS
+
+-- c's row and that of its parent `up`
+module _ {d : Division} {rows : List ℕ} (P : Planned d rows) (c up : ℕ) (pos : 0 < c) (inside : c < regions d) (over : up ≡ parent d c) where
+  up-in : up < regions d
+  up-in = omega (arith, over, P .counted .numbered .lower c pos inside)
+
+  pub up-row : up < rowCount rows
+  up-row = row-in up (P .counted) up-in
+
+  -- they say where c's place lies
+  module _ (start p : ℕ) (row : start ≡ field rows up 2) (own : p ≡ field rows c 3) where
+    pub seat-at : start + p ≡ treeStart d (parent d c) + seat d c
+    seat-at = omega (arith, row, own, P .starts up up-in, ap (treeStart d) over, P .seats c pos inside)
+
+    pub seat-inside : {winners : List ℕ} → LaidOut d rows winners → start + p < length winners
+    seat-inside {winners} L = rw seat-at (place-in d winners (L .room) (parent d c) (seat d c) 0 (seat-high d (parent-child d c pos inside)))
+
+-- where r's tree begins, by its row, if r has a child
+pub begins : {d : Division} {rows : List ℕ} (r start : ℕ) → Planned d rows → start ≡ field rows r 2 → 0 < childCount d r → start ≡ treeStart d r
+begins {d} r start P row some = row ∙ P .starts r (parent-in d (P .counted .numbered .lower) r some)
 
 -- a store at the place of c
 module _ (d : Division) (winners : List ℕ) (room : 2 * regions d ≤ length winners) (c x : ℕ) (pos : 0 < c) (inside : c < regions d) where

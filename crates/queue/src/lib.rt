@@ -1,12 +1,11 @@
 // One priority queue for each inner region, as winner trees in one slice.
 ghost use mathlib.Core.Path.{_≡_};
 ghost use mathlib.Core.List.{List};
-ghost use Prim.Native.Nat.{ℕ, _+_, _<_};
-ghost use lib.ListN.{replicate, set};
-ghost use Rattle.sheet.specs.Words.{top};
+ghost use Prim.Native.Nat.{ℕ, _<_};
+ghost use lib.ListN.{set};
 ghost use Rattle.procedure.specs.Division.{Division, regions};
 ghost use Rattle.procedure.specs.Queues.{minItem};
-ghost use Rattle.tree_places.specs.Trees.{IsMinKey, LaidOut, QueuesOk, Entered, ValidBelow};
+ghost use Rattle.tree_places.specs.Trees.{IsMinKey, QueuesOk};
 use sheet::Region;
 
 // The key 'none'.
@@ -56,49 +55,5 @@ pub fn write(rows: &[u16], winners: &mut [u64], child: Region, key: u32)
             return;
         }
         winners[start + place] = best;
-    }
-}
-
-// Decides the places of r's tree, from the last one down.
-fn build_tree(rows: &[u16], winners: &mut [u64], r: Region)
-    requires { ⌜ ((d : Division) × (keys : List ℕ) × ValidBelow d (now rows) keys (now winners) (r .0) × (r .0 < regions d)) ⌝ }
-    ensures { λ _. ⌜ ((d : Division) (keys : List ℕ) → ValidBelow d (now (rows .entry)) keys (now (winners .entry)) (r .0) → r .0 < regions d
-        → ValidBelow d (now (rows .entry)) keys (now (winners .exit)) (r .0 + 1)) ⌝ }
-{
-    let start = tree_places::start_of(rows, r) as usize;
-    let mut rest = tree_places::children_of(rows, r) as usize;
-    while 1 < rest {
-        rest -= 1;
-        tree_places::decide(winners, start, rest);
-    }
-}
-
-// Enters each region but 0 at its place in its parent's tree, with key none.
-fn enter_children(rows: &[u16], winners: &mut [u64], count: u16)
-    requires { ⌜ ((d : Division) × LaidOut d (now rows) (now winners) × (count ≡ regions d)) ⌝ }
-    ensures { λ _. ⌜ ((d : Division) → LaidOut d (now (rows .entry)) (now (winners .entry)) → count ≡ regions d
-        → Entered d (now (rows .entry)) (replicate (regions d) top) (now (winners .exit))) ⌝ }
-{
-    let mut c: u16 = 1;
-    while c < count {
-        let parent = tree_places::parent_of(rows, Region(c));
-        let start = tree_places::start_of(rows, parent) as usize;
-        let place = tree_places::seat_of(rows, Region(c)) as usize;
-        winners[start + place] = tree_places::entry_of(NONE, Region(c));
-        c += 1;
-    }
-}
-
-// All keys become none, in valid queues. There are `count` regions.
-pub fn clear(rows: &[u16], winners: &mut [u64], count: u16)
-    requires { ⌜ ((d : Division) × LaidOut d (now rows) (now winners) × (count ≡ regions d)) ⌝ }
-    ensures { λ _. ⌜ ((d : Division) → LaidOut d (now (rows .entry)) (now (winners .entry)) → count ≡ regions d
-        → QueuesOk d (now (rows .entry)) (replicate (regions d) top) (now (winners .exit))) ⌝ }
-{
-    enter_children(rows, winners, count);
-    let mut r: u16 = 0;
-    while r < count {
-        build_tree(rows, winners, Region(r));
-        r += 1;
     }
 }

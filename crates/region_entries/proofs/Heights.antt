@@ -1,7 +1,6 @@
 -- Heights in the regions' rows, from the last region back: a row above the region reached has its height, the others the largest height of a child
 -- so far. Assumes nothing.
 use Prim.Native.Nat.{ℕ, suc, max, _+_, _-_, _*_, _≤_, _<_}
-use mathlib.Core.Bool.{Bool, false, cond}
 use mathlib.Core.Path.{_≡_, refl, sym, ap, _∙_}
 use mathlib.Core.Logic.{_≢_, ⊎-elim}
 use mathlib.Core.List.{List}
@@ -17,6 +16,7 @@ use Rattle.sheet.specs.Regions.{regionCount, isLeaf, parent, height}
 use Rattle.sheet.proofs.Heights.{height-most}
 use Rattle.sheet.proofs.Handed.{handedFrom, Handed, handed-le, handed-start, handed-turn, height-handed}
 use Rattle.slices.specs.Tables.{arcEntry, heightEntry}
+use Rattle.heights.specs.Heights.{ownHeight, settled, handedUp}
 use Rattle.region_entries.specs.Regions.{Nested, arcInRow, ArcsEntered, HeightsEntered}
 
 -- the largest height of a child of q among the regions from i on
@@ -51,14 +51,13 @@ module _ {d rows : List ℕ} {r : ℕ} (ok : Nested d) (H : EnteringHeights d ro
       let low = handed-le (parent d) (height d) (regionCount d) (regionCount d) (height-most (isLeaf d) (parent d) (regionCount d)) (suc r) q in
       omega (arith, H .rest q l, ok .few)
 
-  own-height : (own : ℕ) (leaf : Bool) → leaf ≡ isLeaf d r → own ≡ cond leaf 0 (suc (heightEntry rows r)) → own ≡ height d r
-  own-height own leaf el eo =
-      eo ∙ rw (el, H .rest r (le-refl r))
+  own-height : (own : ℕ) → own ≡ ownHeight d rows r → own ≡ height d r
+  own-height own e =
+      e ∙ rw (H .rest r (le-refl r))
       (sym (height-handed (isLeaf d) (parent d) (regionCount d) (ok .nesting) (suc r) r (omega (arith, H .within)) (le-refl (suc r))))
 
   -- region r gets its height and hands it to its parent p
-  module _ (p own x : ℕ) (leaf : Bool) (pos : 0 < r) (ep : p ≡ parent d r) (el : leaf ≡ isLeaf d r) (eo : own ≡ cond leaf 0 (suc (heightEntry rows r)))
-      (ex : x ≡ max (heightEntry (set rows (2 * r + 1) own) p) own) where
+  module _ (p own x : ℕ) (pos : 0 < r) (ep : p ≡ parent d r) (eo : own ≡ ownHeight d rows r) (ex : x ≡ max (heightEntry (set rows (2 * r + 1) own) p) own) where
     low : p < r
     low = omega (arith, ep, ok .nesting .lower r pos (omega (arith, H .within)))
 
@@ -76,7 +75,7 @@ module _ {d rows : List ℕ} {r : ℕ} (ok : Nested d) (H : EnteringHeights d ro
     turned : Handed (parent d) (height d) (regionCount d) (set best p x) (r - 1)
     turned =
         handed-turn (parent d) (height d) (regionCount d) best r p x pos (omega (arith, H .within)) (omega (arith, best-long, low)) ep
-        (omega (arith, ex, own-height own leaf el eo, getD-set-other rows (2 * r + 1) (2 * p + 1) own 0 (omega (arith, low)), best-at p (omega (arith, low))))
+        (omega (arith, ex, own-height own eo, getD-set-other rows (2 * r + 1) (2 * p + 1) own 0 (omega (arith, low)), best-at p (omega (arith, low))))
         (record { entry = λ q l. let here : q ≤ r = omega (arith, best-long) in best-at q here ∙ H .rest q here })
 
     rows₁ : List ℕ
@@ -99,7 +98,7 @@ module _ {d rows : List ℕ} {r : ℕ} (ok : Nested d) (H : EnteringHeights d ro
     above-after q l h =
         getD-set-other rows₁ (2 * p + 1) (2 * q + 1) x 0 (omega (arith, low))
         ∙ set-elim (λ z. z ≡ height d q) rows (2 * r + 1) (2 * q + 1) own 0 (omega (arith, H .all, H .within))
-        (λ e. let same : q ≡ r = omega arith in own-height own leaf el eo ∙ ap (height d) (sym same))
+        (λ e. let same : q ≡ r = omega arith in own-height own eo ∙ ap (height d) (sym same))
         (λ n. H .above q (omega arith) h)
 
     handed : EnteringHeights d (set (set rows (2 * r + 1) own) (2 * p + 1) x) (r - 1)
@@ -114,27 +113,25 @@ module _ {d rows : List ℕ} {r : ℕ} (ok : Nested d) (H : EnteringHeights d ro
       rest = λ q l. rest-after q l ∙ turned .entry q (simp length-set (omega (arith, best-long)));
     }
 
--- Region r gets its height, one above the `highest` handed up to it if it is inner, and hands it to its parent p, which had `other`.
-pub heights-more : {d rows rows₁ rows₂ : List ℕ} {r p own x highest other : ℕ} {leaf : Bool} → Nested d → EnteringHeights d rows r → 0 < r
-    → p ≡ parent d r → leaf ≡ isLeaf d r → highest ≡ heightEntry rows r → own ≡ cond leaf 0 (suc highest) → rows₁ ≡ set rows (2 * r + 1) own
-    → other ≡ heightEntry rows₁ p → x ≡ max other own → rows₂ ≡ set rows₁ (2 * p + 1) x → EnteringHeights d rows₂ (r - 1)
-heights-more {d} {rows} {rows₁} {rows₂} {r} {p} {own} {x} {highest} {other} {leaf} ok H pos ep el eh eo e₁ et ex e₂ =
-    rw (e₂, e₁)
-    (handed ok H p own x leaf pos ep el (rw eh at eo) (ex ∙ ap (λ (h : ℕ). max h own) (et ∙ ap (λ (l : List ℕ). heightEntry l p) e₁)))
+-- region r gets its height and hands it to its parent
+pub heights-more : {d rows rows₁ rows₂ : List ℕ} {r p own : ℕ} → Nested d → EnteringHeights d rows r → 0 < r → p ≡ parent d r → own ≡ ownHeight d rows r
+    → rows₁ ≡ settled d rows r → rows₂ ≡ handedUp rows₁ p own → EnteringHeights d rows₂ (r - 1)
+heights-more {d} {rows} {rows₁} {rows₂} {r} {p} {own} ok H pos ep eo e₁ e₂ =
+    rw (e₂, e₁ ∙ ap (set rows (2 * r + 1)) (sym eo)) (handed ok H p own _ pos ep eo refl)
 
--- region 0, which is inner, comes last
-pub heights-all : {d rows rows′ : List ℕ} {r x highest : ℕ} → Nested d → EnteringHeights d rows r → r ≤ 0 → highest ≡ heightEntry rows 0 → x ≡ suc highest
-    → rows′ ≡ set rows (2 * 0 + 1) x → HeightsEntered d rows′
-heights-all {d} {rows} {rows′} {r} {x} ok H l eh e e′ =
+-- region 0 comes last
+pub heights-all : {d rows rows′ : List ℕ} {r : ℕ} → Nested d → EnteringHeights d rows r → r ≤ 0 → rows′ ≡ settled d rows 0 → HeightsEntered d rows′
+heights-all {d} {rows} {rows′} {r} ok H l e =
     let last : r ≡ 0 = omega arith in
     let H₀ : EnteringHeights d rows 0 = rw last at H in
-    rw e′
+    let x = ownHeight d rows 0 in
+    rw e
     (record {
       all = simp length-set (H .all);
       arcs = λ q h. getD-set-other rows 1 (2 * q) x 0 (omega arith) ∙ H .arcs q h;
       heights =
           λ q h.
           set-elim (λ z. z ≡ height d q) rows 1 (2 * q + 1) x 0 (omega (arith, H .all))
-          (λ same. let root : q ≡ 0 = omega arith in own-height ok H₀ x false refl (e ∙ ap suc eh) ∙ ap (height d) (sym root))
+          (λ same. let root : q ≡ 0 = omega arith in own-height ok H₀ x refl ∙ ap (height d) (sym root))
           (λ other. H₀ .above q (omega arith) h);
     })

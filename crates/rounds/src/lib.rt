@@ -45,7 +45,7 @@ pub fn start(
     rows::fill_keys(labels, NONE);
     rows::fill_keys(predecessors, NONE);
     rows::fill_keys(own, NONE);
-    queue::clear(rows, winners, count);
+    tree_building::clear(rows, winners, count);
     let i = source.0 as usize;
     labels[i] = 0;
     let n = updates::update_outgoing(rows, arcs, firsts, own, winners, source, 0, 0);

@@ -15,30 +15,38 @@ returns c = rw (sym (c .before .leaf-word .ensures) ∙ not-true (c .before .lea
 arc-word-requires : tie.Need-arc-word-requires
 arc-word-requires c κs = search needs
 
-add-set-field : tie.Need-add-set-field
-add-set-field c = search needs
+cast-i : tie.Need-cast-i
+cast-i c = search needs
 
-cast-set-field : tie.Need-cast-set-field
-cast-set-field c = search needs
+mul-i : tie.Need-mul-i
+mul-i c = search needs
 
-set-field-requires : tie.Need-set-field-requires
-set-field-requires c κs =
-    let earlier = c .before .before .before .before in
+add-i : tie.Need-add-i
+add-i c = search needs
+
+add-arcs : tie.Need-add-arcs
+add-arcs c = search needs
+
+cast-arcs : tie.Need-cast-arcs
+cast-arcs c = search needs
+
+mul-arcs : tie.Need-mul-arcs
+mul-arcs c = search needs
+
+slice-write-arcs : tie.Need-slice-write-arcs
+slice-write-arcs c =
     let leaf-word = c .before .before .before .leaf-word in
-    let pre = earlier .before .before .pre in
+    let pre = c .before .before .before .before .before .before .pre in
     let leaf = sym (leaf-word .ensures) ∙ not-false (leaf-word .result) (c .before .before .if1 .left) in
-    (omega arith, rw (c .before .arc-word .ensures .0) (pre .1 .below _ (pre .0) leaf))
+    omega (arith, c .before .arc-word .ensures .0, pre .1 .below _ (pre .0) leaf)
 
 same-length : tie.Need-same-length
 same-length c = search needs
 
 returns-2 : tie.Need-returns-2
 returns-2 c =
-    let earlier = c .before .before .before .before in
-    let leaf-word = earlier .before .before .leaf-word in
-    let if1 = earlier .before .if1 in
-    let arc-word = earlier .arc-word in
-    c .before .before .set-field .ensures ∙ rw (sym (leaf-word .ensures) ∙ not-false (leaf-word .result) (if1 .left), arc-word .ensures .0)
+    let leaf-word = c .before .before .before .leaf-word in
+    rw (sym (leaf-word .ensures) ∙ not-false (leaf-word .result) (c .before .before .if1 .left), c .before .arc-word .ensures .0)
 
 pub enter-leaf-spec : {M : Type 1} → statement M
 enter-leaf-spec =
@@ -47,8 +55,12 @@ enter-leaf-spec =
     leaf-word-requires
     returns
     arc-word-requires
-    add-set-field
-    cast-set-field
-    set-field-requires
+    cast-i
+    mul-i
+    add-i
+    add-arcs
+    cast-arcs
+    mul-arcs
+    slice-write-arcs
     same-length
     returns-2)

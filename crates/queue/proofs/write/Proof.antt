@@ -9,7 +9,7 @@ use Rattle.procedure.specs.Division.{Division, regions, parent}
 use Rattle.rows.specs.Rows.{field}
 use Rattle.tree_places.specs.Trees.{QueuesOk}
 use Rattle.tree_places.proofs.RegionRows.{row-in}
-use Rattle.queue.proofs.Repair.{up-row, seat-inside}
+use Rattle.queue.proofs.Trees.{up-row, seat-inside}
 use Rattle.queue.proofs.Repair.{Repairing, repair-start, repair-small, PlaceBounds, repair-bounds, repair-done, repair-step, repair-end}
 use Rattle.queue.proofs.write.Statement.{statement}
 use Rattle.queue.proofs.write.Tie as tie

@@ -38,10 +38,14 @@ mul-regions c = omega arith
 slice-write-regions : tie.Need-slice-write-regions Inv-loop μ-loop
 slice-write-regions c = omega arith
 
-set-height-requires : tie.Need-set-height-requires Inv-loop μ-loop
-set-height-requires c κs =
-    let loop = c .before .before .before .loop in
-    simp length-set (omega (arith, loop .inv .all, c .before .before .loop-test .taken))
+add-regions : tie.Need-add-regions Inv-loop μ-loop
+add-regions c = omega arith
+
+mul-regions-2 : tie.Need-mul-regions-2 Inv-loop μ-loop
+mul-regions-2 c = omega arith
+
+slice-write-regions-2 : tie.Need-slice-write-regions-2 Inv-loop μ-loop
+slice-write-regions-2 c = simp length-set (omega arith)
 
 add-r : tie.Need-add-r Inv-loop μ-loop
 add-r c = omega arith
@@ -51,11 +55,7 @@ loop-less c = omega arith
 
 loop-again : tie.Need-loop-again Inv-loop μ-loop
 loop-again c =
-    let earlier = c .before .before .before .before in
-    let loop = earlier .before .before .loop in
-    let loop-test = earlier .before .loop-test in
-    let arc-in-row = earlier .arc-in-row in
-    rw (c .before .before .set-height .ensures) (region-arcs-more _ (loop .inv) (omega (arith, loop-test .taken)) (arc-in-row .ensures))
+    region-arcs-more _ (c .before .before .loop .inv) (omega (arith, c .before .loop-test .taken)) (c .arc-in-row .ensures)
 
 same-length : tie.Need-same-length Inv-loop μ-loop
 same-length c =
@@ -80,7 +80,9 @@ enter-region-arcs-spec =
     arc-in-row-requires
     mul-regions
     slice-write-regions
-    set-height-requires
+    add-regions
+    mul-regions-2
+    slice-write-regions-2
     add-r
     loop-less
     loop-again

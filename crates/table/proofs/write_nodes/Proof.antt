@@ -95,7 +95,7 @@ loop-again c =
     let loop-test = early .loop-test in
     let label-word = earlier .before .before .label-word in
     let predecessor-word = earlier .predecessor-word in
-    writing-step (loop .inv) (loop-test .taken) (cc (c .before .before .write-pair .ensures, label-word .ensures, predecessor-word .ensures))
+    writing-step (loop .inv) (loop-test .taken) (rw (c .before .before .write-pair .ensures, label-word .ensures, predecessor-word .ensures))
 
 same-length : tie.Need-same-length Inv-loop μ-loop
 same-length c = writing-length (c .before .loop .inv)

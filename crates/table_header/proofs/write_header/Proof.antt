@@ -72,7 +72,7 @@ returns c =
     let write-count2 = early .before .before .write-count2 in
     let write-count = prior .before .before .write-count in
     let status-word = first .status-word in
-    cc (c .before .before .write-count4 .ensures, write-count3 .ensures, write-count2 .ensures, write-count .ensures, status-word .ensures)
+    rw (c .before .before .write-count4 .ensures, write-count3 .ensures, write-count2 .ensures, write-count .ensures, status-word .ensures)
 
 pub write-header-spec : {M : Type 1} → statement M
 write-header-spec =

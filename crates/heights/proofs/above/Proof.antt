@@ -1,8 +1,8 @@
 -- `above` meets its contract: by the two cases. Assumes nothing.
 use borrow.Author.Needs.{needs}
 use native.Mathlib.Omega.{arith}
-use Rattle.region_entries.proofs.above.Statement.{statement}
-use Rattle.region_entries.proofs.above.Tie as tie
+use Rattle.heights.proofs.above.Statement.{statement}
+use Rattle.heights.proofs.above.Tie as tie
 
 returns : tie.Need-returns
 returns c = rw (c .if1 .taken)

@@ -6,8 +6,8 @@ use Rattle.sheet.specs.Sections.{spanCount, span}
 use Rattle.sheet.proofs.Bounds.{spans-le}
 use Rattle.procedure.specs.OfSheet.{spansOf}
 use Rattle.indices.proofs.Entries.{Prefix, prefix-none, prefix-more, prefix-all}
-use Rattle.arc_entries.proofs.enter_spans.Statement.{statement}
-use Rattle.arc_entries.proofs.enter_spans.Tie as tie
+use Rattle.length_entries.proofs.enter_spans.Statement.{statement}
+use Rattle.length_entries.proofs.enter_spans.Tie as tie
 
 abbrev Inv-loop : tie.InvT-loop
 Inv-loop s spans₀ n i₀ spans i = Prefix (spanCount s) (span s) spans i

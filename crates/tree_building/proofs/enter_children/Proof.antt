@@ -7,9 +7,10 @@ use lib.ListN.{length, length-set}
 use Rattle.procedure.specs.Division.{Division, regions, parent}
 use Rattle.tree_places.specs.Trees.{LaidOut}
 use Rattle.tree_places.proofs.RegionRows.{row-in}
-use Rattle.queue.proofs.Repair.{up-row, seat-inside, Entering, entering-start, entering-step, entering-end}
-use Rattle.queue.proofs.enter_children.Statement.{statement}
-use Rattle.queue.proofs.enter_children.Tie as tie
+use Rattle.queue.proofs.Trees.{up-row, seat-inside}
+use Rattle.tree_building.proofs.Building.{Entering, entering-start, entering-step, entering-end}
+use Rattle.tree_building.proofs.enter_children.Statement.{statement}
+use Rattle.tree_building.proofs.enter_children.Tie as tie
 
 abbrev Inv-loop : tie.InvT-loop
 Inv-loop rows winners₀ count c₀ winners c =

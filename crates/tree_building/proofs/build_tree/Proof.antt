@@ -8,9 +8,9 @@ use lib.ListN.{length}
 use Rattle.procedure.specs.Division.{Division}
 use Rattle.rows.specs.Rows.{field}
 use Rattle.tree_places.proofs.RegionRows.{row-in}
-use Rattle.queue.proofs.Repair.{Building, building-start, building-in, building-step, building-end}
-use Rattle.queue.proofs.build_tree.Statement.{statement}
-use Rattle.queue.proofs.build_tree.Tie as tie
+use Rattle.tree_building.proofs.Building.{Building, building-start, building-in, building-step, building-end}
+use Rattle.tree_building.proofs.build_tree.Statement.{statement}
+use Rattle.tree_building.proofs.build_tree.Tie as tie
 
 abbrev Inv-loop : tie.InvT-loop
 Inv-loop rows winners₀ start rest₀ winners rest =

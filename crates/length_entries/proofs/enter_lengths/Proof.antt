@@ -6,8 +6,8 @@ use Rattle.sheet.specs.Sections.{arcCount}
 use Rattle.sheet.specs.Arcs.{arcLength}
 use Rattle.procedure.specs.OfSheet.{graphOf}
 use Rattle.indices.proofs.Entries.{Prefix, prefix-none, prefix-more, prefix-all}
-use Rattle.arc_entries.proofs.enter_lengths.Statement.{statement}
-use Rattle.arc_entries.proofs.enter_lengths.Tie as tie
+use Rattle.length_entries.proofs.enter_lengths.Statement.{statement}
+use Rattle.length_entries.proofs.enter_lengths.Tie as tie
 
 abbrev Inv-loop : tie.InvT-loop
 Inv-loop s at lengths₀ n a₀ lengths a = Prefix (arcCount s) (arcLength s) lengths a
@@ -15,21 +15,15 @@ Inv-loop s at lengths₀ n a₀ lengths a = Prefix (arcCount s) (arcLength s) le
 abbrev μ-loop : tie.MeasureT-loop
 μ-loop s at lengths₀ n a₀ lengths a = arcCount s - a
 
-cast-n : tie.Need-cast-n Inv-loop μ-loop
-cast-n c = omega arith
-
 loop-holds : tie.Need-loop-holds Inv-loop μ-loop
-loop-holds c =
-    let pre = c .before .before .before .pre in
-    prefix-none _ _ _ (pre .2)
+loop-holds c = prefix-none _ _ _ (c .before .before .pre .2)
 
-cast-i : tie.Need-cast-i Inv-loop μ-loop
-cast-i c = omega arith
+cast-t8 : tie.Need-cast-t8 Inv-loop μ-loop
+cast-t8 c = omega arith
 
 length-at-requires : tie.Need-length-at-requires Inv-loop μ-loop
 length-at-requires c κs =
-    let earlier = c .before .before .before .before in
-    let pre = earlier .before .pre in
+    let pre = c .before .before .before .before .pre in
     (pre .0, omega arith)
 
 mul-lengths : tie.Need-mul-lengths Inv-loop μ-loop
@@ -46,14 +40,12 @@ loop-less c = omega arith
 
 loop-again : tie.Need-loop-again Inv-loop μ-loop
 loop-again c =
-    let earlier = c .before .before .before .before in
-    let pre = earlier .before .before .pre in
+    let pre = c .before .before .before .before .before .pre in
     prefix-more _ (c .before .before .loop .inv) (omega (arith, c .before .loop-test .taken, pre .0 .arcs-all)) (c .length-at .ensures)
 
 same-length : tie.Need-same-length Inv-loop μ-loop
 same-length c =
-    let earlier = c .before .before .before .before in
-    let pre = earlier .before .pre in
+    let pre = c .before .before .before .before .pre in
     c .before .loop .inv .long ∙ sym (pre .2)
 
 returns : tie.Need-returns Inv-loop μ-loop
@@ -66,9 +58,8 @@ enter-lengths-spec =
     (tie.spec
     Inv-loop
     μ-loop
-    cast-n
     loop-holds
-    cast-i
+    cast-t8
     length-at-requires
     mul-lengths
     slice-write-lengths

@@ -7,9 +7,9 @@ use native.Mathlib.Omega.{arith}
 use lib.ListN.{length}
 use Rattle.procedure.specs.Division.{Division, regions}
 use Rattle.tree_places.specs.Trees.{Entered, ValidBelow}
-use Rattle.queue.proofs.Repair.{valid-none, valid-regions}
-use Rattle.queue.proofs.clear.Statement.{statement}
-use Rattle.queue.proofs.clear.Tie as tie
+use Rattle.tree_building.proofs.Building.{valid-none, valid-regions}
+use Rattle.tree_building.proofs.clear.Statement.{statement}
+use Rattle.tree_building.proofs.clear.Tie as tie
 
 abbrev Inv-loop : tie.InvT-loop
 Inv-loop rows winners₀ count r₀ winners r =

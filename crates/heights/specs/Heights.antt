@@ -1,0 +1,19 @@
+-- The heights in the regions' rows while they are filled, from a sheet's region words d. Definitions; assumes nothing.
+use Prim.Native.Nat.{ℕ, suc, max, _+_, _*_}
+use mathlib.Core.Bool.{cond}
+use mathlib.Core.List.{List}
+use lib.ListN.{set}
+use Rattle.sheet.specs.Regions.{isLeaf}
+use Rattle.slices.specs.Tables.{heightEntry}
+
+-- r's height, where its row holds the largest height that a child has handed up
+abbrev pub ownHeight : List ℕ → List ℕ → ℕ → ℕ
+ownHeight d regionRows r = cond (isLeaf d r) 0 (suc (heightEntry regionRows r))
+
+-- the rows once r's has its height
+abbrev pub settled : List ℕ → List ℕ → ℕ → List ℕ
+settled d regionRows r = set regionRows (2 * r + 1) (ownHeight d regionRows r)
+
+-- the rows once a child of p has handed up its height h
+abbrev pub handedUp : List ℕ → ℕ → ℕ → List ℕ
+handedUp regionRows p h = set regionRows (2 * p + 1) (max (heightEntry regionRows p) h)
