@@ -1,6 +1,6 @@
 // The run of an accepted sheet: laid out in arrays, and run there.
+ghost use Rattle.lent_table.specs.Fitting.{Fitting};
 ghost use Rattle.laid_run.specs.Outcome.{Outcome};
-ghost use Rattle.execution.specs.Runnable.{Runnable};
 use sheet::MOST_SPANS;
 use sheet::Sections;
 use slices::ARC_ROWS;
@@ -11,7 +11,7 @@ use slices::ROWS;
 
 // Runs an accepted sheet for at most `limit` rounds and writes its table. Whether the run has ended.
 pub fn run_accepted(s: &[u8], at: Sections, limit: u64, table: &mut [u32]) -> bool
-    requires { ⌜ Runnable (now s) at (now table) ⌝ }
+    requires { ⌜ Fitting (now s) at (now table) ⌝ }
     ensures { λ e. ⌜ Outcome (now (s .entry)) limit e (now (table .exit)) ⌝ }
 {
     let mut rows = [0u16; ROWS];

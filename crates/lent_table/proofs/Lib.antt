@@ -1,2 +1,3 @@
 pub mod AtArcs
 pub mod Columns
+pub mod Fitted

@@ -6,25 +6,21 @@ use mathlib.Core.Logic.{_≢_}
 use mathlib.Core.List.{List}
 use borrow.Author.Tests.{leb-false}
 use Rattle.sheet.specs.declared.Sections.{Sections}
-use Rattle.sheet.specs.Sections.{Located, nodeCount}
+use Rattle.sheet.specs.Sections.{nodeCount}
 use Rattle.sheet.specs.Answer.{input, state, Answer, accepted, refused, lowest}
 use Rattle.sheet.proofs.Lowest.{lowest-clear, lowest-stop, clear-at}
 use Rattle.refusals.specs.Judgement.{Accepted}
 use Rattle.answers.specs.Tables.{wrongLength}
 use Rattle.answers.specs.Routes.{nodeOutside, tableRefusals, foundRoute, routeAnswer, leftBy, bufferAfter, TableKnown}
-use Rattle.answers.proofs.Outcome.{right-length}
 use Rattle.answers.proofs.Routes.{after-sheet, table-known}
 use Rattle.lent_table.specs.Fitting.{Fitting}
 use Rattle.table_test.specs.Numbers.{stateNumbered}
 use Rattle.route_arcs.specs.Ready.{Ready}
 
--- what a stage may take from those before it: the node is one, and the table has its length and passed the last test
+-- what a stage may take from those before it: the node is one, and the table passed the last test
 pub node-below : (b : List ℕ) (node : ℕ) → nodeOutside b node ≡ false → node < nodeCount b
 unfolding nodeOutside
 node-below b node e = leb-false (nodeCount b) node e
-
-pub table-fits : {b table : List ℕ} {at : Sections} → Located b at → Accepted b → wrongLength b table ≡ false → Fitting b at table
-table-fits {b} {table} found ok e = record { located = found; accepted = ok; sized = right-length b table e }
 
 pub table-ready : {b table : List ℕ} {at : Sections} → Fitting b at table → lowest (tableRefusals b table) accepted ≡ accepted → Ready b at table
 unfolding tableRefusals

@@ -10,7 +10,7 @@ use Rattle.execution.proofs.run_accepted.Tie as tie
 sizes-of-requires : tie.Need-sizes-of-requires
 sizes-of-requires c κs =
     let pre = c .before .before .pre in
-    (pre .good, pre .located)
+    (pre .accepted, pre .located)
 
 slice-aggregate-lay-graph : tie.Need-slice-aggregate-lay-graph
 slice-aggregate-lay-graph c = refl
@@ -27,7 +27,7 @@ lay-graph-requires c κs =
     let sizes-of = c .before .before .before .sizes-of in
     let pre = earlier .before .before .pre in
     let used = sizes-of .ensures in
-    (pre .good, pre .located, used, omega (arith, used .few-arcs), used .few-nodes, used .few-arcs)
+    (pre .accepted, pre .located, used, omega (arith, used .few-arcs), used .few-nodes, used .few-arcs)
 
 slice-aggregate-lay-division : tie.Need-slice-aggregate-lay-division
 slice-aggregate-lay-division c = refl
@@ -46,7 +46,7 @@ lay-division-requires c κs =
     let sizes-of = early .before .before .sizes-of in
     let pre = prior .before .pre in
     let used = sizes-of .ensures in
-    (pre .good, pre .located, used, omega (arith, used .few-regions), used .few-spans, omega (arith, used .few-regions))
+    (pre .accepted, pre .located, used, omega (arith, used .few-regions), used .few-spans, omega (arith, used .few-regions))
 
 mul-arcs : tie.Need-mul-arcs
 mul-arcs c =
@@ -107,7 +107,7 @@ run-tables-requires c κs =
     let lay-graph = first .before .lay-graph in
     let sizes-of = opening .before .sizes-of in
     let pre = origin .pre in
-    (pre .good, pre .room, sizes-of .ensures, laid (pre .good) (lay-graph .ensures) (lay-division .ensures))
+    (pre .accepted, pre .sized, sizes-of .ensures, laid (pre .accepted) (lay-graph .ensures) (lay-division .ensures))
 
 same-length : tie.Need-same-length
 same-length c = c .before .before .run-tables .kept .1 .1 .1 .1 .1 .1 .1 .1 .1 .0

@@ -2,7 +2,8 @@
 use mathlib.Core.Path.{sym, ap, _∙_}
 use Rattle.refusals.proofs.Accepted.{front-there, few-nodes}
 use Rattle.table_test.specs.Numbers.{stateNumbered}
-use Rattle.route.proofs.Stages.{node-below, table-fits, table-ready, node-stops, length-stops, table-stops, route-decides}
+use Rattle.lent_table.proofs.Fitted.{table-fits}
+use Rattle.route.proofs.Stages.{node-below, table-ready, node-stops, length-stops, table-stops, route-decides}
 use Rattle.found_route.proofs.Found.{left-refused}
 use borrow.Author.Needs.{needs}
 use native.Mathlib.Omega.{arith}

@@ -6,6 +6,7 @@ use Rattle.indices.specs.Steps.{if_then_else_}
 use Rattle.sheet.specs.Answer.{ended, paused}
 use Rattle.refusals.proofs.Accepted.{front-there}
 use Rattle.answers.proofs.Outcome.{right-length, refused-table, made}
+use Rattle.lent_table.proofs.Fitted.{table-fits}
 use Rattle.run_rounds.proofs.run_accepted.Statement.{statement}
 use Rattle.run_rounds.proofs.run_accepted.Tie as tie
 
@@ -32,7 +33,7 @@ run-accepted-requires : tie.Need-run-accepted-requires
 run-accepted-requires c κs =
     let earlier = c .before .before .before .before in
     let pre = earlier .before .before .before .pre in
-    record { good = pre; located = c .before .find-sections .ensures; room = right-length _ _ (sym (c .before .before .before .wrong-length .ensures) ∙ c .before .before .if1 .left) }
+    table-fits (c .before .find-sections .ensures) pre (sym (c .before .before .before .wrong-length .ensures) ∙ c .before .before .if1 .left)
 
 status-requires : tie.Need-status-requires
 status-requires c κs = search needs
@@ -49,7 +50,8 @@ returns-2 c =
     let args = early .before .before .before .args in
     let pre = early .before .before .before .pre in
     let run-accepted = c .before .before .before .run-accepted in
-    let done = made (args .sheet .now) (args .limit) (args .table .now) pre (right-length _ _ (sym (earlier .before .before .before .wrong-length .ensures) ∙ earlier .before .before .if1 .left)) in
+    let right = right-length _ _ (sym (earlier .before .before .before .wrong-length .ensures) ∙ earlier .before .before .if1 .left) in
+    let done = made (args .sheet .now) (args .limit) (args .table .now) pre right in
     (c .status .ensures ∙ ap (λ (x : Bool). if x then ended else paused) (run-accepted .ensures .status) ∙ done .0, run-accepted .ensures .words ∙ done .1)
 
 pub run-accepted-spec : {M : Type 1} → statement M
