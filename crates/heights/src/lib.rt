@@ -37,5 +37,6 @@ pub fn hand_up(regions: &mut [u16], parent: Region, height: u16)
     ensures { λ _. ⌜ now (regions .exit) ≡ handedUp (now (regions .entry)) (parent .0) height ⌝ }
 {
     let i = 2 * (parent.0 as usize) + 1;
-    regions[i] = region_turn::larger(regions[i], height);
+    let highest = region_turn::larger(regions[i], height);
+    regions[i] = highest;
 }
