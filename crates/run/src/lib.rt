@@ -8,10 +8,37 @@ ghost use Rattle.procedure.specs.Procedure.{enoughRounds};
 ghost use Rattle.answers.specs.Tables.{tableLength};
 ghost use Rattle.answers.specs.Runs.{runAnswer, tableAfter, Delivered};
 ghost use Rattle.run_answer.specs.Said.{said};
+use judge::Judged;
 pub use run_answer::Ran;
+use sheet::Fault;
 
 // More rounds than any run has: 2^56.
 const ENOUGH_ROUNDS: u64 = 72057594037927936;
+
+// Runs an accepted sheet for at most `limit` rounds.
+fn run_accepted(sheet: &[u8], limit: u64, table: &mut [u32]) -> Ran
+    requires { ⌜ Accepted (now sheet) ⌝ }
+    ensures { λ r. ⌜ (said r ≡ runAnswer (now (sheet .entry)) limit (now (table .entry)))
+        × (now (table .exit) ≡ tableAfter (now (sheet .entry)) limit (now (table .entry))) ⌝ }
+{
+    if lent_table::wrong_length(sheet, table) {
+        return Ran::Refused(Fault::State(21));
+    }
+    let at = sections::find_sections(sheet);
+    run_answer::status(execution::run_accepted(sheet, at, limit, table))
+}
+
+// Runs a sheet for at most `limit` rounds.
+fn run_rounds(sheet: &[u8], limit: u64, table: &mut [u32]) -> Ran
+    ensures { λ r. ⌜ (said r ≡ runAnswer (now (sheet .entry)) limit (now (table .entry)))
+        × (now (table .exit) ≡ tableAfter (now (sheet .entry)) limit (now (table .entry))) ⌝ }
+{
+    let judged = judge::judge(sheet);
+    match judged {
+        Judged::Refused(fault) => Ran::Refused(fault),
+        Judged::Accepted => run_accepted(sheet, limit, table),
+    }
+}
 
 // Runs a sheet to its end: the answer, and every word of the table afterwards. Where the sheet is accepted and the table has the right length, the
 // run has ended, its counts are small and its distances are shortest.
@@ -21,7 +48,7 @@ pub fn run(sheet: &[u8], table: &mut [u32]) -> Ran
         × (Accepted (now (sheet .entry)) → length (now (table .entry)) ≡ tableLength (nodeCount (now (sheet .entry)))
         → Delivered (now (sheet .entry)) enoughRounds (now (table .exit)) × (said r ≡ ended)) ⌝ }
 {
-    run_rounds::run_rounds(sheet, ENOUGH_ROUNDS, table)
+    run_rounds(sheet, ENOUGH_ROUNDS, table)
 }
 
 // Runs a sheet for at most so many rounds: the answer, and every word of the table afterwards. Where the sheet is accepted and the table has the
@@ -32,5 +59,5 @@ pub fn run_limited(sheet: &[u8], rounds: u32, table: &mut [u32]) -> Ran
         × (Accepted (now (sheet .entry)) → length (now (table .entry)) ≡ tableLength (nodeCount (now (sheet .entry)))
         → Delivered (now (sheet .entry)) rounds (now (table .exit))) ⌝ }
 {
-    run_rounds::run_rounds(sheet, rounds as u64, table)
+    run_rounds(sheet, rounds as u64, table)
 }

@@ -7,8 +7,8 @@ use Rattle.sheet.specs.Answer.{ended, paused}
 use Rattle.refusals.proofs.Accepted.{front-there}
 use Rattle.answers.proofs.Outcome.{right-length, refused-table, made}
 use Rattle.lent_table.proofs.Fitted.{table-fits}
-use Rattle.run_rounds.proofs.run_accepted.Statement.{statement}
-use Rattle.run_rounds.proofs.run_accepted.Tie as tie
+use Rattle.run.proofs.run_accepted.Statement.{statement}
+use Rattle.run.proofs.run_accepted.Tie as tie
 
 wrong-length-requires : tie.Need-wrong-length-requires
 wrong-length-requires c κs =

@@ -3,8 +3,8 @@ use borrow.Author.Needs.{needs}
 use mathlib.Core.Path.{sym, ap, _∙_}
 use Rattle.judge_answer.specs.Said.{said as judged-says}
 use Rattle.answers.proofs.Outcome.{refused-sheet}
-use Rattle.run_rounds.proofs.run_rounds.Statement.{statement}
-use Rattle.run_rounds.proofs.run_rounds.Tie as tie
+use Rattle.run.proofs.run_rounds.Statement.{statement}
+use Rattle.run.proofs.run_rounds.Tie as tie
 
 judge-requires : tie.Need-judge-requires
 judge-requires c κs = search needs
