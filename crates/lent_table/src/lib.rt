@@ -9,12 +9,10 @@ ghost use Rattle.lent_table.specs.Fitting.{Fitting, nodeBefore};
 use sheet::Arc;
 use sheet::Node;
 use sheet::Sections;
+use table_words::HEADER;
 
 // Unreached, and no arc.
 pub const NONE: u32 = 268435455;
-
-// How many words stand before those of node 0.
-pub const HEADER: usize = 9;
 
 // The label of a node.
 pub fn label_of(table: &[u32], v: Node) -> u32

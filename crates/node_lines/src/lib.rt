@@ -9,7 +9,7 @@ fn put_node_line(table: &[u32], v: usize, out: &mut [u8], at: usize) -> usize
     requires { ⌜ (tableLength v + 2 ≤ length (now table)) × Room (now out) at (nodeLine (now table) v) ⌝ }
     ensures { λ r. ⌜ Wrote (now (out .entry)) at (nodeLine (now (table .entry)) v) (now (out .exit)) r ⌝ }
 {
-    let word = 9 + 2 * v;
+    let word = table_words::HEADER + 2 * v;
     let distance = text::put_number(v as u64, out, at);
     let arc = table_fields::put_payload(table, word, out, distance);
     let line_end = table_fields::put_payload(table, word + 1, out, arc);

@@ -6,9 +6,7 @@ ghost use Rattle.procedure.specs.Table.{nodeWords, tableOf};
 ghost use Rattle.table_header.specs.Countable.{countsOf};
 ghost use Rattle.table.specs.Writable.{Listed, Writable};
 use counts::Counts;
-
-// How many words stand before those of the nodes.
-const HEADER: usize = 9;
+use table_words::HEADER;
 
 // Writes the label and the predecessor of each node, after the header.
 fn write_nodes(table: &mut [u32], labels: &[u32], predecessors: &[u32])

@@ -35,7 +35,7 @@ fn wrong_node(table: &[u32], arcs: u32, v: Node) -> bool
     requires { ⌜ tableLength (v .0 + 1) ≤ length (now table) ⌝ }
     ensures { λ r. ⌜ r ≡ wrongNode (now (table .entry)) arcs (v .0) ⌝ }
 {
-    let i = lent_table::HEADER + 2 * (v.0 as usize);
+    let i = table_words::HEADER + 2 * (v.0 as usize);
     if wrong_kind(table, i, 9) {
         return true;
     }

@@ -8,5 +8,5 @@ pub fn table_length(nodes: usize) -> usize
     requires { ⌜ nodes ≤ 1024 ⌝ }
     ensures { λ r. ⌜ r ≡ tableLength nodes ⌝ }
 {
-    9 + 2 * nodes
+    table_words::HEADER + 2 * nodes
 }

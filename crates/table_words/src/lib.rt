@@ -6,6 +6,9 @@ ghost use lib.ListN.{length};
 ghost use lib.Seq.{sets};
 ghost use Rattle.procedure.specs.Table.{tableWord, statusWord, countWords};
 
+// How many words of a table stand before those of the nodes.
+pub const HEADER: usize = 9;
+
 // The kinds of table words.
 const STATUS: u32 = 8;
 
