@@ -1,7 +1,7 @@
 // One region's turn in the division checker's pass from the last region back: the region hands its height and one more to its parent, which keeps the
 // largest.
 ghost use mathlib.Core.Path.{_≡_};
-ghost use mathlib.Core.Bool.{false};
+ghost use mathlib.Core.Bool.{true, false};
 ghost use Prim.Native.Nat.{max, _≤_, _<_};
 ghost use lib.ListN.{getD};
 ghost use Rattle.sheet.specs.Limits.{mostRegionWords};
@@ -29,12 +29,13 @@ fn hand_to(best: &mut [u16; 4096], r: Region, x: u16)
     best[i] = larger(best[i], x);
 }
 
-// The turn of region r: whether it is inner and holds 0. If not, it hands what it holds and one more to its parent. An inner one must hold 1 at least.
+// The turn of region r: whether it is inner and holds 0. If not, it hands what it holds and one more to its parent; if so, nothing is handed up.
 pub fn without_child(d: &[u8], best: &mut [u16; 4096], r: Region) -> bool
     requires { ⌜ (0 < r .0) × (r .0 ≤ words (now d)) × (words (now d) ≤ mostRegionWords) × (wrongParents (now d) ≡ false)
         × (getD (now best) (r .0) 0 < 65535) ⌝ }
     ensures { λ x. ⌜ (x ≡ holdsNone (now (d .entry)) (now (best .entry)) (r .0))
-        × (x ≡ false → now (best .exit) ≡ handedUp (now (d .entry)) (now (best .entry)) (r .0)) ⌝ }
+        × (x ≡ false → now (best .exit) ≡ handedUp (now (d .entry)) (now (best .entry)) (r .0))
+        × (x ≡ true → now (best .exit) ≡ now (best .entry)) ⌝ }
 {
     let i = r.0 as usize;
     let own = best[i];

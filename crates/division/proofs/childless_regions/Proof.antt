@@ -30,8 +30,9 @@ without-child-requires c κs =
 
 returns : tie.Need-returns Inv-loop μ-loop
 returns c =
-    let loop = c .before .before .before .before .loop in
-    let start = c .before .before .before .before .before .before in
+    let earlier = c .before .before .before .before in
+    let loop = earlier .loop in
+    let start = earlier .before .before in
     let none = sym (c .before .without-child .ensures .0) ∙ c .if1 .taken in (
       sym (found-childless _ (start .pre .1) (start .pre .0) (loop .best) (loop .r) (omega arith) (omega arith) (omega arith) (loop .inv .2) none),
       λ e. absurd (true≢false e),
@@ -45,8 +46,9 @@ loop-less c = omega arith
 
 loop-again : tie.Need-loop-again Inv-loop μ-loop
 loop-again c =
-    let loop = c .before .before .before .before .loop in
-    let start = c .before .before .before .before .before .before in
+    let earlier = c .before .before .before .before in
+    let loop = earlier .loop in
+    let start = earlier .before .before in
     let without-child = c .before .without-child in
     let some = sym (without-child .ensures .0) ∙ c .if1 .left in
     rw (without-child .ensures .1 (c .if1 .left)) (

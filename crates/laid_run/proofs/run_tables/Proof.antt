@@ -70,8 +70,9 @@ started c =
     let args = outset c .args in
     let pre = outset c .pre in
     let b = args .s .now in
-    let S = c .start .ensures (graphOf b) (divisionOf b) (args .lengths .now) (args .spans .now) (args .regions .now) (blank (pre .3)) (named .source-of .ensures)
-    (pre .2 .regions-all ∙ sym (division-regions b)) in
+    let source = named .source-of .ensures in
+    let count = pre .2 .regions-all ∙ sym (division-regions b) in
+    let S = c .start .ensures (graphOf b) (divisionOf b) (args .lengths .now) (args .spans .now) (args .regions .now) (blank (pre .3)) source count in
     (S .0, S .1 .represents, started-after (S .1))
 
 rounds-requires : tie.Need-rounds-requires

@@ -1,5 +1,5 @@
 -- `without_child` meets its contract: an inner region must hold 1 at least; any other hands up. Assumes nothing.
-use mathlib.Core.Path.{sym}
+use mathlib.Core.Path.{refl, sym}
 use mathlib.Core.Bool.{true≢false}
 use borrow.Author.Needs.{needs}
 use lib.ListN.{getD}
@@ -24,10 +24,11 @@ cast-least c = search needs
 
 returns : tie.Need-returns
 returns c =
-    let start = c .before .before .before .before .before in
+    let earlier = c .before .before .before .before in
+    let start = earlier .before in
     let own = getD (start .args .best .now) (start .args .r .0) 0 in
     let is-leaf = c .before .is-leaf in
-    (sym (rw (← is-leaf .ensures) (holds-none own (is-leaf .result) (c .if1 .taken))), λ e. absurd (true≢false e))
+    (sym (rw (← is-leaf .ensures) (holds-none own (is-leaf .result) (c .if1 .taken))), λ e. absurd (true≢false e), λ _. refl)
 
 parent-of-requires : tie.Need-parent-of-requires
 parent-of-requires c κs = search needs
@@ -46,6 +47,7 @@ returns-2 c =
     let is-leaf = earlier .is-leaf in (
       sym (rw (← is-leaf .ensures) (holds-one own (is-leaf .result) (c .before .before .before .if1 .left))),
       λ _. rw (← c .before .parent-of .ensures .0) (c .hand-to .ensures),
+      λ e. absurd (true≢false (sym e)),
     )
 
 pub without-child-spec : {M : Type 1} → statement M
