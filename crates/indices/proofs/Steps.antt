@@ -67,6 +67,16 @@ eq-or-ne m n = go (eqb m n) (λ t. eqb→eq m n t) (λ t. neqb→ne m n t)
 pub lt-or-le : (m n : ℕ) → (m < n) ⊎ (n ≤ m)
 lt-or-le m n = ⊎-elim (λ (t : T (ltb m n)). inl (ltb→lt m n t)) (λ (t : T (not (ltb m n))). inr (nltb→le m n t)) (T-or (ltb m n))
 
+-- BY CASES: the order of two numbers, whether they are equal, a truth value
+pub by-order {ℓ} : {P : Type ℓ} (m n : ℕ) → (m < n → P) → (n ≤ m → P) → P
+by-order m n below above = ⊎-elim below above (lt-or-le m n)
+
+pub by-equal {ℓ} : {P : Type ℓ} (m n : ℕ) → (m ≡ n → P) → (m ≢ n → P) → P
+by-equal m n same other = ⊎-elim same other (eq-or-ne m n)
+
+pub by-truth {ℓ} : {P : Type ℓ} (b : Bool) → (b ≡ true → P) → (b ≡ false → P) → P
+by-truth b holds fails = ⊎-elim holds fails (true-or-false b)
+
 -- what holds below n and of n holds below suc n
 pub below-suc {κ} : (P : ℕ → Type κ) (n : ℕ) → ((i : ℕ) → i < n → P i) → P n → (i : ℕ) → i < suc n → P i
 below-suc P n f p i l = ⊎-elim (λ (e : i ≡ n). rw e p) (λ (ne : i ≢ n). f i (omega arith)) (eq-or-ne i n)

@@ -1,11 +1,13 @@
 -- Laws of `any`, `all`, `count` and `lead`, in the forms that a loop asks: no index, one index more, a stop, the end. Assumes nothing.
 use Prim.Native.Nat.{ℕ, zero, suc, _+_, _<_, _≤_}
-use mathlib.Core.Bool.{Bool, true, false, cond, _&&_, _||_, true≢false, or-true, and-false}
+use mathlib.Core.Bool.{Bool, true, false, not, cond, _&&_, _||_, true≢false, or-true, and-false}
 use mathlib.Core.Path.{_≡_, refl, sym, ap, _∙_}
 use mathlib.Core.Logic.{⊎-elim}
 use native.Mathlib.Nat.{eq-or-lt-of-le, le-of-suc-le-suc, not-suc-le-zero}
 use native.Mathlib.Numerals.{add-one}
 use native.Mathlib.Omega.{arith}
+use borrow.Author.Tests.{eq-eqb}
+use lib.Dec.{eqb}
 use Rattle.indices.specs.Tests.{all, any, count, lead}
 
 -- TRUTH VALUES
@@ -16,6 +18,13 @@ or-left false b e = refl
 pub or-right : (a b : Bool) → a || b ≡ false → b ≡ false
 or-right true b e = absurd (true≢false e)
 or-right false b e = e
+
+pub neither : (a b : Bool) → a ≡ false → b ≡ false → a || b ≡ false
+neither a b ea eb = rw (ea, eb)
+
+-- a test that asks for another number does not apply
+pub right-kind : (x kind : ℕ) → x ≡ kind → not (eqb x kind) ≡ false
+right-kind x kind e = rw (eq-eqb x kind e)
 
 pub and-left : (a b : Bool) → a && b ≡ true → a ≡ true
 and-left true b e = refl

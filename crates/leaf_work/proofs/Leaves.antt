@@ -91,6 +91,14 @@ module _ {g : Graph} {d : Division} {t : Tables} {s : State} {winners : List ℕ
       pub leaf-head-in : v < 1024
       leaf-head-in = omega (arith, head-in, P .represents .tabled .ok .graph .few-nodes)
 
+-- arc a leads from u to v; x is the label of u, y the arc's length, and z the label of v
+pub record Weighed (arcRows lengths labels : List ℕ) (a u v x y z : ℕ) : Type 0 where
+  pub from : u ≡ rowTail arcRows a
+  pub to : v ≡ rowHead arcRows a
+  pub tail-label : x ≡ at labels u
+  pub arc-length : y ≡ at lengths a
+  pub head-label : z ≡ at labels v
+
 -- labels, predecessors and own keys are the fronts of arrays
 module _ {g : Graph} {d : Division} {t : Tables} (labels predecessors own : List ℕ) {keys winners : List ℕ} {c : Counts} {r : ℕ}
     (P : Processing g d t (stateIn g labels predecessors own keys c) winners r (processLeaf g d r (stateIn g labels predecessors own keys c)))
@@ -106,19 +114,23 @@ module _ {g : Graph} {d : Division} {t : Tables} (labels predecessors own : List
         omega (arith, inside, P .represents .fed, length-take (g .nodes) predecessors),
       )
 
-  -- x is the label of the tail u, y the arc's length, and z the label of the head v
-  module _ {u v x y z : ℕ} (from : u ≡ rowTail (t .arcRows) a) (to : v ≡ rowHead (t .arcRows) a) (ex : x ≡ at labels u) (ey : y ≡ at (t .lengths) a)
-      (ez : z ≡ at labels v) where
+  module _ {u v x y z : ℕ} (w : Weighed (t .arcRows) (t .lengths) labels a u v x y z) where
     is-sum : x + y ≡ sumBy g (arcOf d r) s
     is-sum =
-        rw (ex, ← getD-take (g .nodes) labels u 0 (tail-in P leaf row from), ey, P .represents .tabled .lengths a (arc-in P leaf row), is-tail P leaf row from)
+        rw (
+          w .tail-label,
+          ← getD-take (g .nodes) labels u 0 (tail-in P leaf row (w .from)),
+          w .arc-length,
+          P .represents .tabled .lengths a (arc-in P leaf row),
+          is-tail P leaf row (w .from),
+        )
         (ap (λ (b : ℕ). at (take (g .nodes) labels) (tail g b) + len g b) (is-arc P leaf row))
 
     is-head-of : v ≡ head g (arcOf d r)
-    is-head-of = is-head P leaf row to ∙ ap (head g) (is-arc P leaf row)
+    is-head-of = is-head P leaf row (w .to) ∙ ap (head g) (is-arc P leaf row)
 
     is-label : z ≡ label s (head g (arcOf d r))
-    is-label = ez ∙ sym (getD-take (g .nodes) labels v 0 (head-in P leaf row to)) ∙ ap (at (take (g .nodes) labels)) is-head-of
+    is-label = w .head-label ∙ sym (getD-take (g .nodes) labels v 0 (head-in P leaf row (w .to))) ∙ ap (at (take (g .nodes) labels)) is-head-of
 
     -- where the sum is not below the head's label, the leaf's key alone changes
     pub leaf-stays : z ≤ x + y → {n : Counts} → n ≡ leafCounted c (c .updates)
@@ -147,16 +159,16 @@ module _ {g : Graph} {d : Division} {t : Tables} (labels predecessors own : List
       leaf-asks = record {
         updatable = updatable (P .represents);
         links = P .represents .tabled .links;
-        in-range = head-in P leaf row to;
-        small = rw (is-head-of, is-sum, ← ap (λ (w : State). w .queues .updates) is-lowered) (P .small .updates);
+        in-range = head-in P leaf row (w .to);
+        small = rw (is-head-of, is-sum, ← ap (λ (s : State). s .queues .updates) is-lowered) (P .small .updates);
       }
 
       -- labels and predecessors as the code writes them
       label-written : take (g .nodes) (set labels v (x + y)) ≡ set (take (g .nodes) labels) v (x + y)
-      label-written = take-set-lt (g .nodes) labels v (x + y) (head-in P leaf row to)
+      label-written = take-set-lt (g .nodes) labels v (x + y) (head-in P leaf row (w .to))
 
       predecessor-written : take (g .nodes) (set predecessors v a) ≡ set (take (g .nodes) predecessors) v a
-      predecessor-written = take-set-lt (g .nodes) predecessors v a (head-in P leaf row to)
+      predecessor-written = take-set-lt (g .nodes) predecessors v a (head-in P leaf row (w .to))
 
       abbrev withQueues : Queues → State
       withQueues q = record {

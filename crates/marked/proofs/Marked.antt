@@ -29,6 +29,12 @@ use Rattle.answers.specs.Tables.{tableLength, wrongLength, labelsIn, predecesso
 use Rattle.answers.specs.Runs.{runRefusals, runAnswer, runTable, tableAfter}
 use Rattle.answers.specs.Routes.{nodeOutside, wrongNode, isPaused, malformed, notShortest, tableRefusals, routeRefusals, routeTo, foundRoute}
 use Rattle.answers.specs.Routes.{routeAnswer, leftBy, bufferAfter}
+use Rattle.sheet.specs.Sections.{nodeCount}
+use Rattle.text.specs.Text.{ascii, lastDigits, decimal}
+use Rattle.table_fields.specs.Fields.{field, spaced}
+use Rattle.status_line.specs.StatusLine.{status, counted, statusLine}
+use Rattle.node_lines.specs.NodeLines.{nodeLine, nodeLines}
+use Rattle.listing.specs.Listing.{listingOf}
 
 -- a call: to judge a sheet, given by its words; to run it for at most so many rounds, with a table lent; to read the route to a node out of a table, with
 -- a buffer lent
@@ -36,6 +42,7 @@ pub data Call : Type 0 where
   judge : List ℕ → Call
   run : List ℕ → ℕ → List ℕ → Call
   readRoute : List ℕ → List ℕ → ℕ → List ℕ → Call
+  print : List ℕ → Call
 
 -- what comes of it: the answer, and the words of what was lent
 record Outcome : Type 0 where
@@ -45,6 +52,8 @@ record Outcome : Type 0 where
 abbrev outcome : Call → Outcome
 outcome (judge ws) = record { answer = judgement (bytesOf ws); words = [] }
 outcome (run ws k table) = record { answer = runAnswer (bytesOf ws) k table; words = tableAfter (bytesOf ws) k table }
+outcome (print ws) =
+    let b = bytesOf ws in record { answer = judgement b; words = listingOf (runTable b enoughRounds) (nodeCount b) }
 outcome (readRoute ws table node buffer) =
     record { answer = routeAnswer (bytesOf ws) table node buffer; words = bufferAfter (bytesOf ws) table node buffer }
 
@@ -93,6 +102,7 @@ rows =
     ∷ judge oneNode is accepted
     -- "A to its end, as printed."
     ∷ run hallA enoughRounds (blank 4) is ended leaving finishedA 0x90000008
+    ∷ print hallA is accepted leaving ascii "ended rounds 3 leaves 5 inner 6 updates 13\n0 0 -\n1 3 2\n2 1 1\n3 8 3\n"
     -- "A, k = 1: paused; counts 1, 2, 2, 8; labels 0, 4, unreached, 9."
     ∷ run hallA 1 (blank 4) is paused leaving (
     0x80000000 ∷ 0xb0000000 ∷ 0xb0000001 ∷ 0xb0000000 ∷ 0xb0000002 ∷ 0xb0000000 ∷ 0xb0000002 ∷ 0xb0000000 ∷ 0xb0000008
@@ -110,6 +120,7 @@ rows =
     )
     -- "Without its third word: 14."
     ∷ judge (0x10000001 ∷ 0x20000000 ∷ []) is refused (input 14)
+    ∷ run (0x10000001 ∷ 0x20000000 ∷ []) enoughRounds (7 ∷ 8 ∷ []) is refused (input 14) leaving (7 ∷ 8 ∷ [])
     -- "Node count 0: 4. 1,024 keeps the limit, 1,025: 4."
     ∷ judge (nodes 0x10000000) is refused (input 4)
     ∷ judge (nodes 0x10000400) is accepted
@@ -139,4 +150,5 @@ unfolding any count lead most upTo times column word kind payload top spansFrom 
     countInner countRound processChild alive hasEnded processFor process start round after nodeWords tableOf wrongLength runRefusals runAnswer runTable
     tableAfter all labelsIn predecessorsIn followed leadsBack sourceTest unfedTest fedTest relaxedTest ledTest settled? nodeOutside wrongNode isPaused
     malformed notShortest tableRefusals routeRefusals routeTo foundRoute routeAnswer leftBy bufferAfter
+    lastDigits decimal field spaced status counted statusLine nodeLine nodeLines listingOf
 marked = refl

@@ -1,4 +1,4 @@
--- The code of a call's answer says the answer: below 16 every refusal is the input's, from 16 to 99 the state's. Assumes nothing.
+-- The code of a call's answer says the answer: below 16 every refusal is the input's, from 16 to 99 the state's.
 use Prim.Native.Nat.{ℕ, _+_, _-_}
 use native.Mathlib.Omega.{arith}
 use mathlib.Core.Bool.{Bool, true, false, cond, not, _&&_}
@@ -12,8 +12,8 @@ use Rattle.indices.proofs.Tests.{and-left, and-right}
 use Rattle.sheet.specs.Words.{top}
 use Rattle.sheet.specs.Answer.{Refusal, input, state, Answer, accepted, ended, paused, route, noRoute, refused, Case, lowest}
 use Rattle.refusals.specs.Judgement.{formRefusals, countRefusals, arcRefusals, divisionRefusals, refusals, judgement}
-use Rattle.answers.specs.Tables.{labelIn}
-use Rattle.answers.specs.Runs.{endedAfter, runRefusals, runAnswer}
+use Rattle.answers.specs.Tables.{statusIn, labelIn}
+use Rattle.answers.specs.Runs.{runRefusals, runAnswer, runTable}
 use Rattle.answers.specs.Routes.{tableRefusals, routeRefusals, routeTo, foundRoute, routeAnswer}
 use Rattle.codes.specs.Codes.{codeOf, answerOf}
 
@@ -71,7 +71,7 @@ judge-told b = lowest-told (refusals b) accepted refl refl
 
 pub run-told : (b : List ℕ) (k : ℕ) (table : List ℕ) → Told (runAnswer b k table)
 unfolding runAnswer runRefusals refusals formRefusals countRefusals arcRefusals divisionRefusals answerOf
-run-told b k table = lowest-told (runRefusals b table) _ refl (at (endedAfter b k))
+run-told b k table = lowest-told (runRefusals b table) _ refl (at (eqb (statusIn (runTable b k)) 1))
   where
     at : (over : Bool) → Told (if over then ended else paused)
     at true = refl

@@ -5,7 +5,7 @@ ghost use Rattle.sheet.specs.Sections.{nodeCount};
 ghost use Rattle.sheet.specs.Answer.{ended};
 ghost use Rattle.refusals.specs.Judgement.{judgement, Accepted};
 ghost use Rattle.procedure.specs.Procedure.{enoughRounds};
-ghost use Rattle.answers.specs.Tables.{tableLength};
+ghost use Rattle.answers.specs.Tables.{tableLength, statusIn};
 ghost use Rattle.answers.specs.Runs.{runAnswer, tableAfter, Delivered};
 ghost use Rattle.answers.specs.Routes.{routeAnswer, bufferAfter, TableKnown};
 ghost use Rattle.codes.specs.Codes.{codeOf};
@@ -25,7 +25,7 @@ pub extern "C" fn pigrozk_run(sheet: &[u8], table: &mut [u32]) -> u32
     ensures { λ r. ⌜ (r ≡ codeOf (runAnswer (now (sheet .entry)) enoughRounds (now (table .entry))))
         × (now (table .exit) ≡ tableAfter (now (sheet .entry)) enoughRounds (now (table .entry)))
         × (Accepted (now (sheet .entry)) → length (now (table .entry)) ≡ tableLength (nodeCount (now (sheet .entry)))
-        → Delivered (now (sheet .entry)) enoughRounds (now (table .exit)) × (r ≡ codeOf ended)) ⌝ }
+        → Delivered (now (sheet .entry)) enoughRounds (now (table .exit)) × (r ≡ codeOf ended) × (statusIn (now (table .exit)) ≡ 1)) ⌝ }
 {
     codes::ran_code(run::run(sheet, table))
 }

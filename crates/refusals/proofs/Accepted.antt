@@ -1,9 +1,8 @@
 -- What an accepted sheet ensures: none of the refusals applies to it. Assumes nothing.
-use Prim.Native.Nat.{ℕ, suc, _<_, _≤_}
+use Prim.Native.Nat.{ℕ, _<_, _≤_}
 use mathlib.Core.Bool.{Bool, true, false, _||_}
 use mathlib.Core.List.{List}
 use mathlib.Core.Path.{_≡_}
-use native.Mathlib.Omega.{arith}
 use lib.Dec.{eqb}
 use Rattle.indices.specs.Tests.{count}
 use Rattle.indices.proofs.Tests.{or-left, or-right}
@@ -14,10 +13,9 @@ use Rattle.sheet.specs.Arcs.{tail, head, arcLength}
 use Rattle.sheet.specs.Heights.{Nesting}
 use Rattle.sheet.specs.Regions.{regionCount, leafWord, arcWord, isLeaf, parent, height}
 use Rattle.sheet.proofs.Lowest.{clear-at}
-use Rattle.sheet.proofs.Heights.{child-lower, root-highest}
 use Rattle.refusals.specs.Form.{outOfOrder, nodesOutside, sourceOutside, spansOutside, tooMany}
 use Rattle.refusals.specs.Fields.{endsOutside, lengthsOutside, endsAt, crowdedNodes, tooManyAtNode}
-use Rattle.refusals.specs.Nesting.{wrongParents, leafOfArc, wrongLeaves, childOf, childlessRegions, spansDiffer}
+use Rattle.refusals.specs.Nesting.{wrongParents, leafOfArc, wrongLeaves, childlessRegions, spansDiffer}
 use Rattle.refusals.specs.Judgement.{formRefusals, countRefusals, arcRefusals, divisionRefusals, refusals, judgement, Accepted}
 use Rattle.refusals.proofs.Parents as parents
 use Rattle.refusals.proofs.Clear as clear
@@ -64,10 +62,6 @@ module _ (b : List ℕ) (ok : Accepted b) where
 
   pub region-kinds : (k : ℕ) → k < words (regionWords b) → eqb (kind (regionWords b) k) 6 || eqb (kind (regionWords b) k) 7 ≡ true
   region-kinds = clear.region-kinds b (none .order)
-
-  -- nodes and source
-  pub some-nodes : 0 < nodeCount b
-  some-nodes = clear.some-nodes b (none .nodes)
 
   pub few-nodes : nodeCount b ≤ mostNodes
   few-nodes = clear.few-nodes b (none .nodes)
@@ -122,18 +116,6 @@ module _ (b : List ℕ) (ok : Accepted b) where
   pub one-leaf : (a : ℕ) → a < arcCount b → count (leafOfArc (regionWords b) a) (words (regionWords b)) ≡ 1
   one-leaf = clear.one-leaf (regionWords b) (arcCount b) (none .leaves)
 
-  -- every inner region but 0 has a child
-  pub has-child : (k : ℕ) → k < words (regionWords b) → leafWord (regionWords b) k ≡ false → 0 < count (childOf (regionWords b) (suc k)) (words (regionWords b))
-  has-child = clear.has-child (regionWords b) (none .children)
-
   -- spans are as many as region 0's height, heights fall from parent to child, and none is above 15
   pub spans-height : spanCount b ≡ height (regionWords b) 0
   spans-height = clear.spans-height (regionWords b) (spanCount b) (none .height)
-
-  pub height-falls : (r : ℕ) → 0 < r → r < regionCount (regionWords b) → height (regionWords b) r < height (regionWords b) (parent (regionWords b) r)
-  height-falls = child-lower _ _ _ nesting
-
-  pub height-most : (r : ℕ) → r < regionCount (regionWords b) → height (regionWords b) r ≤ mostSpans
-  height-most r l =
-      let d = regionWords b in
-      omega (arith, root-highest (isLeaf d) (parent d) (regionCount d) nesting r l, spans-height, few-spans)

@@ -1,10 +1,10 @@
 -- What it means of a sheet that a refusal does not apply to it, refusal by refusal. Assumes nothing.
-use Prim.Native.Nat.{ℕ, suc, _%_, _<_, _≤_}
+use Prim.Native.Nat.{ℕ, _%_, _<_, _≤_}
 use mathlib.Core.Bool.{Bool, true, false, not, _||_}
 use mathlib.Core.List.{List}
 use mathlib.Core.Logic.{⊎-elim}
 use mathlib.Core.Path.{_≡_}
-use borrow.Author.Tests.{ltb-false, leb-false, eqb-true, eqb-false, ne-eqb, not-false}
+use borrow.Author.Tests.{ltb-false, leb-false, eqb-true, ne-eqb, not-false}
 use native.Mathlib.Omega.{arith}
 use lib.ListN.{length}
 use lib.Dec.{ltb, leb, eqb}
@@ -18,7 +18,7 @@ use Rattle.sheet.specs.Arcs.{tail, head, arcLength, endOf}
 use Rattle.sheet.specs.Regions.{leafWord, arcWord, height}
 use Rattle.refusals.specs.Form.{wrongSize, wrongFront, noRegionWord, outOfOrder, nodesOutside, sourceOutside, spanOutside, spansOutside, tooMany}
 use Rattle.refusals.specs.Fields.{endOutside, endsOutside, tooLong, lengthsOutside, endsAt, crowded, crowdedNodes}
-use Rattle.refusals.specs.Nesting.{noSuchArc, leafOfArc, notOneLeaf, wrongLeaves, childOf, childless, childlessRegions, spansDiffer}
+use Rattle.refusals.specs.Nesting.{noSuchArc, leafOfArc, notOneLeaf, wrongLeaves, spansDiffer}
 
 module _ (b : List ℕ) where
   -- 1. a sheet of the right size has few words
@@ -39,11 +39,6 @@ module _ (b : List ℕ) where
   region-kinds ok k l =
       not-false (eqb (kind (regionWords b) k) 6 || eqb (kind (regionWords b) k) 7)
       (any-at (noRegionWord (regionWords b)) (words (regionWords b)) k (or-right (wrongFront b) _ ok) l)
-
-  -- 4 and 5. nodes and source
-  pub some-nodes : nodesOutside b ≡ false → 0 < nodeCount b
-  unfolding nodesOutside
-  some-nodes ok = ltb-false (nodeCount b) 1 (or-left (ltb (nodeCount b) 1) _ ok)
 
   pub few-nodes : nodesOutside b ≡ false → nodeCount b ≤ mostNodes
   unfolding nodesOutside
@@ -116,14 +111,6 @@ module _ (d : List ℕ) where
   one-leaf arcs ok a l =
       let here = any-at (notOneLeaf d) arcs a (or-right (any (noSuchArc d arcs) (words d)) _ ok) l in
       eqb-true (count (leafOfArc d a) (words d)) 1 (not-false (eqb (count (leafOfArc d a) (words d)) 1) here)
-
-  -- 13. every inner region but 0 has a child
-  pub has-child : childlessRegions d ≡ false → (k : ℕ) → k < words d → leafWord d k ≡ false → 0 < count (childOf d (suc k)) (words d)
-  unfolding childlessRegions
-  has-child ok k l inner =
-      let here = any-at (childless d) (words d) k ok l in
-      let some = eqb-false (count (childOf d (suc k)) (words d)) 0 (rw inner at here) in
-      omega arith
 
   -- 14. there are as many spans as region 0 is high
   pub spans-height : (spans : ℕ) → spansDiffer d spans ≡ false → spans ≡ height d 0

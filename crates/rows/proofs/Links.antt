@@ -12,9 +12,6 @@ use lib.Seq.{getD-set-other}
 use Rattle.indices.specs.Columns.{at}
 use Rattle.indices.specs.Steps.{upTo}
 use Rattle.indices.proofs.Steps.{eq-or-ne, set-elim}
-use Rattle.procedure.specs.Division.{Division}
-use Rattle.procedure.specs.State.{Queues}
-use Rattle.procedure.specs.Queues.{updateArc, updateOutgoing}
 use Rattle.rows.specs.Rows.{field, rowCount, rowTail, rowNext}
 use Rattle.rows.specs.Links.{nextFor, nextFrom, Links, stepAt, Linkable, Linked}
 use Rattle.rows.proofs.Filled.{filled-at, filled-length}
@@ -183,12 +180,6 @@ module _ (column column′ : ℕ → ℕ) where
     firsts = λ v l. L .firsts v l ∙ sym (for-same v (m - 0) 0 (λ i h k. same i (omega arith)));
     nexts = λ a l. rw (same a l) (L .nexts a l ∙ sym (for-same (column a) (m - (a + 1)) (a + 1) (λ i h k. same i (omega arith))));
   }
-
--- the steps of a walk over the tails are the update of a node's outgoing arcs
-pub outgoing-steps : (d : Division) (tails : List ℕ) (v k : ℕ) (q : Queues)
-    → upTo (length tails) (stepAt (at tails) v (λ a. updateArc d a k)) q ≡ updateOutgoing d tails v k q
-unfolding updateOutgoing
-outgoing-steps d tails v k q = refl
 
 -- LINKS FILLED FROM THE BACK
 

@@ -10,7 +10,7 @@ use Rattle.sheet.specs.Sections.{nodeCount}
 use Rattle.sheet.specs.Answer.{Answer, ended, paused}
 use Rattle.refusals.specs.Judgement.{Accepted}
 use Rattle.procedure.specs.Procedure.{enoughRounds}
-use Rattle.answers.specs.Tables.{tableLength}
+use Rattle.answers.specs.Tables.{tableLength, statusIn}
 use Rattle.answers.specs.Runs.{runAnswer, tableAfter, Delivered}
 use Rattle.answers.proofs.Outcome.{made}
 use Rattle.runs.proofs.Delivered.{delivered, run-ends}
@@ -22,8 +22,9 @@ module _ (b : List ℕ) (ok : Accepted b) where
 
   -- the table at exit and the answer of the run to its end
   pub ended-run : (table : List ℕ) {table′ : List ℕ} {answer : Answer} → length table ≡ tableLength (nodeCount b)
-      → answer ≡ runAnswer b enoughRounds table → table′ ≡ tableAfter b enoughRounds table → Delivered b enoughRounds table′ × (answer ≡ ended)
+      → answer ≡ runAnswer b enoughRounds table → table′ ≡ tableAfter b enoughRounds table → Delivered b enoughRounds table′ × (answer ≡ ended) × (statusIn table′ ≡ 1)
   ended-run table room says e = (
     left-table enoughRounds table room e,
     says ∙ sym (made b enoughRounds table ok room .0) ∙ ap (λ (x : Bool). if x then ended else paused) (run-ends b ok),
+    left-table enoughRounds table room e .status ∙ ap (λ (x : Bool). if x then 1 else 0) (run-ends b ok),
   )

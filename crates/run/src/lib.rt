@@ -5,7 +5,7 @@ ghost use Rattle.sheet.specs.Sections.{nodeCount};
 ghost use Rattle.sheet.specs.Answer.{ended};
 ghost use Rattle.refusals.specs.Judgement.{Accepted};
 ghost use Rattle.procedure.specs.Procedure.{enoughRounds};
-ghost use Rattle.answers.specs.Tables.{tableLength};
+ghost use Rattle.answers.specs.Tables.{tableLength, statusIn};
 ghost use Rattle.answers.specs.Runs.{runAnswer, tableAfter, Delivered};
 ghost use Rattle.run_answer.specs.Said.{said};
 use judge::Judged;
@@ -46,7 +46,7 @@ pub fn run(sheet: &[u8], table: &mut [u32]) -> Ran
     ensures { λ r. ⌜ (said r ≡ runAnswer (now (sheet .entry)) enoughRounds (now (table .entry)))
         × (now (table .exit) ≡ tableAfter (now (sheet .entry)) enoughRounds (now (table .entry)))
         × (Accepted (now (sheet .entry)) → length (now (table .entry)) ≡ tableLength (nodeCount (now (sheet .entry)))
-        → Delivered (now (sheet .entry)) enoughRounds (now (table .exit)) × (said r ≡ ended)) ⌝ }
+        → Delivered (now (sheet .entry)) enoughRounds (now (table .exit)) × (said r ≡ ended) × (statusIn (now (table .exit)) ≡ 1)) ⌝ }
 {
     run_rounds(sheet, ENOUGH_ROUNDS, table)
 }

@@ -1,27 +1,30 @@
--- Every table that a run of an accepted sheet leaves: its counts are small and read as they are, and where it is left as ended it is shortest; and the
--- run to its end has ended. Assumes nothing.
+-- Every table that a run of an accepted sheet leaves says what its rounds have reached, with small counts and labels, and where it is left as ended it is
+-- shortest; and the run to its end has ended.
 use Prim.Native.Nat.{ℕ, zero, suc, _^_, _≤_, _<_}
 use mathlib.Core.Bool.{Bool, true, false}
 use mathlib.Core.Path.{_≡_, refl, sym, _∙_}
+use mathlib.Core.Logic.{_⊎_}
 use mathlib.Core.List.{List}
 use native.Mathlib.Omega.{arith}
 use lib.ListN.{length}
 use Rattle.indices.specs.Columns.{at}
 use Rattle.indices.specs.Steps.{if_then_else_}
 use Rattle.sheet.specs.Limits.{mostArcsEachWay}
+use Rattle.sheet.specs.Words.{top}
 use Rattle.sheet.specs.Sections.{nodeCount}
 use Rattle.refusals.specs.Judgement.{Accepted}
 use Rattle.procedure.specs.OfSheet.{graphOf, divisionOf, spansOf}
 use Rattle.procedure.specs.State.{counts}
 use Rattle.procedure.specs.Procedure.{enoughRounds, final}
+use Rattle.procedure.specs.Table.{largestLabel}
 use Rattle.procedure.specs.WellFormed.{WellFormed}
 use Rattle.procedure.proofs.OfSheet.{graph-nodes}
 use Rattle.procedure.proofs.WellFormed.{accepted-well-formed}
-use Rattle.theory.proofs.Final.{after-shape, label-word, predecessor-word, final-ended}
+use Rattle.theory.proofs.Final.{after-shape, label-fits, label-word, predecessor-word, final-ended}
 use Rattle.theory.proofs.Distances.{ended-shortest, counts-fit}
-use Rattle.answers.specs.Tables.{statusIn, countIn, labelsIn, predecessorsIn}
+use Rattle.answers.specs.Tables.{statusIn, countIn, labelIn, labelsIn, predecessorsIn}
 use Rattle.answers.specs.Runs.{stateAfter, endedAfter, runTable, Delivered}
-use Rattle.answers.proofs.Reading.{status-in, count-in, labels-in, predecessors-in}
+use Rattle.answers.proofs.Reading.{status-in, count-in, label-in, labels-in, predecessors-in}
 
 -- a status of 1 is 'ended'
 status-ended : (b : Bool) → _≡_ {A = ℕ} (if b then 1 else 0) 1 → b ≡ true
@@ -58,26 +61,38 @@ module _ (b : List ℕ) (ok : Accepted b) where
     counts-small (suc (suc (suc (suc i)))) l = absurd (omega arith)
 
     -- what is read out of the table is the state after at most k rounds
-    pub table-labels : labelsIn (nodeCount b) (runTable b k) ≡ stateAfter b k .labels
+    pub table-status : statusIn (runTable b k) ≡ (if endedAfter b k then 1 else 0)
     unfolding runTable
-    table-labels = labels-in (endedAfter b k) _ _ _ _ (stateAfter b k .labels) _ (nodeCount b) labels-all label-small
-
-    pub table-predecessors : predecessorsIn (nodeCount b) (runTable b k) ≡ stateAfter b k .predecessors
-    unfolding runTable
-    table-predecessors = predecessors-in (endedAfter b k) _ _ _ _ _ (stateAfter b k .predecessors) (nodeCount b) predecessors-all predecessor-small
+    table-status = status-in (endedAfter b k) (stateAfter b k) (nodeCount b)
 
     table-ended : statusIn (runTable b k) ≡ 1 → endedAfter b k ≡ true
-    unfolding runTable
-    table-ended e = status-ended (endedAfter b k) (sym (status-in (endedAfter b k) _ _ _ _ _ _ (nodeCount b)) ∙ e)
+    table-ended e = status-ended (endedAfter b k) (sym table-status ∙ e)
 
     table-counts : (i : ℕ) → i < 4 → countIn (runTable b k) i ≡ at (counts (stateAfter b k)) i
     unfolding runTable
-    table-counts i l = count-in (endedAfter b k) _ _ _ _ _ _ (nodeCount b) i l (counts-small i l)
+    table-counts i l = count-in (endedAfter b k) (stateAfter b k) (nodeCount b) i l (counts-small i l)
+
+    pub table-labels : labelsIn (nodeCount b) (runTable b k) ≡ stateAfter b k .labels
+    unfolding runTable
+    table-labels = labels-in (endedAfter b k) (stateAfter b k) (nodeCount b) labels-all label-small
+
+    pub table-predecessors : predecessorsIn (nodeCount b) (runTable b k) ≡ stateAfter b k .predecessors
+    unfolding runTable
+    table-predecessors = predecessors-in (endedAfter b k) (stateAfter b k) (nodeCount b) predecessors-all predecessor-small
+
+    table-bounded : (v : ℕ) → v < nodeCount b → (labelIn (runTable b k) v ≡ top) ⊎ (labelIn (runTable b k) v ≤ largestLabel)
+    unfolding runTable
+    table-bounded v l =
+        rw (label-in (endedAfter b k) (stateAfter b k) (nodeCount b) v l (label-small v l) .1) (label-fits well k v (rw (graph-nodes b) l))
 
     pub delivered : Delivered b k (runTable b k)
     delivered = record {
-      small = counts-small;
+      status = table-status;
       halves = table-counts;
+      labels = table-labels;
+      predecessors = table-predecessors;
+      small = counts-small;
+      bounded = table-bounded;
       shortest = λ e. rw (table-labels, table-predecessors) (ended-shortest well k (table-ended e));
     }
 

@@ -1,19 +1,19 @@
--- A table that a run has left as ended is never refused with 22 to 24: the route reader answers by its search for the route. Assumes nothing.
+-- A table that a run has left as ended is never refused with 22 to 24: the route reader answers by its search for the route.
 use Prim.Native.Nat.{ℕ, _+_, _*_, _<_}
-use mathlib.Core.Bool.{Bool, true, false, not, _||_}
+use mathlib.Core.Bool.{true, false, not, _||_}
 use mathlib.Core.Path.{_≡_, refl, ap, _∙_}
 use mathlib.Core.Logic.{⊎-elim}
 use mathlib.Core.List.{List}
 use borrow.Author.Tests.{eq-eqb, lt-ltb, lt-leb}
 use lib.Dec.{ltb, eqb}
 use Rattle.indices.specs.Columns.{at}
-use Rattle.indices.specs.Steps.{if_then_else_}
-use Rattle.indices.proofs.Tests.{any-false}
+use Rattle.indices.proofs.Tests.{neither, or-if, right-kind, any-false}
 use Rattle.sheet.specs.Words.{top}
 use Rattle.sheet.specs.Sections.{nodeCount, arcCount}
 use Rattle.refusals.specs.Judgement.{Accepted}
 use Rattle.procedure.specs.Graph.{arcs}
 use Rattle.procedure.specs.OfSheet.{graphOf}
+use Rattle.procedure.specs.Table.{headerLength}
 use Rattle.procedure.proofs.OfSheet.{graph-nodes, graph-arcs}
 use Rattle.theory.proofs.Final.{predecessor-fits}
 use Rattle.theory.proofs.Distances.{ended-shortest}
@@ -21,70 +21,53 @@ use Rattle.answers.specs.Tables.{wrongLength, kindIn, statusIn, predecessorIn}
 use Rattle.answers.specs.Runs.{stateAfter, endedAfter, runTable}
 use Rattle.answers.specs.Routes.{nodeOutside, wrongNode, malformed, isPaused, notShortest, tableRefusals}
 use Rattle.answers.specs.Routes.{foundRoute, routeAnswer}
-use Rattle.answers.proofs.Reading.{table-long, status-in, status-kind, count-kind, label-kind, predecessor-kind, predecessor-in}
+use Rattle.answers.proofs.Reading.{table-long, status-kind, count-kind, label-in, predecessor-in}
 use Rattle.answers.proofs.Routes.{shortest-agrees, after-sheet}
-use Rattle.runs.proofs.Delivered.{well, label-small, predecessor-small, counts-small, table-labels, table-predecessors}
-
-right-kind : (x kind : ℕ) → x ≡ kind → not (eqb x kind) ≡ false
-right-kind x kind e = rw (eq-eqb x kind e)
-
-neither : (a b : Bool) → a ≡ false → b ≡ false → a || b ≡ false
-neither a b ea eb = rw (ea, eb)
-
-either : (x y : Bool) → y ≡ true → x || y ≡ true
-either true y e = refl
-either false y e = e
+use Rattle.runs.proofs.Delivered.{well, label-small, predecessor-small, counts-small, table-status, table-labels, table-predecessors}
 
 -- EVERY TABLE of a run
 module _ (b : List ℕ) (ok : Accepted b) (k : ℕ) where
   -- each word has the kind of its place
-  label-right : (v : ℕ) → v < nodeCount b → kindIn (runTable b k) (9 + 2 * v) ≡ 9
+  label-right : (v : ℕ) → v < nodeCount b → kindIn (runTable b k) (headerLength + 2 * v) ≡ 9
   unfolding runTable
-  label-right v l = label-kind (endedAfter b k) _ _ _ _ (stateAfter b k .labels) _ (nodeCount b) v l (label-small b ok k v l)
+  label-right v l = label-in (endedAfter b k) (stateAfter b k) (nodeCount b) v l (label-small b ok k v l) .0
 
-  predecessor-right : (v : ℕ) → v < nodeCount b → kindIn (runTable b k) (9 + 2 * v + 1) ≡ 10
+  predecessor-right : (v : ℕ) → v < nodeCount b
+      → (kindIn (runTable b k) (headerLength + 2 * v + 1) ≡ 10) × (predecessorIn (runTable b k) v ≡ at (stateAfter b k .predecessors) v)
   unfolding runTable
-  predecessor-right v l = predecessor-kind (endedAfter b k) _ _ _ _ _ (stateAfter b k .predecessors) (nodeCount b) v l (predecessor-small b ok k v l)
+  predecessor-right v l = predecessor-in (endedAfter b k) (stateAfter b k) (nodeCount b) v l (predecessor-small b ok k v l)
 
   count-right : (i : ℕ) → i < 8 → kindIn (runTable b k) (1 + i) ≡ 11
   unfolding runTable
-  count-right = count-kind (endedAfter b k) _ _ _ _ _ _ (nodeCount b) (counts-small b ok k)
+  count-right = count-kind (endedAfter b k) (stateAfter b k) (nodeCount b) (counts-small b ok k)
 
   first-right : kindIn (runTable b k) 0 ≡ 8
   unfolding runTable
-  first-right = status-kind (endedAfter b k) _ _ _ _ _ _ (nodeCount b)
+  first-right = status-kind (endedAfter b k) (stateAfter b k) (nodeCount b)
 
   -- each predecessor is an arc of the sheet, or none
-  predecessor-is : (v : ℕ) → v < nodeCount b → predecessorIn (runTable b k) v ≡ at (stateAfter b k .predecessors) v
-  unfolding runTable
-  predecessor-is v l = predecessor-in (endedAfter b k) _ _ _ _ _ (stateAfter b k .predecessors) (nodeCount b) v l (predecessor-small b ok k v l)
-
   arc-or-none : (v : ℕ) → v < nodeCount b → ltb (predecessorIn (runTable b k) v) (arcCount b) || eqb (predecessorIn (runTable b k) v) top ≡ true
   arc-or-none v l =
       let p = at (stateAfter b k .predecessors) v in
-      rw (predecessor-is v l)
+      rw (predecessor-right v l .1)
       (⊎-elim
-      (λ (none : p ≡ top). either (ltb p (arcCount b)) (eqb p top) (eq-eqb p top none))
+      (λ (none : p ≡ top). or-if (ltb p (arcCount b)) (eqb p top) (λ _. eq-eqb p top none))
       (λ (arc : p < arcs (graphOf b)). rw (lt-ltb p (arcCount b) (rw (graph-arcs b) at arc)) refl)
       (predecessor-fits (well b ok) k v (rw (graph-nodes b) l)))
 
   node-right : (v : ℕ) → v < nodeCount b → wrongNode (runTable b k) (arcCount b) v ≡ false
   unfolding wrongNode
   node-right v l =
-      neither _ _ (neither _ _ (right-kind _ 9 (label-right v l)) (right-kind _ 10 (predecessor-right v l))) (ap not (arc-or-none v l))
-
-  status-is : statusIn (runTable b k) ≡ (if endedAfter b k then 1 else 0)
-  unfolding runTable
-  status-is = status-in (endedAfter b k) _ _ _ _ _ _ (nodeCount b)
+      neither _ _ (neither _ _ (right-kind _ 9 (label-right v l)) (right-kind _ 10 (predecessor-right v l .0))) (ap not (arc-or-none v l))
 
   right-length : wrongLength b (runTable b k) ≡ false
   unfolding wrongLength runTable
-  right-length = right-kind _ _ (table-long (endedAfter b k) _ _ _ _ _ _ (nodeCount b))
+  right-length = right-kind _ _ (table-long (endedAfter b k) (stateAfter b k) (nodeCount b))
 
   -- A TABLE left as ended
   module _ (over : endedAfter b k ≡ true) where
     status-one : statusIn (runTable b k) ≡ 1
-    status-one = status-is ∙ rw over
+    status-one = table-status b ok k ∙ rw over
 
     right-form : malformed b (runTable b k) ≡ false
     unfolding malformed

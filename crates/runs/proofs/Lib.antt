@@ -3,3 +3,4 @@ pub mod Limited
 pub mod Halls
 pub mod Agree
 pub mod Finished
+pub mod Correct

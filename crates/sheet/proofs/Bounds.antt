@@ -40,10 +40,6 @@ region-words b two = omega (arith, length-drop (4 * regionsAt b) b, regions-insi
 pub arcs-few : (b : List ℕ) → arcCount b ≤ words b
 arcs-few b = omega (arith, arcs-le b (arcsAt b))
 
-pub regions-few : (b : List ℕ) → words (regionWords b) ≤ words b
-unfolding regionWords
-regions-few b = omega (arith, length-drop (4 * regionsAt b) b)
-
 -- a part to the end
 pub to-end : (b : List ℕ) (i : ℕ) → take (length b - i) (drop i b) ≡ drop i b
 to-end b i = take-all (length b - i) (drop i b) (omega (arith, length-drop i b))

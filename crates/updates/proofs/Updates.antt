@@ -18,6 +18,7 @@ use Rattle.procedure.specs.Graph.{Graph, arcs}
 use Rattle.procedure.specs.Division.{Division, regions, parent, arcOf, isLeaf, leafOf}
 use Rattle.procedure.specs.State.{Queues}
 use Rattle.procedure.specs.Queues.{minKey, write, update, updateArc, updateOutgoing}
+use Rattle.procedure.specs.WellFormed.{DivisionOk}
 use Rattle.theory.proofs.Chosen.{minKey-leaf}
 use Rattle.theory.proofs.Update.{write-leaf, write-inner, write-counts, update-grows, update-rises, update-stops, update-elim}
 use Rattle.theory.proofs.Outgoing.{arc-leaf-test, arc-updated}
@@ -28,6 +29,13 @@ use Rattle.rows.proofs.Links.{Walk, walk-start, walk-step, walk-end, walk-part,
 use Rattle.slices.specs.Tables.{ArcRows, ArcLinks}
 use Rattle.slices.specs.States.{queuesOf, queuesIn, Updating, Updatable, UpdatingArc, UpdatingOutgoing, Queued}
 
+-- every update is counted
+update-counts : {m : ℕ} {d : Division} → DivisionOk m d → (r x k : ℕ) (q : Queues) → r < regions d → suc (q .updates) ≤ update d r x k q .updates
+update-counts {d = d} ok r x k q lr =
+    let once = write-counts d r x k q in
+    update-elim ok (λ q′. suc (q .updates) ≤ q′ .updates) r x k q lr (λ pos fell. omega (arith, once, update-grows d (parent d r) r k (write d r x k q)))
+    (λ pos stays. omega (arith, once)) (λ root. omega (arith, once))
+
 -- AN ITEM OF AN INNER REGION
 module _ {d : Division} {rows own keys winners : List ℕ} {count r x k : ℕ} (U : Updating d rows (queuesOf own keys count) winners r x k) where
   pub region-in : r < regions d
@@ -36,17 +44,9 @@ module _ {d : Division} {rows own keys winners : List ℕ} {count r x k : ℕ} (
   pub region-inner : isLeaf d r ≡ false
   region-inner = ap (isLeaf d) (sym (U .under)) ∙ U .division .nesting .inner x (U .positive) (U .in-range)
 
-  -- an update is counted
-  counted : suc count ≤ update d r x k (queuesOf own keys count) .updates
-  counted =
-      let once = write-counts d r x k (queuesOf own keys count) in
-      update-elim (U .division) (λ q. suc count ≤ q .updates) r x k (queuesOf own keys count) region-in
-      (λ pos fell. omega (arith, once, update-grows d (parent d r) r k (write d r x k (queuesOf own keys count))))
-      (λ pos stays. omega (arith, once)) (λ root. omega (arith, once))
-
-  -- so the count fits
+  -- the count fits
   pub count-fits : count + 1 < 18446744073709551616
-  count-fits = omega (arith, counted, U .small)
+  count-fits = omega (arith, update-counts (U .division) r x k (queuesOf own keys count) region-in, U .small)
 
   -- the key is written, in valid queues
   module _ {winners′ : List ℕ} (W : QueuesOk d rows (set keys x k) winners′) where
@@ -121,17 +121,8 @@ module _ {g : Graph} {d : Division} {rows arcRows : List ℕ} {q : Queues} {winn
   unfolding updateArc
   by-leaf = refl
 
-  arc-counted : suc (q .updates) ≤ updateArc d a k q .updates
-  arc-counted =
-      let leaf = leafOf d a in
-      let once = write-counts d leaf leaf k q in
-      rw by-leaf
-      (update-elim (U .updatable .division) (λ q′. suc (q .updates) ≤ q′ .updates) leaf leaf k q leaf-in
-      (λ pos fell. omega (arith, once, update-grows d (parent d leaf) leaf k (write d leaf leaf k q)))
-      (λ pos stays. omega (arith, once)) (λ root. omega (arith, once)))
-
   pub arc-count-fits : q .updates + 1 < 18446744073709551616
-  arc-count-fits = omega (arith, arc-counted, U .small)
+  arc-count-fits = omega (arith, ap (λ (q : Queues). q .updates) by-leaf, update-counts (U .updatable .division) (leafOf d a) (leafOf d a) k q leaf-in, U .small)
 
   module _ {leaf : ℕ} (leaf-row : leaf ≡ rowLeaf arcRows a) where
     is-leaf : leaf ≡ leafOf d a

@@ -6,32 +6,8 @@ use native.Mathlib.Omega.{arith}
 use Rattle.arc_entries.proofs.enter_leaf.Statement.{statement}
 use Rattle.arc_entries.proofs.enter_leaf.Tie as tie
 
-leaf-word-requires : tie.Need-leaf-word-requires
-leaf-word-requires c κs = search needs
-
 returns : tie.Need-returns
 returns c = rw (sym (c .before .leaf-word .ensures) ∙ not-true (c .before .leaf-word .result) (c .if1 .taken))
-
-arc-word-requires : tie.Need-arc-word-requires
-arc-word-requires c κs = search needs
-
-cast-i : tie.Need-cast-i
-cast-i c = search needs
-
-mul-i : tie.Need-mul-i
-mul-i c = search needs
-
-add-i : tie.Need-add-i
-add-i c = search needs
-
-add-arcs : tie.Need-add-arcs
-add-arcs c = search needs
-
-cast-arcs : tie.Need-cast-arcs
-cast-arcs c = search needs
-
-mul-arcs : tie.Need-mul-arcs
-mul-arcs c = search needs
 
 slice-write-arcs : tie.Need-slice-write-arcs
 slice-write-arcs c =
@@ -39,9 +15,6 @@ slice-write-arcs c =
     let pre = c .before .before .before .before .before .before .pre in
     let leaf = sym (leaf-word .ensures) ∙ not-false (leaf-word .result) (c .before .before .if1 .left) in
     omega (arith, c .before .arc-word .ensures .0, pre .1 .below _ (pre .0) leaf)
-
-same-length : tie.Need-same-length
-same-length c = search needs
 
 returns-2 : tie.Need-returns-2
 returns-2 c =
@@ -52,15 +25,15 @@ pub enter-leaf-spec : {M : Type 1} → statement M
 enter-leaf-spec =
     tie.close
     (tie.spec
-    leaf-word-requires
+    (λ c κs. search needs)
     returns
-    arc-word-requires
-    cast-i
-    mul-i
-    add-i
-    add-arcs
-    cast-arcs
-    mul-arcs
+    (λ c κs. search needs)
+    (λ c. search needs)
+    (λ c. search needs)
+    (λ c. search needs)
+    (λ c. search needs)
+    (λ c. search needs)
+    (λ c. search needs)
     slice-write-arcs
-    same-length
+    (λ c. search needs)
     returns-2)

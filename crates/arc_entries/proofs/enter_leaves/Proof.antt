@@ -1,8 +1,9 @@
 -- `enter_leaves` meets its contract: the words passed are entered. Assumes nothing.
+use borrow.Author.Needs.{needs}
 use Prim.Native.Nat.{_-_}
 use native.Mathlib.Omega.{arith}
 use Rattle.sheet.specs.Words.{words}
-use Rattle.arc_entries.proofs.Leaves.{EnteringLeaves, leaves-none, leaves-ask, leaves-more, leaves-all}
+use Rattle.arc_entries.proofs.Leaves.{EnteringLeaves, leaves-ask, leaves-more, leaves-all}
 use Rattle.arc_entries.proofs.enter_leaves.Statement.{statement}
 use Rattle.arc_entries.proofs.enter_leaves.Tie as tie
 
@@ -12,20 +13,11 @@ Inv-loop d arcs₀ n k₀ arcs k = EnteringLeaves d arcs₀ arcs k
 abbrev μ-loop : tie.MeasureT-loop
 μ-loop d arcs₀ n k₀ arcs k = words d - k
 
-loop-holds : tie.Need-loop-holds Inv-loop μ-loop
-loop-holds c = leaves-none _ _
-
 enter-leaf-requires : tie.Need-enter-leaf-requires Inv-loop μ-loop
 enter-leaf-requires c κs =
     let earlier = c .before .before .before .before in
     let pre = earlier .before .pre in
     (omega arith, leaves-ask pre (c .before .before .loop .inv))
-
-add-k : tie.Need-add-k Inv-loop μ-loop
-add-k c = omega arith
-
-loop-less : tie.Need-loop-less Inv-loop μ-loop
-loop-less c = omega arith
 
 loop-again : tie.Need-loop-again Inv-loop μ-loop
 loop-again c =
@@ -36,9 +28,6 @@ loop-again c =
     let loop-test = earlier .loop-test in
     leaves-more pre (loop .inv) (loop-test .taken) _ (c .before .before .enter-leaf .ensures)
 
-same-length : tie.Need-same-length Inv-loop μ-loop
-same-length c = c .before .loop .inv .long
-
 returns : tie.Need-returns Inv-loop μ-loop
 returns c = leaves-all (c .before .loop .inv) (c .loop-test .left)
 
@@ -48,10 +37,10 @@ enter-leaves-spec =
     (tie.spec
     Inv-loop
     μ-loop
-    loop-holds
+    (λ c. search needs)
     enter-leaf-requires
-    add-k
-    loop-less
+    (λ c. omega arith)
+    (λ c. omega arith)
     loop-again
-    same-length
+    (λ c. search needs)
     returns)

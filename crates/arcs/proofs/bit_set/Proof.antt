@@ -17,9 +17,6 @@ Inv-loop s at arcs a₀ a = (a ≤ arcCount s) × (any (arcBits s) a ≡ false)
 abbrev μ-loop : tie.MeasureT-loop
 μ-loop s at arcs a₀ a = arcCount s - a
 
-cast-arcs : tie.Need-cast-arcs Inv-loop μ-loop
-cast-arcs c = omega arith
-
 loop-holds : tie.Need-loop-holds Inv-loop μ-loop
 loop-holds c = (omega arith, any-none _)
 
@@ -31,12 +28,6 @@ ends-at-requires c κs =
 returns : tie.Need-returns Inv-loop μ-loop
 returns c =
     sym (any-hit _ (c .before .before .before .loop .a) _ (omega arith) (rw (← c .before .ends-at .ensures) (le-leb _ _ (c .if1 .taken))))
-
-add-a : tie.Need-add-a Inv-loop μ-loop
-add-a c = omega arith
-
-loop-less : tie.Need-loop-less Inv-loop μ-loop
-loop-less c = omega arith
 
 loop-again : tie.Need-loop-again Inv-loop μ-loop
 loop-again c =
@@ -52,11 +43,11 @@ bit-set-spec =
     (tie.spec
     Inv-loop
     μ-loop
-    cast-arcs
+    (λ c. omega arith)
     loop-holds
     ends-at-requires
     returns
-    add-a
-    loop-less
+    (λ c. omega arith)
+    (λ c. omega arith)
     loop-again
     returns-2)

@@ -20,9 +20,6 @@ Inv-loop s at arcs outside₀ long₀ a₀ outside long a = (a ≤ arcCount s) �
 abbrev μ-loop : tie.MeasureT-loop
 μ-loop s at arcs outside₀ long₀ a₀ outside long a = arcCount s - a
 
-cast-arcs : tie.Need-cast-arcs Inv-loop μ-loop
-cast-arcs c = omega arith
-
 loop-holds : tie.Need-loop-holds Inv-loop μ-loop
 loop-holds c = (omega arith, sym (any-none _), sym (any-none _))
 
@@ -35,12 +32,6 @@ length-at-requires : tie.Need-length-at-requires Inv-loop μ-loop
 length-at-requires c κs =
     let entry = c .before .before .before .before in
     (entry .before .before .pre .0, omega arith)
-
-add-a : tie.Need-add-a Inv-loop μ-loop
-add-a c = omega arith
-
-loop-less : tie.Need-loop-less Inv-loop μ-loop
-loop-less c = omega arith
 
 loop-again : tie.Need-loop-again Inv-loop μ-loop
 loop-again c =
@@ -89,12 +80,12 @@ field-refusal-spec =
     (tie.spec
     Inv-loop
     μ-loop
-    cast-arcs
+    (λ c. omega arith)
     loop-holds
     ends-outside-requires
     length-at-requires
-    add-a
-    loop-less
+    (λ c. omega arith)
+    (λ c. omega arith)
     loop-again
     returns
     returns-2

@@ -4,9 +4,6 @@ use borrow.Author.Needs.{needs}
 use Rattle.codes.proofs.routed_code.Statement.{statement}
 use Rattle.codes.proofs.routed_code.Tie as tie
 
-enum-known-routed : tie.Need-enum-known-routed
-enum-known-routed c = search needs
-
 add-result : tie.Need-add-result
 add-result c =
     let pre = c .before .before .before .pre in
@@ -15,15 +12,6 @@ add-result c =
 
 enum-told : tie.Need-enum-told
 enum-told c = search needs
-
-enum-known-routed-2 : tie.Need-enum-known-routed-2
-enum-known-routed-2 c = search needs
-
-number-of-requires : tie.Need-number-of-requires
-number-of-requires c κs = search needs
-
-cast-result : tie.Need-cast-result
-cast-result c = search needs
 
 returns : tie.Need-returns
 returns c = rw (c .before .routed .given .1)
@@ -38,12 +26,12 @@ pub routed-code-spec : {M : Type 1} → statement M
 routed-code-spec =
     tie.close
     (tie.spec
-    enum-known-routed
+    (λ c. search needs)
     add-result
     enum-told
-    enum-known-routed-2
-    number-of-requires
-    cast-result
+    (λ c. search needs)
+    (λ c κs. search needs)
+    (λ c. search needs)
     returns
     returns-2
     returns-3)

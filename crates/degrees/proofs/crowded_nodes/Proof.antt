@@ -22,9 +22,6 @@ Inv-loop s at tails₀ heads₀ arcs a₀ tails heads a =
 abbrev μ-loop : tie.MeasureT-loop
 μ-loop s at tails₀ heads₀ arcs a₀ tails heads a = arcCount s - a
 
-cast-arcs : tie.Need-cast-arcs Inv-loop μ-loop
-cast-arcs c = omega arith
-
 loop-holds : tie.Need-loop-holds Inv-loop μ-loop
 loop-holds c = (omega arith, refl, refl, tally-none _ mostArcsEachWay 1024, tally-none _ mostArcsEachWay 1024)
 
@@ -43,18 +40,6 @@ head : (c : tie.After-end-at2 Inv-loop μ-loop)
     → c .end-at2 .result .0 ≡ endOf true (c .before .before .before .before .before .before .args .s .now) (c .before .before .before .loop .a)
 head c = c .end-at2 .ensures .0
 
-cast-v : tie.Need-cast-v Inv-loop μ-loop
-cast-v c = omega arith
-
-cast-w : tie.Need-cast-w Inv-loop μ-loop
-cast-w c = omega arith
-
-array-read-x : tie.Need-array-read-x Inv-loop μ-loop
-array-read-x c = omega arith
-
-array-read-y : tie.Need-array-read-y Inv-loop μ-loop
-array-read-y c = omega arith
-
 returns : tie.Need-returns Inv-loop μ-loop
 returns c =
     let earlier = c .before .before .before .before in
@@ -72,24 +57,6 @@ returns-2 c =
     let pre = entry .before .before .pre in
     sym (one-too-many _ true (loop .heads) (loop .a) (earlier .end-at2 .result .0) _ (pre .3) (omega arith) (head earlier) (omega arith)
     (loop .inv .4) refl (c .if2 .taken))
-
-add-tails : tie.Need-add-tails Inv-loop μ-loop
-add-tails c = omega arith
-
-array-write-tails : tie.Need-array-write-tails Inv-loop μ-loop
-array-write-tails c = omega arith
-
-add-heads : tie.Need-add-heads Inv-loop μ-loop
-add-heads c = omega arith
-
-array-write-heads : tie.Need-array-write-heads Inv-loop μ-loop
-array-write-heads c = omega arith
-
-add-a : tie.Need-add-a Inv-loop μ-loop
-add-a c = omega arith
-
-loop-less : tie.Need-loop-less Inv-loop μ-loop
-loop-less c = omega arith
 
 loop-again : tie.Need-loop-again Inv-loop μ-loop
 loop-again c =
@@ -116,21 +83,21 @@ crowded-nodes-spec =
     (tie.spec
     Inv-loop
     μ-loop
-    cast-arcs
+    (λ c. omega arith)
     loop-holds
     end-at-requires
     end-at-requires-2
-    cast-v
-    cast-w
-    array-read-x
-    array-read-y
+    (λ c. omega arith)
+    (λ c. omega arith)
+    (λ c. omega arith)
+    (λ c. omega arith)
     returns
     returns-2
-    add-tails
-    array-write-tails
-    add-heads
-    array-write-heads
-    add-a
-    loop-less
+    (λ c. omega arith)
+    (λ c. omega arith)
+    (λ c. omega arith)
+    (λ c. omega arith)
+    (λ c. omega arith)
+    (λ c. omega arith)
     loop-again
     returns-3)

@@ -15,9 +15,6 @@ Inv-loop d best₀ r₀ best r = (r ≤ words d) × (length best ≡ 4096) × Pa
 abbrev μ-loop : tie.MeasureT-loop
 μ-loop d best₀ r₀ best r = r
 
-cast-r : tie.Need-cast-r Inv-loop μ-loop
-cast-r c = omega arith
-
 loop-holds : tie.Need-loop-holds Inv-loop μ-loop
 loop-holds c = rw (c .before .pre .2) (omega arith, refl, passed-start _ 4096 _ (omega arith))
 
@@ -37,12 +34,6 @@ returns c =
       sym (found-childless _ (start .pre .1) (start .pre .0) (loop .best) (loop .r) (omega arith) (omega arith) (omega arith) (loop .inv .2) none),
       λ e. absurd (true≢false e),
     )
-
-sub-r : tie.Need-sub-r Inv-loop μ-loop
-sub-r c = omega arith
-
-loop-less : tie.Need-loop-less Inv-loop μ-loop
-loop-less c = omega arith
 
 loop-again : tie.Need-loop-again Inv-loop μ-loop
 loop-again c =
@@ -72,11 +63,11 @@ childless-regions-spec =
     (tie.spec
     Inv-loop
     μ-loop
-    cast-r
+    (λ c. omega arith)
     loop-holds
     without-child-requires
     returns
-    sub-r
-    loop-less
+    (λ c. omega arith)
+    (λ c. omega arith)
     loop-again
     returns-2)

@@ -5,15 +5,9 @@ use Rattle.refusals.specs.Judgement.{divisionRefusals}
 use Rattle.division.proofs.division_refusal.Statement.{statement}
 use Rattle.division.proofs.division_refusal.Tie as tie
 
-wrong-parents-requires : tie.Need-wrong-parents-requires
-wrong-parents-requires c κs = search needs
-
 returns : tie.Need-returns
 unfolding divisionRefusals
 returns c = rw (sym (c .before .wrong-parents .ensures) ∙ c .if1 .taken)
-
-wrong-leaves-requires : tie.Need-wrong-leaves-requires
-wrong-leaves-requires c κs = search needs
 
 returns-2 : tie.Need-returns-2
 unfolding divisionRefusals
@@ -39,9 +33,9 @@ pub division-refusal-spec : {M : Type 1} → statement M
 division-refusal-spec =
     tie.close
     (tie.spec
-    wrong-parents-requires
+    (λ c κs. search needs)
     returns
-    wrong-leaves-requires
+    (λ c κs. search needs)
     returns-2
     nesting-refusal-requires
     returns-3)

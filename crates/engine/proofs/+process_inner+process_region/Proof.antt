@@ -1,5 +1,6 @@
 -- The cycle of `process_inner` and `process_region` meets its contracts, by the measure of twice the region's height, and one more for `process_region`,
 -- which calls `process_inner` on the same region. The loop's invariant: the turns that are left lead to the same end. Assumes nothing.
+use borrow.Author.Needs.{needs}
 use Prim.Native.Nat.{ℕ, _+_, _*_, _<_}
 use mathlib.Core.List.{List}
 use native.Mathlib.Omega.{arith}
@@ -323,9 +324,7 @@ process-inner-returns-2 t c =
     (L .0, turns-worked P inner (span-of .ensures) (count-inner .ensures) (loop-spent (L .1) (c .loop-test .left)))
 
 process-region-arc-of-requires : (t : ℕ) → process-region-lts.Need-arc-of-requires (process-region-heard t) (process-region-at t) process-region.Post
-process-region-arc-of-requires t c κs =
-    let pre = c .before .before .before .pre in
-    omega (arith, pre .1 .3 .in-range, pre .1 .3 .represents .tabled .region-rows .all)
+process-region-arc-of-requires t c κs = search needs
 
 process-region-process-inner-requires : (t : ℕ) → process-region-lts.Need-process-inner-requires (process-region-heard t) (process-region-at t)
     process-region.Post

@@ -1,18 +1,8 @@
 -- `key_of` meets its contract: a leaf's key is its arc's own, an inner region's that of the queue. Assumes nothing.
 use borrow.Author.Needs.{needs}
-use native.Mathlib.Omega.{arith}
 use Rattle.engine.proofs.Regions.{key-inner, own-key-in, own-key}
 use Rattle.engine.proofs.key_of.Statement.{statement}
 use Rattle.engine.proofs.key_of.Tie as tie
-
-arc-of-requires : tie.Need-arc-of-requires
-arc-of-requires c κs = search needs
-
-min-key-requires : tie.Need-min-key-requires
-min-key-requires c κs =
-    let earlier = c .before .before .before .before in
-    let pre = earlier .before .before .pre in
-    (pre .1, pre .2, pre .3 .queues, pre .3 .in-range)
 
 returns : tie.Need-returns
 returns c =
@@ -20,16 +10,6 @@ returns c =
     let if1 = c .before .before .before .if1 in
     let arc-of = earlier .before .arc-of in
     λ m d keys updates K. c .min-key .ensures d keys (K .queues) (K .in-range) (key-inner K (arc-of .ensures) (if1 .taken)) _ updates
-
-cast-i : tie.Need-cast-i
-cast-i c = search needs
-
-mul-result : tie.Need-mul-result
-mul-result c =
-    let earlier = c .before .before .before .before in
-    let arc-of = c .before .before .before .arc-of in
-    let pre = earlier .before .pre in
-    omega (arith, own-key-in (pre .3) (arc-of .ensures) (c .before .if1 .left))
 
 element-copy-out-result : tie.Need-element-copy-out-result
 element-copy-out-result c =
@@ -49,10 +29,10 @@ pub key-of-spec : {M : Type 1} → statement M
 key-of-spec =
     tie.close
     (tie.spec
-    arc-of-requires
-    min-key-requires
+    (λ c κs. search needs)
+    (λ c κs. search needs)
     returns
-    cast-i
-    mul-result
+    (λ c. search needs)
+    (λ c. search needs)
     element-copy-out-result
     returns-2)

@@ -9,17 +9,11 @@ use Rattle.sheet.proofs.Bounds.{arc-inside}
 use Rattle.fields.proofs.length_at.Statement.{statement}
 use Rattle.fields.proofs.length_at.Tie as tie
 
-cast-i : tie.Need-cast-i
-cast-i c = search needs
-
 add-payload-at : tie.Need-add-payload-at
 add-payload-at c =
     let args = c .before .before .before .args in
     let pre = c .before .before .before .pre in
     omega (arith, arc-inside (args .s .now) (args .a .0) (pre .0 .front) (pre .1), pre .0 .spans-all)
-
-mul-payload-at : tie.Need-mul-payload-at
-mul-payload-at c = search needs
 
 add-payload-at-2 : tie.Need-add-payload-at-2
 add-payload-at-2 c =
@@ -50,9 +44,9 @@ pub length-at-spec : {M : Type 1} → statement M
 length-at-spec =
     tie.close
     (tie.spec
-    cast-i
+    (λ c. search needs)
     add-payload-at
-    mul-payload-at
+    (λ c. search needs)
     add-payload-at-2
     add-payload-at-3
     payload-at-requires

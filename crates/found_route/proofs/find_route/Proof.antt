@@ -30,9 +30,6 @@ returns-2 c =
     let label-of = c .before .before .before .label-of in
     (found-short _ _ _ _ (label-of .ensures) (c .before .before .if1 .left) (c .before .count-arcs .ensures .0) (c .if2 .taken), left-refused _ _ _ _ _)
 
-cast-count : tie.Need-cast-count
-cast-count c = search needs
-
 write-arcs-requires : tie.Need-write-arcs-requires
 unfolding top
 write-arcs-requires c κs =
@@ -42,9 +39,6 @@ write-arcs-requires c κs =
     let label-of = earlier .label-of in
     let if1 = c .before .before .before .if1 in
     (pre .0, node-reached (pre .1) (label-of .ensures) (if1 .left), c .before .before .count-arcs .ensures .0, c .before .if2 .left)
-
-same-length : tie.Need-same-length
-same-length c = search needs
 
 returns-3 : tie.Need-returns-3
 unfolding top
@@ -65,7 +59,7 @@ find-route-spec =
     returns
     count-arcs-requires
     returns-2
-    cast-count
+    (λ c. search needs)
     write-arcs-requires
-    same-length
+    (λ c. search needs)
     returns-3)

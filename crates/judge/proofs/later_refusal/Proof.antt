@@ -32,9 +32,6 @@ begun c = begin (c .before .before)
 form : (c : tie.Else1) → lowest (formRefusals (begin c .args .s .now)) accepted ≡ accepted
 form c = form-clear _ (begin c .pre .1) (begin c .pre .2) (sym (c .before .bit-set .ensures) ∙ c .if1 .left)
 
-count-refusal-requires : tie.Need-count-refusal-requires
-count-refusal-requires c κs = search needs
-
 returns-2 : tie.Need-returns-2
 returns-2 c = count-stops _ (form (c .before .before)) _ (c .if2 .taken) (c .before .count-refusal .ensures)
 
@@ -49,9 +46,6 @@ returns-3 : tie.Need-returns-3
 returns-3 c =
     let earlier = c .before .before .before .before in
     arc-stops _ (form earlier) (counted (c .before .before)) _ (c .if3 .taken) (c .before .arc-refusal .ensures)
-
-region-words-requires : tie.Need-region-words-requires
-region-words-requires c κs = search needs
 
 cast-division-refusal : tie.Need-cast-division-refusal
 cast-division-refusal c =
@@ -82,11 +76,11 @@ later-refusal-spec =
     (tie.spec
     bit-set-requires
     returns
-    count-refusal-requires
+    (λ c κs. search needs)
     returns-2
     arc-refusal-requires
     returns-3
-    region-words-requires
+    (λ c κs. search needs)
     cast-division-refusal
     division-refusal-requires
     returns-4)

@@ -6,15 +6,9 @@ use Rattle.refusals.proofs.Clear.{front-there}
 use Rattle.judge.proofs.lowest_refusal.Statement.{statement}
 use Rattle.judge.proofs.lowest_refusal.Tie as tie
 
-wrong-size-requires : tie.Need-wrong-size-requires
-wrong-size-requires c κs = search needs
-
 returns : tie.Need-returns
 unfolding judgement refusals formRefusals
 returns c = rw (sym (c .before .wrong-size .ensures) ∙ c .if1 .taken)
-
-out-of-order-requires : tie.Need-out-of-order-requires
-out-of-order-requires c κs = search needs
 
 returns-2 : tie.Need-returns-2
 unfolding judgement refusals formRefusals
@@ -31,17 +25,14 @@ later-refusal-requires c κs =
     let if1 = c .before .before .before .if1 in
     (c .find-sections .ensures, sym (earlier .wrong-size .ensures) ∙ if1 .left, sym (c .before .before .out-of-order .ensures) ∙ c .before .if2 .left)
 
-returns-3 : tie.Need-returns-3
-returns-3 c = search needs
-
 pub lowest-refusal-spec : {M : Type 1} → statement M
 lowest-refusal-spec =
     tie.close
     (tie.spec
-    wrong-size-requires
+    (λ c κs. search needs)
     returns
-    out-of-order-requires
+    (λ c κs. search needs)
     returns-2
     find-sections-requires
     later-refusal-requires
-    returns-3)
+    (λ c. search needs))

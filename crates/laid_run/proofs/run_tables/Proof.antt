@@ -1,8 +1,8 @@
 -- `run_tables` meets its contract: the start, the rounds, and the table of the state that they leave. Assumes nothing.
+use borrow.Author.Needs.{needs}
 use Prim.Native.Nat.{ℕ, _≤_}
 use mathlib.Core.Path.{_≡_, refl, sym, _∙_}
 use mathlib.Core.List.{List}
-use native.Mathlib.Omega.{arith}
 use lib.ListN.{length}
 use Rattle.procedure.specs.OfSheet.{graphOf, divisionOf}
 use Rattle.procedure.specs.State.{State}
@@ -17,19 +17,6 @@ use Rattle.sizes.proofs.Parts.{part-length}
 use Rattle.laid_run.proofs.Stages.{blank, ran, parts-in, writable, outcome}
 use Rattle.laid_run.proofs.run_tables.Statement.{statement}
 use Rattle.laid_run.proofs.run_tables.Tie as tie
-
-source-of-requires : tie.Need-source-of-requires
-source-of-requires c κs =
-    let earlier = c .before .before .before .before in
-    let pre = earlier .pre in
-    pre .0
-
-cast-start : tie.Need-cast-start
-cast-start c =
-    let earlier = c .before .before .before .before in
-    let early = earlier .before .before .before .before in
-    let pre = early .before .before .pre in
-    omega (arith, pre .2 .few-regions)
 
 start-requires : tie.Need-start-requires
 start-requires c κs =
@@ -138,9 +125,6 @@ write-table-requires c κs =
     let pre = entry ran .pre in
     writable (args .s .now) (args .limit) (labels ran) (predecessors ran) (own ran) (pre .0) (pre .2 .nodes-all) (rounds-made ran .1) _ (pre .1)
 
-same-length : tie.Need-same-length
-same-length c = c .before .before .write-table .kept .1 .1 .1 .1 .0
-
 returns : tie.Need-returns
 returns c =
     let told = c .before .before .before .before .before .before in
@@ -156,8 +140,8 @@ pub run-tables-spec : {M : Type 1} → statement M
 run-tables-spec =
     tie.close
     (tie.spec
-    source-of-requires
-    cast-start
+    (λ c κs. search needs)
+    (λ c. search needs)
     start-requires
     rounds-requires
     has-ended-requires
@@ -166,5 +150,5 @@ run-tables-spec =
     array-share-prefix-predecessors
     slice-aggregate-write-table-2
     write-table-requires
-    same-length
+    (λ c. search needs)
     returns)

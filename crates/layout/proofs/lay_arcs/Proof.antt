@@ -1,5 +1,5 @@
 -- `lay_arcs` meets its contract: ends, then leaves, then links. Assumes nothing.
-use mathlib.Core.Path.{_∙_}
+use borrow.Author.Needs.{needs}
 use native.Mathlib.Omega.{arith}
 use Rattle.refusals.proofs.Accepted.{few-arcs}
 use Rattle.layout.proofs.Represented.{leaves-apart, linkable, arcs-laid}
@@ -11,11 +11,6 @@ enter-ends-requires c κs =
     let earlier = c .before .before .before .before in
     let pre = earlier .pre in
     (pre .1, few-arcs _ (pre .0), pre .2)
-
-region-words-requires : tie.Need-region-words-requires
-region-words-requires c κs =
-    let earlier = c .before .before .before .before in
-    earlier .before .before .before .pre .1
 
 enter-leaves-requires : tie.Need-enter-leaves-requires
 enter-leaves-requires c κs =
@@ -37,17 +32,6 @@ link-requires c κs =
     linkable _ (pre .0) (enter-ends .ensures) (rw (region-words .ensures) at (enter-leaves .ensures))
     (omega (arith, enter-leaves .kept, enter-ends .kept, pre .2)) _ (pre .3)
 
-same-length : tie.Need-same-length
-same-length c =
-    let earlier = c .before .before .before .before .before .before .before .before in
-    let enter-ends = earlier .before .before .before .before .before .before .enter-ends in
-    let enter-leaves = earlier .before .enter-leaves in
-    let link = c .before .before .before .before .link in
-    link .kept .0 ∙ enter-leaves .kept .1 .0 ∙ enter-ends .kept .1 .1 .0
-
-same-length-2 : tie.Need-same-length-2
-same-length-2 c = c .before .before .before .before .link .kept .1 .0
-
 returns : tie.Need-returns
 returns c =
     let earlier = c .before .before .before .before .before .before .before .before in
@@ -66,9 +50,9 @@ lay-arcs-spec =
     tie.close
     (tie.spec
     enter-ends-requires
-    region-words-requires
+    (λ c κs. search needs)
     enter-leaves-requires
     link-requires
-    same-length
-    same-length-2
+    (λ c. search needs)
+    (λ c. search needs)
     returns)

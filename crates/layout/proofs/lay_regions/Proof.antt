@@ -1,5 +1,5 @@
 -- `lay_regions` meets its contract: parents, arcs, heights, and the trees from the parents. Assumes nothing.
-use mathlib.Core.Path.{_∙_}
+use borrow.Author.Needs.{needs}
 use native.Mathlib.Omega.{arith}
 use Rattle.procedure.specs.OfSheet.{divisionOf}
 use Rattle.procedure.proofs.OfSheet.{division-regions}
@@ -24,9 +24,6 @@ arcs c = c .before .before .before .before
 
 abbrev heights : tie.After-plan-arg2 → tie.After-enter-heights
 heights c = c .before .before .before .before
-
-region-words-requires : tie.Need-region-words-requires
-region-words-requires c κs = c .before .before .before .before .pre .1
 
 enter-parents-requires : tie.Need-enter-parents-requires
 enter-parents-requires c κs =
@@ -57,17 +54,6 @@ plan-requires c κs =
       omega (arith, pre .3),
     )
 
-same-length : tie.Need-same-length
-same-length c = parents (arcs (heights (c .before .before .before) .before)) .enter-parents .kept .1 .0
-
-same-length-2 : tie.Need-same-length-2
-same-length-2 c = c .before .before .plan .kept .1 .0
-
-same-length-3 : tie.Need-same-length-3
-same-length-3 c =
-    let high = heights (c .before .before .before) in
-    high .enter-heights .kept .1 .1 .0 ∙ arcs (high .before) .enter-region-arcs .kept .1 .0
-
 returns : tie.Need-returns
 returns c =
     let plan = c .before .before in
@@ -84,12 +70,12 @@ pub lay-regions-spec : {M : Type 1} → statement M
 lay-regions-spec =
     tie.close
     (tie.spec
-    region-words-requires
+    (λ c κs. search needs)
     enter-parents-requires
     enter-region-arcs-requires
     enter-heights-requires
     plan-requires
-    same-length
-    same-length-2
-    same-length-3
+    (λ c. search needs)
+    (λ c. search needs)
+    (λ c. search needs)
     returns)

@@ -23,21 +23,6 @@ abbrev μ-loop : tie.MeasureT-loop
 loop-holds : tie.Need-loop-holds Inv-loop μ-loop
 loop-holds c = (search needs, refl, tally-none _ mostRegionWords 2048)
 
-arc-word-requires : tie.Need-arc-word-requires Inv-loop μ-loop
-arc-word-requires c κs = omega arith
-
-cast-at : tie.Need-cast-at Inv-loop μ-loop
-cast-at c = omega arith
-
-mul-x : tie.Need-mul-x Inv-loop μ-loop
-mul-x c = omega arith
-
-array-read-x : tie.Need-array-read-x Inv-loop μ-loop
-array-read-x c = omega arith
-
-leaf-word-requires : tie.Need-leaf-word-requires Inv-loop μ-loop
-leaf-word-requires c κs = omega arith
-
 cast-seen : tie.Need-cast-seen Inv-loop μ-loop
 cast-seen c = tt
 
@@ -45,18 +30,6 @@ add-seen : tie.Need-add-seen Inv-loop μ-loop
 add-seen c =
     let loop = c .before .before .before .before .loop in
     omega (arith, loop .inv .2 .below (c .before .before .arc-word .result .0) (omega arith), a-bit (c .leaf-word .result))
-
-mul-seen : tie.Need-mul-seen Inv-loop μ-loop
-mul-seen c = omega arith
-
-array-write-seen : tie.Need-array-write-seen Inv-loop μ-loop
-array-write-seen c = omega arith
-
-add-k : tie.Need-add-k Inv-loop μ-loop
-add-k c = omega arith
-
-loop-less : tie.Need-loop-less Inv-loop μ-loop
-loop-less c = omega arith
 
 loop-again : tie.Need-loop-again Inv-loop μ-loop
 loop-again c =
@@ -85,16 +58,16 @@ count-leaves-spec =
     Inv-loop
     μ-loop
     loop-holds
-    arc-word-requires
-    cast-at
-    mul-x
-    array-read-x
-    leaf-word-requires
+    (λ c κs. omega arith)
+    (λ c. omega arith)
+    (λ c. omega arith)
+    (λ c. omega arith)
+    (λ c κs. omega arith)
     cast-seen
     add-seen
-    mul-seen
-    array-write-seen
-    add-k
-    loop-less
+    (λ c. omega arith)
+    (λ c. omega arith)
+    (λ c. omega arith)
+    (λ c. omega arith)
     loop-again
     returns)

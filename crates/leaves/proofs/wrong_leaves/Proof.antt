@@ -21,15 +21,6 @@ count-leaves-requires c κs = c .before .pre .0
 loop-holds : tie.Need-loop-holds Inv-loop μ-loop
 loop-holds c = (omega arith, any-none _)
 
-cast-i : tie.Need-cast-i Inv-loop μ-loop
-cast-i c = omega arith
-
-mul-if1 : tie.Need-mul-if1 Inv-loop μ-loop
-mul-if1 c = omega arith
-
-array-read-if1 : tie.Need-array-read-if1 Inv-loop μ-loop
-array-read-if1 c = omega arith
-
 cast-if1 : tie.Need-cast-if1 Inv-loop μ-loop
 cast-if1 c = tt
 
@@ -39,12 +30,6 @@ returns c =
     let leaves = c .before .before .before .before .count-leaves .ensures in
     let count = leaves .1 .counts (loop .a) (omega (arith, leaves .0)) in
     sym (one-wrong _ _ (loop .a) (λ e. omega (arith, c .if1 .taken, count, e)))
-
-add-a : tie.Need-add-a Inv-loop μ-loop
-add-a c = omega arith
-
-loop-less : tie.Need-loop-less Inv-loop μ-loop
-loop-less c = omega arith
 
 loop-again : tie.Need-loop-again Inv-loop μ-loop
 loop-again c =
@@ -64,12 +49,12 @@ wrong-leaves-spec =
     μ-loop
     count-leaves-requires
     loop-holds
-    cast-i
-    mul-if1
-    array-read-if1
+    (λ c. omega arith)
+    (λ c. omega arith)
+    (λ c. omega arith)
     cast-if1
     returns
-    add-a
-    loop-less
+    (λ c. omega arith)
+    (λ c. omega arith)
     loop-again
     returns-2)

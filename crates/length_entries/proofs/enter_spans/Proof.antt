@@ -24,18 +24,6 @@ span-at-requires c κs =
     let args = earlier .args in
     omega (arith, spans-le (args .s .now) 2)
 
-mul-spans : tie.Need-mul-spans Inv-loop μ-loop
-mul-spans c = omega arith
-
-slice-write-spans : tie.Need-slice-write-spans Inv-loop μ-loop
-slice-write-spans c = omega arith
-
-add-i : tie.Need-add-i Inv-loop μ-loop
-add-i c = omega arith
-
-loop-less : tie.Need-loop-less Inv-loop μ-loop
-loop-less c = omega arith
-
 loop-again : tie.Need-loop-again Inv-loop μ-loop
 loop-again c =
     let earlier = c .before .before .before .before in
@@ -60,10 +48,10 @@ enter-spans-spec =
     μ-loop
     loop-holds
     span-at-requires
-    mul-spans
-    slice-write-spans
-    add-i
-    loop-less
+    (λ c. omega arith)
+    (λ c. omega arith)
+    (λ c. omega arith)
+    (λ c. omega arith)
     loop-again
     same-length
     returns)

@@ -5,24 +5,15 @@ use Rattle.refusals.specs.Judgement.{countRefusals}
 use Rattle.limits.proofs.count_refusal.Statement.{statement}
 use Rattle.limits.proofs.count_refusal.Tie as tie
 
-nodes-outside-requires : tie.Need-nodes-outside-requires
-nodes-outside-requires c κs = search needs
-
 returns : tie.Need-returns
 unfolding countRefusals
 returns c = rw (sym (c .before .nodes-outside .ensures) ∙ c .if1 .taken)
-
-source-outside-requires : tie.Need-source-outside-requires
-source-outside-requires c κs = search needs
 
 returns-2 : tie.Need-returns-2
 unfolding countRefusals
 returns-2 c =
     let nodes-outside = c .before .before .before .nodes-outside in
     rw (sym (nodes-outside .ensures) ∙ c .before .before .if1 .left, sym (c .before .source-outside .ensures) ∙ c .if2 .taken)
-
-spans-outside-requires : tie.Need-spans-outside-requires
-spans-outside-requires c κs = search needs
 
 returns-3 : tie.Need-returns-3
 unfolding countRefusals
@@ -36,9 +27,6 @@ returns-3 c =
       sym (source-outside .ensures) ∙ c .before .before .if2 .left,
       sym (c .before .spans-outside .ensures) ∙ c .if3 .taken,
     )
-
-too-many-requires : tie.Need-too-many-requires
-too-many-requires c κs = search needs
 
 returns-4 : tie.Need-returns-4
 unfolding countRefusals
@@ -76,12 +64,12 @@ pub count-refusal-spec : {M : Type 1} → statement M
 count-refusal-spec =
     tie.close
     (tie.spec
-    nodes-outside-requires
+    (λ c κs. search needs)
     returns
-    source-outside-requires
+    (λ c κs. search needs)
     returns-2
-    spans-outside-requires
+    (λ c κs. search needs)
     returns-3
-    too-many-requires
+    (λ c κs. search needs)
     returns-4
     returns-5)

@@ -28,12 +28,6 @@ returns : tie.Need-returns Inv-loop μ-loop
 unfolding spansOutside
 returns c = sym (any-hit _ _ _ (omega arith) (sym (c .before .span-outside .ensures) ∙ c .if1 .taken))
 
-add-k : tie.Need-add-k Inv-loop μ-loop
-add-k c = omega arith
-
-loop-less : tie.Need-loop-less Inv-loop μ-loop
-loop-less c = omega arith
-
 loop-again : tie.Need-loop-again Inv-loop μ-loop
 loop-again c =
     let loop = c .before .before .before .loop in
@@ -52,7 +46,7 @@ spans-outside-spec =
     loop-holds
     span-outside-requires
     returns
-    add-k
-    loop-less
+    (λ c. omega arith)
+    (λ c. omega arith)
     loop-again
     returns-2)

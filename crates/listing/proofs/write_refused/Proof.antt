@@ -8,12 +8,6 @@ use borrow.Author.Needs.{needs}
 use Rattle.listing.proofs.write_refused.Statement.{statement}
 use Rattle.listing.proofs.write_refused.Tie as tie
 
-slice-aggregate-put-text : tie.Need-slice-aggregate-put-text
-slice-aggregate-put-text c = search needs
-
-put-text-requires : tie.Need-put-text-requires
-put-text-requires c κs = search needs
-
 put-number-requires : tie.Need-put-number-requires
 unfolding refusedLine
 put-number-requires c κs =
@@ -32,9 +26,6 @@ put-byte-requires c κs =
     let pre = earlier .before .before .before .pre in
     byte-room (room-after (wrote-then (put-text .ensures) (put-number .ensures)) (refused-room (fits .n .fits) (pre)))
 
-same-length : tie.Need-same-length
-same-length c = search needs
-
 returns : tie.Need-returns
 unfolding refusedLine
 returns c =
@@ -50,9 +41,9 @@ pub write-refused-spec : {M : Type 1} → statement M
 write-refused-spec =
     tie.close
     (tie.spec
-    slice-aggregate-put-text
-    put-text-requires
+    (λ c. search needs)
+    (λ c κs. search needs)
     put-number-requires
     put-byte-requires
-    same-length
+    (λ c. search needs)
     returns)

@@ -6,12 +6,6 @@ use borrow.Author.Needs.{needs}
 use Rattle.node_lines.proofs.put_node_line.Statement.{statement}
 use Rattle.node_lines.proofs.put_node_line.Tie as tie
 
-mul-word : tie.Need-mul-word
-mul-word c = search needs
-
-add-word : tie.Need-add-word
-add-word c = search needs
-
 put-number-requires : tie.Need-put-number-requires
 unfolding nodeLine
 put-number-requires c κs =
@@ -24,9 +18,6 @@ put-payload-requires c κs =
     let put-number = c .before .before .before .put-number in
     let pre = c .before .before .before .before .before .before .before .pre in
     (omega (arith, pre .0), room-after (put-number .ensures) (room-before _ (room-before _ (pre .1))))
-
-add-put-payload : tie.Need-add-put-payload
-add-put-payload c = search needs
 
 put-payload-requires-2 : tie.Need-put-payload-requires-2
 unfolding nodeLine
@@ -50,9 +41,6 @@ put-byte-requires c κs =
     let arc = wrote-then distance (put-payload2 .ensures) in
     byte-room (room-after arc (pre .1))
 
-same-length : tie.Need-same-length
-same-length c = search needs
-
 returns : tie.Need-returns
 unfolding nodeLine
 returns c =
@@ -68,12 +56,12 @@ pub put-node-line-spec : {M : Type 1} → statement M
 put-node-line-spec =
     tie.close
     (tie.spec
-    mul-word
-    add-word
+    (λ c. search needs)
+    (λ c. search needs)
     put-number-requires
     put-payload-requires
-    add-put-payload
+    (λ c. search needs)
     put-payload-requires-2
     put-byte-requires
-    same-length
+    (λ c. search needs)
     returns)

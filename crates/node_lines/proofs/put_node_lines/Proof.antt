@@ -1,10 +1,10 @@
 -- `put_node_lines` meets its contract: the lines of the nodes below v are written. Assumes nothing.
-use Prim.Native.Nat.{zero-le, _-_, _≤_}
-use mathlib.Core.Path.{refl}
+use borrow.Author.Needs.{needs}
+use Prim.Native.Nat.{_-_, _≤_}
 use native.Mathlib.Omega.{arith}
 use Rattle.text.specs.Written.{Wrote}
 use Rattle.node_lines.specs.NodeLines.{nodeLines}
-use Rattle.text.proofs.Writing.{length-wrote, wrote-none, wrote-then}
+use Rattle.text.proofs.Writing.{length-wrote, wrote-then}
 use Rattle.node_lines.proofs.NodeLines.{line-room, line-more, all-lines}
 use Rattle.node_lines.proofs.put_node_lines.Statement.{statement}
 use Rattle.node_lines.proofs.put_node_lines.Tie as tie
@@ -17,18 +17,12 @@ abbrev μ-loop : tie.MeasureT-loop
 
 loop-holds : tie.Need-loop-holds Inv-loop μ-loop
 unfolding nodeLines
-loop-holds c = (zero-le, wrote-none refl)
+loop-holds c = search needs
 
 put-node-line-requires : tie.Need-put-node-line-requires Inv-loop μ-loop
 put-node-line-requires c κs =
     let pre = c .before .before .before .before .before .pre in
     (omega arith, line-room _ (c .before .before .loop .inv .1) (c .before .loop-test .taken) (pre .1) (pre .2))
-
-add-v : tie.Need-add-v Inv-loop μ-loop
-add-v c = omega arith
-
-loop-less : tie.Need-loop-less Inv-loop μ-loop
-loop-less c = omega arith
 
 loop-again : tie.Need-loop-again Inv-loop μ-loop
 loop-again c =
@@ -49,8 +43,8 @@ put-node-lines-spec =
     μ-loop
     loop-holds
     put-node-line-requires
-    add-v
-    loop-less
+    (λ c. omega arith)
+    (λ c. omega arith)
     loop-again
     same-length
     returns)

@@ -7,21 +7,12 @@ use Rattle.order.proofs.Order.{region-follows, region-before, none-foll
 use Rattle.order.proofs.may_follow.Statement.{statement}
 use Rattle.order.proofs.may_follow.Tie as tie
 
-arc-or-region-requires : tie.Need-arc-or-region-requires
-arc-or-region-requires c κs = search needs
-
 returns : tie.Need-returns
 returns c = rw (
   span-follows _ _ (span-before _ (c .before .if1 .taken) (c .before .before .match .rest .0 .0 .0 .1)
       (c .before .before .match .rest .0 .0 .1)),
   eq-eqb _ _ (c .if2 .taken),
 )
-
-arc-or-region-requires-2 : tie.Need-arc-or-region-requires-2
-arc-or-region-requires-2 c κs = search needs
-
-region-kind-requires : tie.Need-region-kind-requires
-region-kind-requires c κs = search needs
 
 returns-2 : tie.Need-returns-2
 unfolding mayFollow
@@ -58,10 +49,10 @@ pub may-follow-spec : {M : Type 1} → statement M
 may-follow-spec =
     tie.close
     (tie.spec
-    arc-or-region-requires
+    (λ c κs. search needs)
     returns
-    arc-or-region-requires-2
-    region-kind-requires
+    (λ c κs. search needs)
+    (λ c κs. search needs)
     returns-2
     returns-3
     returns-4

@@ -19,17 +19,8 @@ abbrev μ-loop : tie.MeasureT-loop
 loop-holds : tie.Need-loop-holds Inv-loop μ-loop
 loop-holds c = pass-start _
 
-word-after-requires : tie.Need-word-after-requires Inv-loop μ-loop
-word-after-requires c κs = search needs
-
-enum-known-word : tie.Need-enum-known-word Inv-loop μ-loop
-enum-known-word c = search needs
-
 enum-told : tie.Need-enum-told Inv-loop μ-loop
 enum-told c = search needs
-
-may-end-requires : tie.Need-may-end-requires Inv-loop μ-loop
-may-end-requires c κs = search needs
 
 returns : tie.Need-returns Inv-loop μ-loop
 returns c =
@@ -39,12 +30,6 @@ returns c =
     let word-after = c .before .before .before .word-after in
     rw (c .may-end .ensures) (pass-end (args .s .now) (loop .before) (loop .at .at)
     (step-end (args .s .now) (loop .at) (sym (word-after .ensures) ∙ c .before .enum-told .given .1)) (loop .inv))
-
-kind-of-requires : tie.Need-kind-of-requires Inv-loop μ-loop
-kind-of-requires c κs = search needs
-
-may-follow-requires : tie.Need-may-follow-requires Inv-loop μ-loop
-may-follow-requires c κs = search needs
 
 returns-2 : tie.Need-returns-2 Inv-loop μ-loop
 returns-2 c =
@@ -90,13 +75,13 @@ out-of-order-spec =
     Inv-loop
     μ-loop
     loop-holds
-    word-after-requires
-    enum-known-word
+    (λ c κs. search needs)
+    (λ c. search needs)
     enum-told
-    may-end-requires
+    (λ c κs. search needs)
     returns
-    kind-of-requires
-    may-follow-requires
+    (λ c κs. search needs)
+    (λ c κs. search needs)
     returns-2
     loop-less
     loop-again)

@@ -20,18 +20,9 @@ abbrev μ-loop : tie.MeasureT-loop
 loop-holds : tie.Need-loop-holds Inv-loop μ-loop
 loop-holds c = (search needs, any-none _)
 
-wrong-parent-requires : tie.Need-wrong-parent-requires Inv-loop μ-loop
-wrong-parent-requires c κs = search needs
-
 returns : tie.Need-returns Inv-loop μ-loop
 unfolding wrongParents
 returns c = sym (any-hit _ _ _ (omega arith) (sym (c .before .wrong-parent .ensures) ∙ c .if1 .taken))
-
-add-k : tie.Need-add-k Inv-loop μ-loop
-add-k c = search needs
-
-loop-less : tie.Need-loop-less Inv-loop μ-loop
-loop-less c = search needs
 
 loop-again : tie.Need-loop-again Inv-loop μ-loop
 loop-again c =
@@ -49,9 +40,9 @@ wrong-parents-spec =
     Inv-loop
     μ-loop
     loop-holds
-    wrong-parent-requires
+    (λ c κs. search needs)
     returns
-    add-k
-    loop-less
+    (λ c. search needs)
+    (λ c. search needs)
     loop-again
     returns-2)

@@ -17,7 +17,7 @@ returns : tie.Need-returns
 returns c =
     let done = c .before .before .before .run .ensures in
     let coded = c .ran-code .ensures in
-    (same-code coded (done .0), done .1, λ ok room. (done .2 ok room .0, same-code coded (done .2 ok room .1)))
+    (same-code coded (done .0), done .1, λ ok room. (done .2 ok room .0, same-code coded (done .2 ok room .1), done .2 ok room .2))
 
 pub pigrozk-run-spec : {M : Type 1} → statement M
 pigrozk-run-spec = tie.close (tie.spec run-requires ran-code-requires same-length returns)

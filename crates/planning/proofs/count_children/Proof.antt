@@ -26,30 +26,12 @@ now c = c .before .loop .inv (entry c .pre .0) (entry c .pre .1)
 inside : (c : tie.In-loop Inv-loop μ-loop) → c .before .loop .c < regions (entry c .pre .0)
 inside c = omega (arith, c .loop-test .taken, entry c .pre .1 .all)
 
-fill-requires : tie.Need-fill-requires Inv-loop μ-loop
-fill-requires c κs = search needs
-
-cast-n : tie.Need-cast-n Inv-loop μ-loop
-cast-n c =
-    let earlier = c .before .before .before .before in
-    let pre = earlier .before .before .pre in
-    omega (arith, pre .1 .all, pre .1 .numbered .few)
-
 loop-holds : tie.Need-loop-holds Inv-loop μ-loop
 loop-holds c =
     let earlier = c .before .before .before .before in
     let args = earlier .before .before .args in
     let pre = earlier .before .before .pre in
     λ d Q. counting-start (args .rows .now) _ Q (omega (arith, pre .2, pre .1 .all, Q .all)) (c .before .before .fill .ensures)
-
-cast-i : tie.Need-cast-i Inv-loop μ-loop
-cast-i c = search needs
-
-mul-t14 : tie.Need-mul-t14 Inv-loop μ-loop
-mul-t14 c = search needs
-
-shared-slice-read-t16 : tie.Need-shared-slice-read-t16 Inv-loop μ-loop
-shared-slice-read-t16 c = search needs
 
 children-of-requires : tie.Need-children-of-requires Inv-loop μ-loop
 children-of-requires c κs =
@@ -102,23 +84,6 @@ set-field-requires-3 c κs =
     let b = count-bounds (pre .1) (now pass) (inside pass) _ (children-of .ensures) in
     (omega arith, omega (arith, b .row-parent, set-field2 .kept, set-field .kept))
 
-add-c : tie.Need-add-c Inv-loop μ-loop
-add-c c =
-    let earlier = c .before .before .before .before in
-    let early = earlier .before .before .before .before in
-    let first = early .before .before .before .before in
-    let loop-test = first .before .before .before .loop-test in
-    let pre = first .before .before .before .before .before .before .before .before .before .before .before .pre in
-    omega (arith, loop-test .taken, pre .1 .all, pre .1 .numbered .few)
-
-loop-less : tie.Need-loop-less Inv-loop μ-loop
-loop-less c =
-    let earlier = c .before .before .before .before in
-    let early = earlier .before .before .before .before in
-    let first = early .before .before .before .before in
-    let loop-test = first .before .before .before .loop-test in
-    omega (arith, loop-test .taken)
-
 loop-again : tie.Need-loop-again Inv-loop μ-loop
 loop-again c =
     let earlier = c .before .before .before .before in
@@ -147,19 +112,19 @@ count-children-spec =
     (tie.spec
     Inv-loop
     μ-loop
-    fill-requires
-    cast-n
+    (λ c κs. search needs)
+    (λ c. search needs)
     loop-holds
-    cast-i
-    mul-t14
-    shared-slice-read-t16
+    (λ c. search needs)
+    (λ c. search needs)
+    (λ c. search needs)
     children-of-requires
     add-counted
     set-field-requires
     set-field-requires-2
     set-field-requires-3
-    add-c
-    loop-less
+    (λ c. search needs)
+    (λ c. search needs)
     loop-again
     same-length
     returns)

@@ -1,4 +1,5 @@
 -- `lay_trees` meets its contract: the trees of the regions passed lie one after the other. Assumes nothing.
+use borrow.Author.Needs.{needs}
 use Prim.Native.Nat.{ℕ, _*_, _-_, _<_}
 use mathlib.Core.Path.{_≡_, refl, ap, _∙_}
 use mathlib.Core.List.{List}
@@ -8,7 +9,6 @@ use Rattle.procedure.specs.Division.{Division, regions}
 use Rattle.rows.specs.Rows.{field}
 use Rattle.tree_places.specs.Trees.{Ranked}
 use Rattle.planning.proofs.Planning.{Laying, laying-start, laying-fits, laying-step, laying-end}
-use Rattle.tree_places.proofs.RegionRows.{row-in}
 use Rattle.planning.proofs.lay_trees.Statement.{statement}
 use Rattle.planning.proofs.lay_trees.Tie as tie
 
@@ -30,23 +30,8 @@ now c = c .before .loop .inv .1 (entry c .pre .0) (entry c .pre .1) (entry c .pr
 inside : (c : tie.In-loop Inv-loop μ-loop) → c .before .loop .r < regions (entry c .pre .0)
 inside c = omega (arith, c .loop-test .taken, entry c .pre .2)
 
-cast-n : tie.Need-cast-n Inv-loop μ-loop
-cast-n c = omega (arith, c .before .pre .2, c .before .pre .1 .counted .numbered .few)
-
 loop-holds : tie.Need-loop-holds Inv-loop μ-loop
 loop-holds c = (refl, λ d R _. laying-start R)
-
-set-field-requires : tie.Need-set-field-requires Inv-loop μ-loop
-set-field-requires c κs =
-    let pass = c .before in
-    (omega arith, row-in _ (now pass .ranked .counted) (inside pass))
-
-children-of-requires : tie.Need-children-of-requires Inv-loop μ-loop
-children-of-requires c κs =
-    let earlier = c .before .before .before .before in
-    let set-field = c .before .before .before .set-field in
-    let pass = earlier .before in
-    omega (arith, row-in _ (now pass .ranked .counted) (inside pass), set-field .kept)
 
 mul-start : tie.Need-mul-start Inv-loop μ-loop
 mul-start c =
@@ -66,18 +51,6 @@ add-start c =
     let read = c .children-of .ensures ∙ ap (λ (l : List ℕ). field l (loop .r) 1) (set-field .ensures) in
     omega (arith, laying-fits (now pass) (inside pass) (c .children-of .result) read)
 
-add-r : tie.Need-add-r Inv-loop μ-loop
-add-r c =
-    let earlier = c .before .before .before .before in
-    let loop-test = earlier .before .before .loop-test in
-    omega (arith, loop-test .taken)
-
-loop-less : tie.Need-loop-less Inv-loop μ-loop
-loop-less c =
-    let earlier = c .before .before .before .before in
-    let loop-test = earlier .before .before .loop-test in
-    omega (arith, loop-test .taken)
-
 loop-again : tie.Need-loop-again Inv-loop μ-loop
 loop-again c =
     let earlier = c .before .before .before .before in
@@ -89,9 +62,6 @@ loop-again c =
       rw (set-field .ensures) (λ d R e. laying-step (loop .inv .1 d R e) (omega (arith, loop-test .taken, e)) _ read),
     )
 
-same-length : tie.Need-same-length Inv-loop μ-loop
-same-length c = c .before .loop .inv .0
-
 returns : tie.Need-returns Inv-loop μ-loop
 returns c = λ d R e. laying-end (c .before .loop .inv .1 d R e) (omega (arith, c .loop-test .left, e))
 
@@ -101,14 +71,14 @@ lay-trees-spec =
     (tie.spec
     Inv-loop
     μ-loop
-    cast-n
+    (λ c. search needs)
     loop-holds
-    set-field-requires
-    children-of-requires
+    (λ c κs. search needs)
+    (λ c κs. search needs)
     mul-start
     add-start
-    add-r
-    loop-less
+    (λ c. search needs)
+    (λ c. search needs)
     loop-again
-    same-length
+    (λ c. search needs)
     returns)

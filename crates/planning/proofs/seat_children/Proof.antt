@@ -1,11 +1,11 @@
 -- `seat_children` meets its contract: the rows of the regions passed say their places. Assumes nothing.
+use borrow.Author.Needs.{needs}
 use Prim.Native.Nat.{_*_, _-_, _<_}
 use mathlib.Core.Path.{_≡_, refl}
 use native.Mathlib.Omega.{arith}
 use lib.ListN.{length}
 use Rattle.procedure.specs.Division.{Division, regions}
 use Rattle.tree_places.specs.Trees.{Started}
-use Rattle.tree_places.proofs.RegionRows.{row-in}
 use Rattle.planning.proofs.Planning.{Seating, seating-start, seat-row, seat-fits, seating-step, seating-end}
 use Rattle.planning.proofs.seat_children.Statement.{statement}
 use Rattle.planning.proofs.seat_children.Tie as tie
@@ -28,9 +28,6 @@ now c = c .before .loop .inv .1 (entry c .pre .0) (entry c .pre .1) (entry c .pr
 inside : (c : tie.In-loop Inv-loop μ-loop) → c .before .loop .c < regions (entry c .pre .0)
 inside c = omega (arith, c .loop-test .taken, entry c .pre .2)
 
-cast-n : tie.Need-cast-n Inv-loop μ-loop
-cast-n c = omega (arith, c .before .pre .2, c .before .pre .1 .ranked .counted .numbered .few)
-
 loop-holds : tie.Need-loop-holds Inv-loop μ-loop
 loop-holds c = (refl, λ d S _. seating-start S)
 
@@ -45,12 +42,6 @@ children-of-requires c κs =
     let over = c .before .parent-of .ensures _ (now pass .counted) (inside pass) in
     seat-row (now pass) (inside pass) _ over
 
-seat-of-requires : tie.Need-seat-of-requires Inv-loop μ-loop
-seat-of-requires c κs =
-    let earlier = c .before .before .before .before in
-    let pass = earlier .before in
-    row-in _ (now pass .counted) (inside pass)
-
 add-place : tie.Need-add-place Inv-loop μ-loop
 add-place c =
     let children-of = c .before .before .children-of in
@@ -59,26 +50,6 @@ add-place c =
     let over = earlier .parent-of .ensures _ (now pass .counted) (inside pass) in
     let fits = seat-fits (now pass) (inside pass) _ over (children-of .result) (c .seat-of .result) (children-of .ensures) (c .seat-of .ensures) in
     omega (arith, fits)
-
-set-field-requires : tie.Need-set-field-requires Inv-loop μ-loop
-set-field-requires c κs =
-    let earlier = c .before .before .before .before in
-    let pass = earlier .before .before .before in
-    (omega arith, row-in _ (now pass .counted) (inside pass))
-
-add-c : tie.Need-add-c Inv-loop μ-loop
-add-c c =
-    let earlier = c .before .before .before .before in
-    let early = earlier .before .before .before .before in
-    let pass = early .before .before in
-    omega (arith, pass .loop-test .taken)
-
-loop-less : tie.Need-loop-less Inv-loop μ-loop
-loop-less c =
-    let earlier = c .before .before .before .before in
-    let early = earlier .before .before .before .before in
-    let pass = early .before .before in
-    omega (arith, pass .loop-test .taken)
 
 loop-again : tie.Need-loop-again Inv-loop μ-loop
 loop-again c =
@@ -96,9 +67,6 @@ loop-again c =
           seating-step now inside _ (early .parent-of .ensures d (now .counted) inside) _ _ (children-of .ensures) (earlier .seat-of .ensures)),
     )
 
-same-length : tie.Need-same-length Inv-loop μ-loop
-same-length c = c .before .loop .inv .0
-
 returns : tie.Need-returns Inv-loop μ-loop
 returns c = λ d S e. seating-end (c .before .loop .inv .1 d S e) (omega (arith, c .loop-test .left, e))
 
@@ -108,15 +76,15 @@ seat-children-spec =
     (tie.spec
     Inv-loop
     μ-loop
-    cast-n
+    (λ c. search needs)
     loop-holds
     parent-of-requires
     children-of-requires
-    seat-of-requires
+    (λ c κs. search needs)
     add-place
-    set-field-requires
-    add-c
-    loop-less
+    (λ c κs. search needs)
+    (λ c. search needs)
+    (λ c. search needs)
     loop-again
-    same-length
+    (λ c. search needs)
     returns)

@@ -3,31 +3,13 @@ use mathlib.Core.Path.{sym, _∙_}
 use borrow.Author.Needs.{needs}
 use native.Mathlib.Omega.{arith}
 use Rattle.sheet.specs.Words.{top}
-use Rattle.tree_places.proofs.RegionRows.{row-in}
 use Rattle.queue.proofs.Reading.{key-none, first-in, key-fits, key-some}
 use Rattle.queue.proofs.min_key.Statement.{statement}
 use Rattle.queue.proofs.min_key.Tie as tie
 
-children-of-requires : tie.Need-children-of-requires
-children-of-requires c κs = row-in _ (c .before .before .pre .2 .entered .laid .planned .counted) (c .before .before .pre .3)
-
 returns : tie.Need-returns
 unfolding top
 returns c = λ d keys Q inside. key-none Q _ inside (sym (c .before .children-of .ensures) ∙ c .if1 .taken)
-
-start-of-requires : tie.Need-start-of-requires
-start-of-requires c κs =
-    let pre = c .before .before .before .before .pre in
-    row-in _ (pre .2 .entered .laid .planned .counted) (pre .3)
-
-cast-start : tie.Need-cast-start
-cast-start c = search needs
-
-add-result : tie.Need-add-result
-add-result c = search needs
-
-mul-result : tie.Need-mul-result
-mul-result c = search needs
 
 shared-slice-read-result : tie.Need-shared-slice-read-result
 shared-slice-read-result c =
@@ -53,12 +35,12 @@ pub min-key-spec : {M : Type 1} → statement M
 min-key-spec =
     tie.close
     (tie.spec
-    children-of-requires
+    (λ c κs. search needs)
     returns
-    start-of-requires
-    cast-start
-    add-result
-    mul-result
+    (λ c κs. search needs)
+    (λ c. search needs)
+    (λ c. search needs)
+    (λ c. search needs)
     shared-slice-read-result
     cast-result
     returns-2)

@@ -1,6 +1,6 @@
 -- `write` meets its contract: the loop repairs the places above the child, one after the other, until one does not change. Assumes nothing.
 use Prim.Native.Nat.{ℕ, _/_, _<_}
-use mathlib.Core.Path.{_≡_, refl}
+use mathlib.Core.Path.{_≡_}
 use mathlib.Core.List.{List}
 use borrow.Author.Needs.{needs}
 use native.Mathlib.Omega.{arith}
@@ -8,7 +8,6 @@ use lib.ListN.{length, set, length-set}
 use Rattle.procedure.specs.Division.{Division, regions, parent}
 use Rattle.rows.specs.Rows.{field}
 use Rattle.tree_places.specs.Trees.{QueuesOk}
-use Rattle.tree_places.proofs.RegionRows.{row-in}
 use Rattle.queue.proofs.Trees.{up-row, seat-inside}
 use Rattle.queue.proofs.Repair.{Repairing, repair-start, repair-small, PlaceBounds, repair-bounds, repair-done, repair-step, repair-end}
 use Rattle.queue.proofs.write.Statement.{statement}
@@ -77,35 +76,10 @@ beside c =
 above : (c : tie.At-loop Inv-loop μ-loop) → PlaceBounds (c .loop .winners) (first c) (c .loop .place / 2)
 above c = repair-bounds (now c _ _ (given (entry c))) _ (row c) (c .loop .place / 2) (omega arith)
 
-parent-of-requires : tie.Need-parent-of-requires Inv-loop μ-loop
-parent-of-requires c κs =
-    let pre = c .before .before .pre in
-    (pre .0, pre .2 .entered .laid .planned .counted, pre .3, pre .4)
-
 start-of-requires : tie.Need-start-of-requires Inv-loop μ-loop
 start-of-requires c κs =
     let pre = called c .pre in
     up-row (pre .2 .entered .laid .planned) _ _ (pre .3) (pre .4) (up-is c _ _ (given (called c)))
-
-cast-start : tie.Need-cast-start Inv-loop μ-loop
-cast-start c = search needs
-
-seat-of-requires : tie.Need-seat-of-requires Inv-loop μ-loop
-seat-of-requires c κs =
-    let pre = called (c .before) .pre in
-    row-in _ (pre .2 .entered .laid .planned .counted) (pre .4)
-
-cast-place : tie.Need-cast-place Inv-loop μ-loop
-cast-place c = search needs
-
-entry-of-requires : tie.Need-entry-of-requires Inv-loop μ-loop
-entry-of-requires c κs = search needs
-
-add-winners : tie.Need-add-winners Inv-loop μ-loop
-add-winners c = search needs
-
-mul-winners : tie.Need-mul-winners Inv-loop μ-loop
-mul-winners c = search needs
 
 slice-write-winners : tie.Need-slice-write-winners Inv-loop μ-loop
 slice-write-winners c =
@@ -113,9 +87,6 @@ slice-write-winners c =
     let pre = called up .pre in
     seat-inside (pre .2 .entered .laid .planned) _ _ (pre .3) (pre .4) (up-is up _ _ (given (called up))) _ _ (c .before .before .start-of .ensures)
     (c .before .seat-of .ensures) (pre .2 .entered .laid)
-
-loop-holds : tie.Need-loop-holds Inv-loop μ-loop
-loop-holds c = (refl, λ d keys r row R. R)
 
 sibling-requires : tie.Need-sibling-requires Inv-loop μ-loop
 sibling-requires c κs = repair-small (now (c .before) _ _ (given (entry (c .before)))) _ (row (c .before))
@@ -128,12 +99,6 @@ mul-lower c = omega (arith, beside c .fits)
 
 slice-read-lower : tie.Need-slice-read-lower Inv-loop μ-loop
 slice-read-lower c = beside (c .before) .inside
-
-lower-requires : tie.Need-lower-requires Inv-loop μ-loop
-lower-requires c κs = search needs
-
-add-if1 : tie.Need-add-if1 Inv-loop μ-loop
-add-if1 c = omega (arith, above (turn c .before) .fits)
 
 mul-if1 : tie.Need-mul-if1 Inv-loop μ-loop
 mul-if1 c = omega (arith, above (turn c .before) .fits)
@@ -153,17 +118,11 @@ returns c =
     λ d keys Q inside.
     repair-done (now (pass .before) d keys (Q, inside)) _ (row (pass .before)) _ _ big (other .ensures) (lower .lower .ensures) (c .if1 .taken)
 
-add-winners-2 : tie.Need-add-winners-2 Inv-loop μ-loop
-add-winners-2 c = omega (arith, above (turn (c .before .before) .before) .fits)
-
 mul-winners-2 : tie.Need-mul-winners-2 Inv-loop μ-loop
 mul-winners-2 c = omega (arith, above (turn (c .before .before) .before) .fits)
 
 slice-write-winners-2 : tie.Need-slice-write-winners-2 Inv-loop μ-loop
 slice-write-winners-2 c = above (turn (c .before .before) .before) .inside
-
-loop-less : tie.Need-loop-less Inv-loop μ-loop
-loop-less c = omega (arith, turn (c .before .before) .loop-test .taken)
 
 loop-again : tie.Need-loop-again Inv-loop μ-loop
 loop-again c =
@@ -187,30 +146,30 @@ write-spec =
     (tie.spec
     Inv-loop
     μ-loop
-    parent-of-requires
+    (λ c κs. search needs)
     start-of-requires
-    cast-start
-    seat-of-requires
-    cast-place
-    entry-of-requires
-    add-winners
-    mul-winners
+    (λ c. search needs)
+    (λ c κs. search needs)
+    (λ c. search needs)
+    (λ c κs. search needs)
+    (λ c. search needs)
+    (λ c. search needs)
     slice-write-winners
-    loop-holds
+    (λ c. search needs)
     sibling-requires
     add-lower
     mul-lower
     slice-read-lower
-    lower-requires
-    add-if1
+    (λ c κs. search needs)
+    (λ c. search needs)
     mul-if1
     slice-read-if1
     same-length
     returns
-    add-winners-2
+    (λ c. search needs)
     mul-winners-2
     slice-write-winners-2
-    loop-less
+    (λ c. search needs)
     loop-again
     same-length-2
     returns-2)

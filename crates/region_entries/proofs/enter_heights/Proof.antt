@@ -1,5 +1,5 @@
 -- `enter_heights` meets its contract: the regions passed have their heights and have handed them to their parents. Assumes nothing.
-use mathlib.Core.Path.{sym, _∙_}
+use borrow.Author.Needs.{needs}
 use native.Mathlib.Nat.{le-refl}
 use native.Mathlib.Omega.{arith}
 use Rattle.region_entries.proofs.Rows.{parent-lower}
@@ -13,11 +13,6 @@ Inv-loop d parents regions₀ r₀ regions r = EnteringHeights d regions r
 abbrev μ-loop : tie.MeasureT-loop
 μ-loop d parents regions₀ r₀ regions r = r
 
-cast-r : tie.Need-cast-r Inv-loop μ-loop
-cast-r c =
-    let pre = c .before .before .before .pre in
-    omega (arith, pre .0 .few)
-
 loop-holds : tie.Need-loop-holds Inv-loop μ-loop
 loop-holds c =
     let pre = c .before .before .before .pre in
@@ -29,18 +24,6 @@ settle-height-requires c κs =
     let pre = c .before .before .before .before .before .before .pre in
     (loop .inv .within, omega (arith, loop .inv .all, loop .inv .within), heights-fit (pre .0) (loop .inv) (loop .r) (le-refl (loop .r)))
 
-cast-i : tie.Need-cast-i Inv-loop μ-loop
-cast-i c = omega arith
-
-mul-parent : tie.Need-mul-parent Inv-loop μ-loop
-mul-parent c = omega (arith, c .before .before .before .before .before .loop .inv .within)
-
-shared-slice-read-parent : tie.Need-shared-slice-read-parent Inv-loop μ-loop
-shared-slice-read-parent c =
-    let earlier = c .before .before .before .before in
-    let pre = earlier .before .before .before .before .before .before .pre in
-    omega (arith, earlier .before .before .loop .inv .within, pre .1 .all)
-
 hand-up-requires : tie.Need-hand-up-requires Inv-loop μ-loop
 hand-up-requires c κs =
     let earlier = c .before .before .before .before in
@@ -48,12 +31,6 @@ hand-up-requires c κs =
     let loop = earlier .before .before .before .loop in
     let low = parent-lower (pre .0) (pre .1) (loop .r) (earlier .before .before .loop-test .taken) (loop .inv .within) in
     omega (arith, low, loop .inv .all, loop .inv .within, earlier .settle-height .kept)
-
-sub-r : tie.Need-sub-r Inv-loop μ-loop
-sub-r c = omega (arith, c .before .before .before .before .before .before .before .before .before .loop-test .taken)
-
-loop-less : tie.Need-loop-less Inv-loop μ-loop
-loop-less c = omega (arith, c .before .before .before .before .before .before .before .before .before .loop-test .taken)
 
 loop-again : tie.Need-loop-again Inv-loop μ-loop
 loop-again c =
@@ -71,12 +48,6 @@ settle-height-requires-2 c κs =
     let pre = c .before .before .before .before .before .before .pre in
     (omega arith, omega (arith, loop .inv .all), heights-fit (pre .0) (loop .inv) 0 (omega arith))
 
-same-length : tie.Need-same-length Inv-loop μ-loop
-same-length c =
-    let loop = c .before .before .before .before .before .loop in
-    let pre = c .before .before .before .before .before .before .before .before .before .pre in
-    c .before .before .settle-height2 .kept .1 .1 .0 ∙ loop .inv .all ∙ sym (pre .2 .all)
-
 returns : tie.Need-returns Inv-loop μ-loop
 returns c =
     let earlier = c .before .before .before .before in
@@ -89,16 +60,16 @@ enter-heights-spec =
     (tie.spec
     Inv-loop
     μ-loop
-    cast-r
+    (λ c. search needs)
     loop-holds
     settle-height-requires
-    cast-i
-    mul-parent
-    shared-slice-read-parent
+    (λ c. omega arith)
+    (λ c. search needs)
+    (λ c. search needs)
     hand-up-requires
-    sub-r
-    loop-less
+    (λ c. search needs)
+    (λ c. search needs)
     loop-again
     settle-height-requires-2
-    same-length
+    (λ c. search needs)
     returns)

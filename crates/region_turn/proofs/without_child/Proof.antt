@@ -7,21 +7,6 @@ use Rattle.region_turn.proofs.Held.{holds-none, holds-one}
 use Rattle.region_turn.proofs.without_child.Statement.{statement}
 use Rattle.region_turn.proofs.without_child.Tie as tie
 
-cast-i : tie.Need-cast-i
-cast-i c = search needs
-
-mul-own : tie.Need-mul-own
-mul-own c = search needs
-
-element-copy-out-own : tie.Need-element-copy-out-own
-element-copy-out-own c = search needs
-
-is-leaf-requires : tie.Need-is-leaf-requires
-is-leaf-requires c κs = search needs
-
-cast-least : tie.Need-cast-least
-cast-least c = search needs
-
 returns : tie.Need-returns
 returns c =
     let earlier = c .before .before .before .before in
@@ -29,15 +14,6 @@ returns c =
     let own = getD (start .args .best .now) (start .args .r .0) 0 in
     let is-leaf = c .before .is-leaf in
     (sym (rw (← is-leaf .ensures) (holds-none own (is-leaf .result) (c .if1 .taken))), λ e. absurd (true≢false e), λ _. refl)
-
-parent-of-requires : tie.Need-parent-of-requires
-parent-of-requires c κs = search needs
-
-add-hand-to : tie.Need-add-hand-to
-add-hand-to c = search needs
-
-hand-to-requires : tie.Need-hand-to-requires
-hand-to-requires c κs = search needs
 
 returns-2 : tie.Need-returns-2
 returns-2 c =
@@ -54,13 +30,13 @@ pub without-child-spec : {M : Type 1} → statement M
 without-child-spec =
     tie.close
     (tie.spec
-    cast-i
-    mul-own
-    element-copy-out-own
-    is-leaf-requires
-    cast-least
+    (λ c. search needs)
+    (λ c. search needs)
+    (λ c. search needs)
+    (λ c κs. search needs)
+    (λ c. search needs)
     returns
-    parent-of-requires
-    add-hand-to
-    hand-to-requires
+    (λ c κs. search needs)
+    (λ c. search needs)
+    (λ c κs. search needs)
     returns-2)

@@ -15,9 +15,6 @@ node-count-requires c κs =
     let pre = c .before .before .before .pre in
     front-there _ (pre .0)
 
-cast-nodes : tie.Need-cast-nodes
-cast-nodes c = search needs
-
 -- an accepted sheet has few nodes, so that the table is long enough
 few : (c : tie.After-node-count) → c .node-count .result ≤ 1024
 few c =
@@ -44,12 +41,6 @@ report-table-requires c κs =
     let pre = c .before .before .before .before .before .before .before .pre in
     (pre .0, sized .before .node-count .ensures, length-take-le _ _ (long-enough sized) ∙ sized .table-length .ensures, few (sized .before), pre .2)
 
-same-length : tie.Need-same-length
-same-length c = search needs
-
-same-length-2 : tie.Need-same-length-2
-same-length-2 c = search needs
-
 returns : tie.Need-returns
 returns c =
     let report-table = c .before .before .before .before .report-table in
@@ -63,11 +54,11 @@ report-accepted-spec =
     tie.close
     (tie.spec
     node-count-requires
-    cast-nodes
+    (λ c. search needs)
     table-length-requires
     slice-relend-prefix-report-table
     slice-aggregate-report-table
     report-table-requires
-    same-length
-    same-length-2
+    (λ c. search needs)
+    (λ c. search needs)
     returns)

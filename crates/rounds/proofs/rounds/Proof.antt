@@ -1,8 +1,8 @@
 -- `rounds` meets its contract. The loop's invariant: the rounds that are left lead to the same end. Assumes nothing.
+use borrow.Author.Needs.{needs}
 use Prim.Native.Nat.{ℕ}
 use mathlib.Core.Path.{_≡_, sym, _∙_}
 use mathlib.Core.List.{List}
-use native.Mathlib.Omega.{arith}
 use Rattle.procedure.specs.Graph.{Graph}
 use Rattle.procedure.specs.Division.{Division}
 use Rattle.slices.specs.Tables.{tablesOf}
@@ -74,20 +74,6 @@ process-inner-requires c κs =
     let P = next-asks (L .1) (loop-test .taken) (sym told ∙ if1 .left) (pre .2) (pre .4 .1) in
     (pre .0, pre .1, L .0, (round-asks P (count-round .ensures), inner))
 
-sub-left : tie.Need-sub-left Inv-loop μ-loop
-sub-left c =
-    let earlier = c .before .before .before .before in
-    let early = earlier .before .before .before .before in
-    let loop-test = early .before .loop-test in
-    omega (arith, loop-test .taken)
-
-loop-less : tie.Need-loop-less Inv-loop μ-loop
-loop-less c =
-    let earlier = c .before .before .before .before in
-    let early = earlier .before .before .before .before in
-    let loop-test = early .before .loop-test in
-    omega (arith, loop-test .taken)
-
 loop-again : tie.Need-loop-again Inv-loop μ-loop
 loop-again c =
     let earlier = c .before .before .before .before in
@@ -121,7 +107,7 @@ rounds-spec =
     returns
     count-round-requires
     process-inner-requires
-    sub-left
-    loop-less
+    (λ c. search needs)
+    (λ c. search needs)
     loop-again
     returns-2)

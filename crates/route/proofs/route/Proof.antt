@@ -8,9 +8,6 @@ use borrow.Author.Needs.{needs}
 use Rattle.route.proofs.route.Statement.{statement}
 use Rattle.route.proofs.route.Tie as tie
 
-judge-requires : tie.Need-judge-requires
-judge-requires c κs = search needs
-
 enum-told : tie.Need-enum-told
 enum-told c = search needs
 
@@ -18,12 +15,6 @@ answer-requires : tie.Need-answer-requires
 answer-requires c κs =
     let judge = c .before .before .before .judge in
     sym (judge .ensures) ∙ ap saidByJudge (c .before .enum-told .given .1)
-
-enum-known-judged : tie.Need-enum-known-judged
-enum-known-judged c = search needs
-
-same-length : tie.Need-same-length
-same-length c = search needs
 
 returns : tie.Need-returns
 returns c =
@@ -40,10 +31,10 @@ pub route-spec : {M : Type 1} → statement M
 route-spec =
     tie.close
     (tie.spec
-    judge-requires
+    (λ c κs. search needs)
     enum-told
     answer-requires
-    enum-known-judged
-    same-length
+    (λ c. search needs)
+    (λ c. search needs)
     returns
     returns-2)

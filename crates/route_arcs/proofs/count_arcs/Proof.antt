@@ -23,9 +23,6 @@ loop-holds c =
     let pre = c .before .before .before .pre in
     record { reached = pre .1; total = zero-add _ }
 
-cast-if1 : tie.Need-cast-if1 Inv-loop μ-loop
-cast-if1 c = search needs
-
 previous-requires : tie.Need-previous-requires Inv-loop μ-loop
 previous-requires c κs =
     let earlier = c .before .before .before .before in
@@ -73,7 +70,7 @@ count-arcs-spec =
     μ-loop
     source-number-requires
     loop-holds
-    cast-if1
+    (λ c. search needs)
     previous-requires
     add-arcs
     loop-less

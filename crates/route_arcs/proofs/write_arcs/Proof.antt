@@ -39,12 +39,6 @@ previous-requires c κs =
     let away = write-away (pre .0) (c .before .before .loop .inv) (c .before .loop-test .taken) in
     (pre .0 .fitting, c .before .before .loop .inv .reached .inside, arc-there (pre .0) (c .before .before .loop .inv .reached) away)
 
-sub-left : tie.Need-sub-left Inv-loop μ-loop
-sub-left c = omega arith
-
-loop-less : tie.Need-loop-less Inv-loop μ-loop
-loop-less c = omega arith
-
 loop-again : tie.Need-loop-again Inv-loop μ-loop
 loop-again c =
     let earlier = c .before .before .before .before in
@@ -73,8 +67,8 @@ write-arcs-spec =
     mul-buffer
     slice-write-buffer
     previous-requires
-    sub-left
-    loop-less
+    (λ c. omega arith)
+    (λ c. omega arith)
     loop-again
     same-length
     returns)

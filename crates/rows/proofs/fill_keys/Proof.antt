@@ -3,7 +3,7 @@ use Prim.Native.Nat.{_-_}
 use borrow.Author.Needs.{needs}
 use native.Mathlib.Omega.{arith}
 use lib.ListN.{length, length-set}
-use Rattle.rows.proofs.Filled.{Filling, filling-start, filling-step, filling-end}
+use Rattle.rows.proofs.Filled.{Filling, filling-step, filling-end}
 use Rattle.rows.proofs.fill_keys.Statement.{statement}
 use Rattle.rows.proofs.fill_keys.Tie as tie
 
@@ -13,26 +13,11 @@ Inv-loop keys₀ k i₀ keys i = Filling keys₀ k keys i
 abbrev μ-loop : tie.MeasureT-loop
 μ-loop keys₀ k i₀ keys i = length keys - i
 
-loop-holds : tie.Need-loop-holds Inv-loop μ-loop
-loop-holds c = filling-start (c .args .keys .now) _
-
-mul-keys : tie.Need-mul-keys Inv-loop μ-loop
-mul-keys c = search needs
-
-slice-write-keys : tie.Need-slice-write-keys Inv-loop μ-loop
-slice-write-keys c = search needs
-
-add-i : tie.Need-add-i Inv-loop μ-loop
-add-i c = search needs
-
 loop-less : tie.Need-loop-less Inv-loop μ-loop
 loop-less c = simp length-set (omega arith)
 
 loop-again : tie.Need-loop-again Inv-loop μ-loop
 loop-again c = filling-step (c .before .loop .inv) (c .loop-test .taken)
-
-same-length : tie.Need-same-length Inv-loop μ-loop
-same-length c = c .before .loop .inv .long
 
 returns : tie.Need-returns Inv-loop μ-loop
 returns c = filling-end (c .before .loop .inv) (c .loop-test .left)
@@ -43,11 +28,11 @@ fill-keys-spec =
     (tie.spec
     Inv-loop
     μ-loop
-    loop-holds
-    mul-keys
-    slice-write-keys
-    add-i
+    (λ c. search needs)
+    (λ c. search needs)
+    (λ c. search needs)
+    (λ c. search needs)
     loop-less
     loop-again
-    same-length
+    (λ c. search needs)
     returns)

@@ -15,9 +15,6 @@ wrong-length-requires c κs =
     let pre = c .before .before .before .pre in
     front-there _ pre
 
-same-length : tie.Need-same-length
-same-length c = search needs
-
 returns : tie.Need-returns
 returns c =
     let earlier = c .before .before .before .before in
@@ -35,14 +32,6 @@ run-accepted-requires c κs =
     let pre = earlier .before .before .before .pre in
     table-fits (c .before .find-sections .ensures) pre (sym (c .before .before .before .wrong-length .ensures) ∙ c .before .before .if1 .left)
 
-status-requires : tie.Need-status-requires
-status-requires c κs = search needs
-
-same-length-2 : tie.Need-same-length-2
-same-length-2 c =
-    let run-accepted = c .before .before .before .run-accepted in
-    run-accepted .kept .1 .1 .1 .0
-
 returns-2 : tie.Need-returns-2
 returns-2 c =
     let earlier = c .before .before .before .before in
@@ -59,10 +48,10 @@ run-accepted-spec =
     tie.close
     (tie.spec
     wrong-length-requires
-    same-length
+    (λ c. search needs)
     returns
     find-sections-requires
     run-accepted-requires
-    status-requires
-    same-length-2
+    (λ c κs. search needs)
+    (λ c. search needs)
     returns-2)

@@ -6,12 +6,6 @@ use Rattle.answers.proofs.Outcome.{refused-sheet}
 use Rattle.run.proofs.run_rounds.Statement.{statement}
 use Rattle.run.proofs.run_rounds.Tie as tie
 
-judge-requires : tie.Need-judge-requires
-judge-requires c κs = search needs
-
-enum-known-judged : tie.Need-enum-known-judged
-enum-known-judged c = search needs
-
 enum-told : tie.Need-enum-told
 enum-told c = search needs
 
@@ -27,20 +21,14 @@ returns c =
     let judge = c .before .before .before .judge in
     refused-sheet (args .sheet .now) (args .limit) (args .table .now) _ (sym (judge .ensures) ∙ ap judged-says (c .before .judged .given .1))
 
-same-length : tie.Need-same-length
-same-length c = c .before .before .run-accepted .kept .1 .1 .0
-
-returns-2 : tie.Need-returns-2
-returns-2 c = c .before .before .run-accepted .ensures
-
 pub run-rounds-spec : {M : Type 1} → statement M
 run-rounds-spec =
     tie.close
     (tie.spec
-    judge-requires
-    enum-known-judged
+    (λ c κs. search needs)
+    (λ c. search needs)
     enum-told
     run-accepted-requires
     returns
-    same-length
-    returns-2)
+    (λ c. search needs)
+    (λ c. search needs))

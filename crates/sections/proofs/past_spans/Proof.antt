@@ -20,18 +20,6 @@ abbrev μ-loop : tie.MeasureT-loop
 loop-holds : tie.Need-loop-holds Inv-loop μ-loop
 loop-holds c = (search needs, lead-none _)
 
-add-loop : tie.Need-add-loop Inv-loop μ-loop
-add-loop c = search needs
-
-add-kind-at : tie.Need-add-kind-at Inv-loop μ-loop
-add-kind-at c = search needs
-
-kind-at-requires : tie.Need-kind-at-requires Inv-loop μ-loop
-kind-at-requires c κs = search needs
-
-add-t10 : tie.Need-add-t10 Inv-loop μ-loop
-add-t10 c = search needs
-
 returns : tie.Need-returns Inv-loop μ-loop
 unfolding spansFrom
 returns c =
@@ -40,19 +28,10 @@ returns c =
     let loop = c .before .before .before .loop in
     ap (λ (n : ℕ). args .c .at + n) (sym (lead-stop _ _ _ (omega arith) (loop .inv .1) (rw (← c .before .kind-at .ensures) (ne-eqb _ _ (c .if1 .taken)))))
 
-add-k : tie.Need-add-k Inv-loop μ-loop
-add-k c = search needs
-
-loop-less : tie.Need-loop-less Inv-loop μ-loop
-loop-less c = search needs
-
 loop-again : tie.Need-loop-again Inv-loop μ-loop
 loop-again c =
     let loop = c .before .before .before .loop in
     (omega arith, lead-more _ _ (loop .inv .1) (rw (← c .before .kind-at .ensures) (eq-eqb _ _ (c .if1 .left))))
-
-add-t6 : tie.Need-add-t6 Inv-loop μ-loop
-add-t6 c = search needs
 
 returns-2 : tie.Need-returns-2 Inv-loop μ-loop
 unfolding spansFrom
@@ -67,13 +46,13 @@ past-spans-spec =
     Inv-loop
     μ-loop
     loop-holds
-    add-loop
-    add-kind-at
-    kind-at-requires
-    add-t10
+    (λ c. search needs)
+    (λ c. search needs)
+    (λ c κs. search needs)
+    (λ c. search needs)
     returns
-    add-k
-    loop-less
+    (λ c. search needs)
+    (λ c. search needs)
     loop-again
-    add-t6
+    (λ c. search needs)
     returns-2)

@@ -5,20 +5,11 @@ use borrow.Author.Needs.{needs}
 use Rattle.status_line.proofs.put_status.Statement.{statement}
 use Rattle.status_line.proofs.put_status.Tie as tie
 
-payload-at-requires : tie.Need-payload-at-requires
-payload-at-requires c κs = search needs
-
-slice-aggregate-put-text : tie.Need-slice-aggregate-put-text
-slice-aggregate-put-text c = search needs
-
 put-text-requires : tie.Need-put-text-requires
 put-text-requires c κs =
     let payload-at = c .before .before .before .payload-at in
     let pre = c .before .before .before .before .before .before .pre in
     rw (status-ended _ (sym (payload-at .ensures) ∙ c .before .before .if1 .taken)) at (pre .1)
-
-same-length : tie.Need-same-length
-same-length c = search needs
 
 returns : tie.Need-returns
 returns c =
@@ -26,17 +17,11 @@ returns c =
     let payload-at = c .before .before .before .before .before .before .payload-at in
     rw (status-ended _ (sym (payload-at .ensures) ∙ if1 .taken)) (c .before .before .put-text .ensures)
 
-slice-aggregate-put-text-2 : tie.Need-slice-aggregate-put-text-2
-slice-aggregate-put-text-2 c = search needs
-
 put-text-requires-2 : tie.Need-put-text-requires-2
 put-text-requires-2 c κs =
     let payload-at = c .before .before .before .payload-at in
     let pre = c .before .before .before .before .before .before .pre in
     rw (status-paused _ (λ e. c .before .before .if1 .left (payload-at .ensures ∙ e))) at (pre .1)
-
-same-length-2 : tie.Need-same-length-2
-same-length-2 c = search needs
 
 returns-2 : tie.Need-returns-2
 returns-2 c =
@@ -48,12 +33,12 @@ pub put-status-spec : {M : Type 1} → statement M
 put-status-spec =
     tie.close
     (tie.spec
-    payload-at-requires
-    slice-aggregate-put-text
+    (λ c κs. search needs)
+    (λ c. search needs)
     put-text-requires
-    same-length
+    (λ c. search needs)
     returns
-    slice-aggregate-put-text-2
+    (λ c. search needs)
     put-text-requires-2
-    same-length-2
+    (λ c. search needs)
     returns-2)

@@ -1,6 +1,6 @@
 -- `write_nodes` meets its contract: the words of the nodes passed are written. Assumes nothing.
+use borrow.Author.Needs.{needs}
 use Prim.Native.Nat.{_-_}
-use native.Mathlib.Omega.{arith}
 use lib.ListN.{length}
 use Rattle.table.proofs.Writing.{Writing, writing-start, writing-step, writing-length, writing-end, node-places}
 use Rattle.table.proofs.write_nodes.Statement.{statement}
@@ -15,31 +15,11 @@ abbrev μ-loop : tie.MeasureT-loop
 loop-holds : tie.Need-loop-holds Inv-loop μ-loop
 loop-holds c = writing-start
 
-mul-label-word : tie.Need-mul-label-word Inv-loop μ-loop
-mul-label-word c = omega (arith, c .loop-test .taken)
-
-shared-slice-read-label-word : tie.Need-shared-slice-read-label-word Inv-loop μ-loop
-shared-slice-read-label-word c = omega (arith, c .before .loop-test .taken)
-
 label-word-requires : tie.Need-label-word-requires Inv-loop μ-loop
 label-word-requires c κs =
     let earlier = c .before .before .before .before in
     let pre = earlier .before .before .pre in
     pre .label _ (c .before .loop-test .taken)
-
-mul-predecessor-word : tie.Need-mul-predecessor-word Inv-loop μ-loop
-mul-predecessor-word c =
-    let earlier = c .before .before .before .before in
-    let pre = earlier .before .before .before .pre in
-    omega (arith, c .before .before .loop-test .taken, pre .fed)
-
-shared-slice-read-predecessor-word : tie.Need-shared-slice-read-predecessor-word Inv-loop μ-loop
-shared-slice-read-predecessor-word c =
-    let earlier = c .before .before .before .before in
-    let early = earlier .before .before .before .before in
-    let loop-test = c .before .before .before .loop-test in
-    let pre = early .pre in
-    omega (arith, loop-test .taken, pre .fed)
 
 predecessor-word-requires : tie.Need-predecessor-word-requires Inv-loop μ-loop
 predecessor-word-requires c κs =
@@ -49,21 +29,6 @@ predecessor-word-requires c κs =
     let loop-test = c .before .before .before .loop-test in
     pre .predecessor _ (loop-test .taken)
 
-mul-write-pair : tie.Need-mul-write-pair Inv-loop μ-loop
-mul-write-pair c =
-    let earlier = c .before .before .before .before in
-    let loop-test = earlier .before .loop-test in
-    omega (arith, loop-test .taken)
-
-add-write-pair : tie.Need-add-write-pair Inv-loop μ-loop
-add-write-pair c =
-    let earlier = c .before .before .before .before in
-    let early = earlier .before .before .before .before in
-    let pre = early .before .before .pre in
-    let loop = earlier .before .before .loop in
-    let loop-test = earlier .before .loop-test in
-    omega (arith, node-places (pre) (loop .inv) (loop-test .taken))
-
 write-pair-requires : tie.Need-write-pair-requires Inv-loop μ-loop
 write-pair-requires c κs =
     let earlier = c .before .before .before .before in
@@ -72,20 +37,6 @@ write-pair-requires c κs =
     let loop = earlier .before .before .loop in
     let loop-test = earlier .before .loop-test in
     node-places (pre) (loop .inv) (loop-test .taken)
-
-add-v : tie.Need-add-v Inv-loop μ-loop
-add-v c =
-    let earlier = c .before .before .before .before in
-    let early = earlier .before .before .before .before in
-    let loop-test = early .loop-test in
-    omega (arith, loop-test .taken)
-
-loop-less : tie.Need-loop-less Inv-loop μ-loop
-loop-less c =
-    let earlier = c .before .before .before .before in
-    let early = earlier .before .before .before .before in
-    let loop-test = early .loop-test in
-    omega (arith, loop-test .taken)
 
 loop-again : tie.Need-loop-again Inv-loop μ-loop
 loop-again c =
@@ -110,17 +61,17 @@ write-nodes-spec =
     Inv-loop
     μ-loop
     loop-holds
-    mul-label-word
-    shared-slice-read-label-word
+    (λ c. search needs)
+    (λ c. search needs)
     label-word-requires
-    mul-predecessor-word
-    shared-slice-read-predecessor-word
+    (λ c. search needs)
+    (λ c. search needs)
     predecessor-word-requires
-    mul-write-pair
-    add-write-pair
+    (λ c. search needs)
+    (λ c. search needs)
     write-pair-requires
-    add-v
-    loop-less
+    (λ c. search needs)
+    (λ c. search needs)
     loop-again
     same-length
     returns)

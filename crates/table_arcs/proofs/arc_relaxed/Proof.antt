@@ -7,9 +7,6 @@ use native.Mathlib.Omega.{arith}
 use Rattle.table_arcs.proofs.arc_relaxed.Statement.{statement}
 use Rattle.table_arcs.proofs.arc_relaxed.Tie as tie
 
-end-at-requires : tie.Need-end-at-requires
-end-at-requires c κs = search needs
-
 label-of-requires : tie.Need-label-of-requires
 label-of-requires c κs =
     let pre = c .before .before .before .pre in
@@ -22,17 +19,11 @@ returns c =
     let pre = earlier .before .pre in
     relaxed-unreached (pre .0) (pre .1) (c .before .before .end-at .ensures .0) (c .before .label-of .ensures) (c .if1 .taken)
 
-end-at-requires-2 : tie.Need-end-at-requires-2
-end-at-requires-2 c κs = search needs
-
 label-of-requires-2 : tie.Need-label-of-requires-2
 label-of-requires-2 c κs =
     let earlier = c .before .before .before .before in
     let pre = earlier .before .before .pre in
     omega (arith, pre .0 .sized, c .end-at2 .ensures .0, head-in _ (pre .0 .accepted) _ (pre .1))
-
-length-at-requires : tie.Need-length-at-requires
-length-at-requires c κs = search needs
 
 add-result : tie.Need-add-result
 add-result c =
@@ -58,11 +49,11 @@ pub arc-relaxed-spec : {M : Type 1} → statement M
 arc-relaxed-spec =
     tie.close
     (tie.spec
-    end-at-requires
+    (λ c κs. search needs)
     label-of-requires
     returns
-    end-at-requires-2
+    (λ c κs. search needs)
     label-of-requires-2
-    length-at-requires
+    (λ c κs. search needs)
     add-result
     returns-2)

@@ -7,9 +7,6 @@ use native.Mathlib.Omega.{arith}
 use Rattle.table_arcs.proofs.source_fits.Statement.{statement}
 use Rattle.table_arcs.proofs.source_fits.Tie as tie
 
-source-number-requires : tie.Need-source-number-requires
-source-number-requires c κs = search needs
-
 cast-t6 : tie.Need-cast-t6
 cast-t6 c =
     let pre = c .before .before .before .pre in
@@ -44,7 +41,7 @@ pub source-fits-spec : {M : Type 1} → statement M
 source-fits-spec =
     tie.close
     (tie.spec
-    source-number-requires
+    (λ c κs. search needs)
     cast-t6
     label-of-requires
     returns

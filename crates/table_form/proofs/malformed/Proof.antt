@@ -8,15 +8,9 @@ use native.Mathlib.Omega.{arith}
 use Rattle.table_form.proofs.malformed.Statement.{statement}
 use Rattle.table_form.proofs.malformed.Tie as tie
 
-wrong-kind-requires : tie.Need-wrong-kind-requires
-wrong-kind-requires c κs = search needs
-
 returns : tie.Need-returns
 unfolding malformed
 returns c = rw (sym (c .before .wrong-kind .ensures) ∙ c .if1 .taken)
-
-wrong-counts-requires : tie.Need-wrong-counts-requires
-wrong-counts-requires c κs = search needs
 
 returns-2 : tie.Need-returns-2
 unfolding malformed
@@ -24,9 +18,6 @@ returns-2 c =
     let wrong-kind = c .before .before .before .wrong-kind in
     let status-kind = sym (wrong-kind .ensures) ∙ c .before .before .if1 .left in
     rw (status-kind, sym (c .before .wrong-counts .ensures) ∙ c .if2 .taken)
-
-status-requires : tie.Need-status-requires
-status-requires c κs = search needs
 
 returns-3 : tie.Need-returns-3
 unfolding malformed
@@ -38,9 +29,6 @@ returns-3 c =
     let status-kind = sym (wrong-kind .ensures) ∙ if1 .left in
     let count-kinds = sym (wrong-counts .ensures) ∙ c .before .before .if2 .left in
     rw (status-kind, count-kinds, ← c .before .status .ensures, lt-ltb _ _ (c .if3 .taken))
-
-node-count-requires : tie.Need-node-count-requires
-node-count-requires c κs = search needs
 
 cast-wrong-nodes : tie.Need-cast-wrong-nodes
 cast-wrong-nodes c =
@@ -55,9 +43,6 @@ cast-wrong-nodes-2 c =
     let early = earlier .before .before .before .before in
     let pre = early .before .before .pre in
     omega (arith, few-arcs _ (pre .accepted), pre .located .arcs-all)
-
-wrong-nodes-requires : tie.Need-wrong-nodes-requires
-wrong-nodes-requires c κs = search needs
 
 returns-4 : tie.Need-returns-4
 unfolding malformed
@@ -80,14 +65,14 @@ pub malformed-spec : {M : Type 1} → statement M
 malformed-spec =
     tie.close
     (tie.spec
-    wrong-kind-requires
+    (λ c κs. search needs)
     returns
-    wrong-counts-requires
+    (λ c κs. search needs)
     returns-2
-    status-requires
+    (λ c κs. search needs)
     returns-3
-    node-count-requires
+    (λ c κs. search needs)
     cast-wrong-nodes
     cast-wrong-nodes-2
-    wrong-nodes-requires
+    (λ c κs. search needs)
     returns-4)

@@ -5,12 +5,6 @@ use lib.ListN.{length-set}
 use Rattle.table_header.proofs.write_header.Statement.{statement}
 use Rattle.table_header.proofs.write_header.Tie as tie
 
-status-word-requires : tie.Need-status-word-requires
-status-word-requires c κs = search needs
-
-slice-write-table : tie.Need-slice-write-table
-slice-write-table c = search needs
-
 write-count-requires : tie.Need-write-count-requires
 write-count-requires c κs =
     let pre = c .before .before .before .pre in
@@ -78,8 +72,8 @@ pub write-header-spec : {M : Type 1} → statement M
 write-header-spec =
     tie.close
     (tie.spec
-    status-word-requires
-    slice-write-table
+    (λ c κs. search needs)
+    (λ c. search needs)
     write-count-requires
     write-count-requires-2
     write-count-requires-3

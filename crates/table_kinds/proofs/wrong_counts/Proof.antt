@@ -18,20 +18,8 @@ abbrev μ-loop : tie.MeasureT-loop
 loop-holds : tie.Need-loop-holds Inv-loop μ-loop
 loop-holds c = (omega arith, any-none _)
 
-add-wrong-kind : tie.Need-add-wrong-kind Inv-loop μ-loop
-add-wrong-kind c = omega arith
-
-wrong-kind-requires : tie.Need-wrong-kind-requires Inv-loop μ-loop
-wrong-kind-requires c κs = omega arith
-
 returns : tie.Need-returns Inv-loop μ-loop
 returns c = sym (any-hit _ _ _ (omega arith) (sym (c .before .wrong-kind .ensures) ∙ c .if1 .taken))
-
-add-i : tie.Need-add-i Inv-loop μ-loop
-add-i c = omega arith
-
-loop-less : tie.Need-loop-less Inv-loop μ-loop
-loop-less c = omega arith
 
 loop-again : tie.Need-loop-again Inv-loop μ-loop
 loop-again c =
@@ -48,10 +36,10 @@ wrong-counts-spec =
     Inv-loop
     μ-loop
     loop-holds
-    add-wrong-kind
-    wrong-kind-requires
+    (λ c. omega arith)
+    (λ c κs. omega arith)
     returns
-    add-i
-    loop-less
+    (λ c. omega arith)
+    (λ c. omega arith)
     loop-again
     returns-2)

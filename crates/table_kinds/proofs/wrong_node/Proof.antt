@@ -7,27 +7,9 @@ use borrow.Author.Needs.{needs}
 use Rattle.table_kinds.proofs.wrong_node.Statement.{statement}
 use Rattle.table_kinds.proofs.wrong_node.Tie as tie
 
-cast-i : tie.Need-cast-i
-cast-i c = search needs
-
-mul-i : tie.Need-mul-i
-mul-i c = search needs
-
-add-i : tie.Need-add-i
-add-i c = search needs
-
-wrong-kind-requires : tie.Need-wrong-kind-requires
-wrong-kind-requires c κs = search needs
-
 returns : tie.Need-returns
 unfolding wrongNode
 returns c = rw (sym (c .before .wrong-kind .ensures) ∙ c .if1 .taken)
-
-add-wrong-kind : tie.Need-add-wrong-kind
-add-wrong-kind c = search needs
-
-wrong-kind-requires-2 : tie.Need-wrong-kind-requires-2
-wrong-kind-requires-2 c κs = search needs
 
 returns-2 : tie.Need-returns-2
 unfolding wrongNode
@@ -35,9 +17,6 @@ returns-2 c =
     let wrong-kind = c .before .before .before .wrong-kind in
     let label = sym (wrong-kind .ensures) ∙ c .before .before .if1 .left in
     rw (label, sym (c .before .wrong-kind2 .ensures) ∙ c .if2 .taken)
-
-predecessor-of-requires : tie.Need-predecessor-of-requires
-predecessor-of-requires c κs = search needs
 
 returns-3 : tie.Need-returns-3
 unfolding wrongNode
@@ -65,14 +44,14 @@ pub wrong-node-spec : {M : Type 1} → statement M
 wrong-node-spec =
     tie.close
     (tie.spec
-    cast-i
-    mul-i
-    add-i
-    wrong-kind-requires
+    (λ c. search needs)
+    (λ c. search needs)
+    (λ c. search needs)
+    (λ c κs. search needs)
     returns
-    add-wrong-kind
-    wrong-kind-requires-2
+    (λ c. search needs)
+    (λ c κs. search needs)
     returns-2
-    predecessor-of-requires
+    (λ c κs. search needs)
     returns-3
     returns-4)

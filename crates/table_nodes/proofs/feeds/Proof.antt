@@ -7,18 +7,12 @@ use native.Mathlib.Omega.{arith}
 use Rattle.table_nodes.proofs.feeds.Statement.{statement}
 use Rattle.table_nodes.proofs.feeds.Tie as tie
 
-end-at-requires : tie.Need-end-at-requires
-end-at-requires c κs = search needs
-
 returns : tie.Need-returns
 returns c =
     let earlier = c .before .before .before .before in
     let pre = earlier .before .before .pre in
     let end-at = c .before .before .before .end-at in
     feeds-elsewhere (pre .0) (pre .1) (end-at .ensures .0) (c .if1 .taken)
-
-end-at-requires-2 : tie.Need-end-at-requires-2
-end-at-requires-2 c κs = search needs
 
 label-of-requires : tie.Need-label-of-requires
 label-of-requires c κs =
@@ -36,18 +30,12 @@ returns-2 c =
     let if1 = c .before .before .before .if1 in
     feeds-unreached (pre .0) (pre .1) (c .before .before .end-at2 .ensures .0) (c .before .label-of .ensures) (end-at .ensures .0) (if1 .left) (c .if2 .taken)
 
-length-at-requires : tie.Need-length-at-requires
-length-at-requires c κs = search needs
-
 add-result : tie.Need-add-result
 add-result c =
     let earlier = c .before .before .before .before in
     let early = earlier .before .before .before .before in
     let pre = early .before .before .pre in
     omega (arith, c .before .before .label-of .ensures, c .length-at .ensures, length-short _ (pre .0 .accepted) _ (pre .1))
-
-label-of-requires-2 : tie.Need-label-of-requires-2
-label-of-requires-2 c κs = search needs
 
 returns-3 : tie.Need-returns-3
 unfolding top
@@ -66,12 +54,12 @@ pub feeds-spec : {M : Type 1} → statement M
 feeds-spec =
     tie.close
     (tie.spec
-    end-at-requires
+    (λ c κs. search needs)
     returns
-    end-at-requires-2
+    (λ c κs. search needs)
     label-of-requires
     returns-2
-    length-at-requires
+    (λ c κs. search needs)
     add-result
-    label-of-requires-2
+    (λ c κs. search needs)
     returns-3)

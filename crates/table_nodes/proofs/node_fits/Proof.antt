@@ -8,26 +8,12 @@ use native.Mathlib.Omega.{arith}
 use Rattle.table_nodes.proofs.node_fits.Statement.{statement}
 use Rattle.table_nodes.proofs.node_fits.Tie as tie
 
-predecessor-of-requires : tie.Need-predecessor-of-requires
-predecessor-of-requires c κs = omega (arith, c .before .before .pre .0 .sized, c .before .before .pre .1)
-
-label-of-requires : tie.Need-label-of-requires
-label-of-requires c κs =
-    let pre = c .before .before .before .pre in
-    omega (arith, pre .0 .sized, pre .1)
-
 returns : tie.Need-returns
 unfolding top
 returns c =
     let earlier = c .before .before .before .before in
     let pre = earlier .before .pre in
     fits-unreached (pre .0) (pre .1) (c .before .label-of .ensures) (c .before .before .predecessor-of .ensures) (c .if1 .taken)
-
-cast-if2 : tie.Need-cast-if2
-cast-if2 c = search needs
-
-source-number-requires : tie.Need-source-number-requires
-source-number-requires c κs = search needs
 
 returns-2 : tie.Need-returns-2
 unfolding top
@@ -39,9 +25,6 @@ returns-2 c =
     let predecessor-of = earlier .before .predecessor-of in
     let if1 = c .before .before .before .if1 in
     fits-source (pre .0) (pre .1) (label-of .ensures) (predecessor-of .ensures) (if1 .left) (c .before .source-number .ensures) (c .if2 .taken)
-
-cast-if3 : tie.Need-cast-if3
-cast-if3 c = search needs
 
 returns-3 : tie.Need-returns-3
 unfolding top
@@ -63,13 +46,6 @@ cast-t10 c =
     let pre = early .before .before .pre in
     omega (arith, few-arcs _ (pre .0 .accepted), c .if3 .left, pre .0 .located .arcs-all)
 
-feeds-requires : tie.Need-feeds-requires
-feeds-requires c κs =
-    let earlier = c .before .before .before .before in
-    let early = earlier .before .before .before .before in
-    let pre = early .before .before .pre in
-    (pre .0, omega (arith, c .if3 .left, pre .0 .located .arcs-all), pre .1)
-
 returns-4 : tie.Need-returns-4
 unfolding top
 returns-4 c =
@@ -88,14 +64,14 @@ pub node-fits-spec : {M : Type 1} → statement M
 node-fits-spec =
     tie.close
     (tie.spec
-    predecessor-of-requires
-    label-of-requires
+    (λ c κs. search needs)
+    (λ c κs. search needs)
     returns
-    cast-if2
-    source-number-requires
+    (λ c. search needs)
+    (λ c κs. search needs)
     returns-2
-    cast-if3
+    (λ c. search needs)
     returns-3
     cast-t10
-    feeds-requires
+    (λ c κs. search needs)
     returns-4)

@@ -1,4 +1,5 @@
 -- `nodes_fit` meets its contract: the nodes passed fit. Assumes nothing.
+use borrow.Author.Needs.{needs}
 use Prim.Native.Nat.{_-_, _≤_}
 use borrow.Author.Tests.{not-true, not-false}
 use mathlib.Core.Path.{_≡_, sym, _∙_}
@@ -18,9 +19,6 @@ Inv-loop s at table nodes v₀ v = (v ≤ nodeCount s) × (all (nodeFits s table
 abbrev μ-loop : tie.MeasureT-loop
 μ-loop s at table nodes v₀ v = nodeCount s - v
 
-node-count-requires : tie.Need-node-count-requires Inv-loop μ-loop
-node-count-requires c κs = c .before .before .pre .located .front
-
 cast-nodes : tie.Need-cast-nodes Inv-loop μ-loop
 cast-nodes c =
     let pre = c .before .before .before .pre in
@@ -28,12 +26,6 @@ cast-nodes c =
 
 loop-holds : tie.Need-loop-holds Inv-loop μ-loop
 loop-holds c = (omega arith, all-none _)
-
-node-fits-requires : tie.Need-node-fits-requires Inv-loop μ-loop
-node-fits-requires c κs =
-    let earlier = c .before .before .before .before in
-    let pre = earlier .before .pre in
-    (pre, omega arith)
 
 returns : tie.Need-returns Inv-loop μ-loop
 returns c = sym (all-miss _ _ _ (omega arith) (sym (c .before .node-fits .ensures) ∙ not-true _ (c .if1 .taken)))
@@ -43,9 +35,6 @@ add-v c =
     let earlier = c .before .before .before .before in
     let pre = earlier .before .before .before .pre in
     omega (arith, few-nodes _ (pre .accepted))
-
-loop-less : tie.Need-loop-less Inv-loop μ-loop
-loop-less c = omega arith
 
 loop-again : tie.Need-loop-again Inv-loop μ-loop
 loop-again c =
@@ -61,12 +50,12 @@ nodes-fit-spec =
     (tie.spec
     Inv-loop
     μ-loop
-    node-count-requires
+    (λ c κs. search needs)
     cast-nodes
     loop-holds
-    node-fits-requires
+    (λ c κs. search needs)
     returns
     add-v
-    loop-less
+    (λ c. omega arith)
     loop-again
     returns-2)

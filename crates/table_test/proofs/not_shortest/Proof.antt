@@ -7,17 +7,11 @@ use borrow.Author.Needs.{needs}
 use Rattle.table_test.proofs.not_shortest.Statement.{statement}
 use Rattle.table_test.proofs.not_shortest.Tie as tie
 
-source-fits-requires : tie.Need-source-fits-requires
-source-fits-requires c κs = search needs
-
 returns : tie.Need-returns
 returns c =
     let earlier = c .before .before .before .before in
     let args = earlier .args in
     rw (shortest-parts (args .s .now) (args .table .now), sym (c .before .source-fits .ensures) ∙ not-true _ (c .if1 .taken))
-
-nodes-fit-requires : tie.Need-nodes-fit-requires
-nodes-fit-requires c κs = search needs
 
 returns-2 : tie.Need-returns-2
 returns-2 c =
@@ -26,9 +20,6 @@ returns-2 c =
     let args = earlier .before .before .args in
     let source = sym (source-fits .ensures) ∙ not-false _ (c .before .before .if1 .left) in
     rw (shortest-parts (args .s .now) (args .table .now), source, sym (c .before .nodes-fit .ensures) ∙ not-true _ (c .if2 .taken))
-
-arcs-relaxed-requires : tie.Need-arcs-relaxed-requires
-arcs-relaxed-requires c κs = search needs
 
 returns-3 : tie.Need-returns-3
 returns-3 c =
@@ -68,11 +59,11 @@ pub not-shortest-spec : {M : Type 1} → statement M
 not-shortest-spec =
     tie.close
     (tie.spec
-    source-fits-requires
+    (λ c κs. search needs)
     returns
-    nodes-fit-requires
+    (λ c κs. search needs)
     returns-2
-    arcs-relaxed-requires
+    (λ c κs. search needs)
     returns-3
     nodes-led-requires
     returns-4)

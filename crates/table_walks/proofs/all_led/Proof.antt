@@ -23,9 +23,6 @@ abbrev μ-loop : tie.MeasureT-loop
 source-number-requires : tie.Need-source-number-requires Inv-loop μ-loop
 source-number-requires c κs = c .before .before .pre .0 .fitting .located .front
 
-cast-home : tie.Need-cast-home Inv-loop μ-loop
-cast-home c = omega arith
-
 mul-stamps : tie.Need-mul-stamps Inv-loop μ-loop
 mul-stamps c =
     let pre = c .before .before .before .pre in
@@ -69,9 +66,6 @@ add-v c =
     let pre = early .before .pre in
     omega (arith, few-nodes _ (pre .0 .fitting .accepted))
 
-loop-less : tie.Need-loop-less Inv-loop μ-loop
-loop-less c = omega arith
-
 loop-again : tie.Need-loop-again Inv-loop μ-loop
 loop-again c =
     let earlier = c .before .before .before .before in
@@ -89,7 +83,7 @@ all-led-spec =
     Inv-loop
     μ-loop
     source-number-requires
-    cast-home
+    (λ c. omega arith)
     mul-stamps
     element-write-stamps
     node-count-requires
@@ -98,6 +92,6 @@ all-led-spec =
     node-led-requires
     returns
     add-v
-    loop-less
+    (λ c. omega arith)
     loop-again
     returns-2)

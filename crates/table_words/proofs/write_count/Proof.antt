@@ -3,24 +3,6 @@ use borrow.Author.Needs.{needs}
 use Rattle.table_words.proofs.write_count.Statement.{statement}
 use Rattle.table_words.proofs.write_count.Tie as tie
 
-cast-high : tie.Need-cast-high
-cast-high c = search needs
-
-cast-low : tie.Need-cast-low
-cast-low c = search needs
-
-word-requires : tie.Need-word-requires
-word-requires c κs = search needs
-
-word-requires-2 : tie.Need-word-requires-2
-word-requires-2 c κs = search needs
-
-write-pair-requires : tie.Need-write-pair-requires
-write-pair-requires c κs = search needs
-
-same-length : tie.Need-same-length
-same-length c = search needs
-
 returns : tie.Need-returns
 returns c =
     let earlier = c .before .before .before .before in
@@ -32,10 +14,10 @@ pub write-count-spec : {M : Type 1} → statement M
 write-count-spec =
     tie.close
     (tie.spec
-    cast-high
-    cast-low
-    word-requires
-    word-requires-2
-    write-pair-requires
-    same-length
+    (λ c. search needs)
+    (λ c. search needs)
+    (λ c κs. search needs)
+    (λ c κs. search needs)
+    (λ c κs. search needs)
+    (λ c. search needs)
     returns)

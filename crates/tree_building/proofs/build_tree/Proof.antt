@@ -1,13 +1,12 @@
 -- `build_tree` meets its contract: the places of the tree are decided from the last one down. Assumes nothing.
 use Prim.Native.Nat.{ℕ}
-use mathlib.Core.Path.{_≡_, refl}
+use mathlib.Core.Path.{_≡_}
 use mathlib.Core.List.{List}
 use borrow.Author.Needs.{needs}
 use native.Mathlib.Omega.{arith}
 use lib.ListN.{length}
 use Rattle.procedure.specs.Division.{Division}
 use Rattle.rows.specs.Rows.{field}
-use Rattle.tree_places.proofs.RegionRows.{row-in}
 use Rattle.tree_building.proofs.Building.{Building, building-start, building-in, building-step, building-end}
 use Rattle.tree_building.proofs.build_tree.Statement.{statement}
 use Rattle.tree_building.proofs.build_tree.Tie as tie
@@ -20,28 +19,6 @@ Inv-loop rows winners₀ start rest₀ winners rest =
 abbrev μ-loop : tie.MeasureT-loop
 μ-loop rows winners₀ start rest₀ winners rest = rest
 
-start-of-requires : tie.Need-start-of-requires Inv-loop μ-loop
-start-of-requires c κs =
-    let pre = c .before .before .pre in
-    row-in _ (pre .2 .entered .laid .planned .counted) (pre .3)
-
-cast-start : tie.Need-cast-start Inv-loop μ-loop
-cast-start c = search needs
-
-children-of-requires : tie.Need-children-of-requires Inv-loop μ-loop
-children-of-requires c κs =
-    let pre = c .before .before .before .pre in
-    row-in _ (pre .2 .entered .laid .planned .counted) (pre .3)
-
-cast-rest : tie.Need-cast-rest Inv-loop μ-loop
-cast-rest c = search needs
-
-loop-holds : tie.Need-loop-holds Inv-loop μ-loop
-loop-holds c = (refl, λ d keys r row B. B)
-
-sub-rest : tie.Need-sub-rest Inv-loop μ-loop
-sub-rest c = search needs
-
 decide-requires : tie.Need-decide-requires Inv-loop μ-loop
 decide-requires c κs =
     let earlier = c .before .before .before .before in
@@ -51,11 +28,6 @@ decide-requires c κs =
     let begin = building-start _ _ (pre .2) (pre .3) (children-of .ensures) in
     building-in (c .before .before .loop .inv .1 (pre .0) (pre .1) _ (start-of .ensures) begin) _ (start-of .ensures) (c .before .loop-test .taken)
 
-loop-less : tie.Need-loop-less Inv-loop μ-loop
-loop-less c =
-    let loop-test = c .before .before .before .before .loop-test in
-    omega (arith, loop-test .taken)
-
 loop-again : tie.Need-loop-again Inv-loop μ-loop
 loop-again c =
     let earlier = c .before .before .before .before in
@@ -64,9 +36,6 @@ loop-again c =
       omega (arith, decide .kept, loop .inv .0),
       λ d keys r row B. building-step (loop .inv .1 d keys r row B) _ row (earlier .loop-test .taken) _ (decide .ensures),
     )
-
-same-length : tie.Need-same-length Inv-loop μ-loop
-same-length c = c .before .loop .inv .0
 
 returns : tie.Need-returns Inv-loop μ-loop
 returns c =
@@ -81,14 +50,14 @@ build-tree-spec =
     (tie.spec
     Inv-loop
     μ-loop
-    start-of-requires
-    cast-start
-    children-of-requires
-    cast-rest
-    loop-holds
-    sub-rest
+    (λ c κs. search needs)
+    (λ c. search needs)
+    (λ c κs. search needs)
+    (λ c. search needs)
+    (λ c. search needs)
+    (λ c. search needs)
     decide-requires
-    loop-less
+    (λ c. search needs)
     loop-again
-    same-length
+    (λ c. search needs)
     returns)

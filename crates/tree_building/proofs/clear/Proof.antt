@@ -19,9 +19,6 @@ Inv-loop rows winners₀ count r₀ winners r =
 abbrev μ-loop : tie.MeasureT-loop
 μ-loop rows winners₀ count r₀ winners r = count - r
 
-enter-children-requires : tie.Need-enter-children-requires Inv-loop μ-loop
-enter-children-requires c κs = search needs
-
 loop-holds : tie.Need-loop-holds Inv-loop μ-loop
 loop-holds c = (refl, λ d keys e E. valid-none E)
 
@@ -34,16 +31,6 @@ build-tree-requires c κs =
     let start = entered .enter-children .ensures (pre .0) (pre .1) (pre .2) in
     (pre .0, _, pass .before .loop .inv .1 (pre .0) _ (pre .2) start, omega (arith, pass .loop-test .taken, pre .2))
 
-add-r : tie.Need-add-r Inv-loop μ-loop
-add-r c =
-    let pass = c .before .before .before .before in
-    omega (arith, pass .loop-test .taken)
-
-loop-less : tie.Need-loop-less Inv-loop μ-loop
-loop-less c =
-    let pass = c .before .before .before .before in
-    omega (arith, pass .loop-test .taken)
-
 loop-again : tie.Need-loop-again Inv-loop μ-loop
 loop-again c =
     let build-tree = c .before .before .build-tree in
@@ -52,11 +39,6 @@ loop-again c =
       omega (arith, build-tree .kept, loop .inv .0),
       λ d keys e E. build-tree .ensures d keys (loop .inv .1 d keys e E) (omega (arith, pass .loop-test .taken, e)),
     )
-
-same-length : tie.Need-same-length Inv-loop μ-loop
-same-length c =
-    let entered = c .before .before .before .before in
-    omega (arith, entered .enter-children .kept, c .before .loop .inv .0)
 
 returns : tie.Need-returns Inv-loop μ-loop
 returns c =
@@ -69,11 +51,11 @@ clear-spec =
     (tie.spec
     Inv-loop
     μ-loop
-    enter-children-requires
+    (λ c κs. search needs)
     loop-holds
     build-tree-requires
-    add-r
-    loop-less
+    (λ c. search needs)
+    (λ c. search needs)
     loop-again
-    same-length
+    (λ c. search needs)
     returns)

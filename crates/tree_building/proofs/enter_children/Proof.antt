@@ -6,7 +6,6 @@ use native.Mathlib.Omega.{arith}
 use lib.ListN.{length, length-set}
 use Rattle.procedure.specs.Division.{Division, regions, parent}
 use Rattle.tree_places.specs.Trees.{LaidOut}
-use Rattle.tree_places.proofs.RegionRows.{row-in}
 use Rattle.queue.proofs.Trees.{up-row, seat-inside}
 use Rattle.tree_building.proofs.Building.{Entering, entering-start, entering-step, entering-end}
 use Rattle.tree_building.proofs.enter_children.Statement.{statement}
@@ -42,42 +41,12 @@ parent-of-requires c κs = (_, now c .laid .planned .counted, now c .above, insi
 start-of-requires : tie.Need-start-of-requires Inv-loop μ-loop
 start-of-requires c κs = up-row (now (c .before) .laid .planned) _ _ (now (c .before) .above) (inside (c .before)) (over c)
 
-cast-start : tie.Need-cast-start Inv-loop μ-loop
-cast-start c = search needs
-
-seat-of-requires : tie.Need-seat-of-requires Inv-loop μ-loop
-seat-of-requires c κs =
-    let pass = c .before .before in
-    row-in _ (now pass .laid .planned .counted) (inside pass)
-
-cast-place : tie.Need-cast-place Inv-loop μ-loop
-cast-place c = search needs
-
-entry-of-requires : tie.Need-entry-of-requires Inv-loop μ-loop
-entry-of-requires c κs = search needs
-
-add-winners : tie.Need-add-winners Inv-loop μ-loop
-add-winners c = search needs
-
-mul-winners : tie.Need-mul-winners Inv-loop μ-loop
-mul-winners c = search needs
-
 slice-write-winners : tie.Need-slice-write-winners Inv-loop μ-loop
 slice-write-winners c =
     let up = c .before .before .before in
     let E = now (up .before) in
     seat-inside (E .laid .planned) _ _ (E .above) (inside (up .before)) (over up) _ _ (c .before .before .start-of .ensures) (c .before .seat-of .ensures)
     (E .laid)
-
-add-c : tie.Need-add-c Inv-loop μ-loop
-add-c c =
-    let loop-test = c .before .before .before .before .loop-test in
-    omega (arith, loop-test .taken)
-
-loop-less : tie.Need-loop-less Inv-loop μ-loop
-loop-less c =
-    let loop-test = c .before .before .before .before .loop-test in
-    omega (arith, loop-test .taken)
 
 loop-again : tie.Need-loop-again Inv-loop μ-loop
 loop-again c =
@@ -91,9 +60,6 @@ loop-again c =
           entering-step E inside _ _ _ over (c .before .before .start-of .ensures) (c .before .seat-of .ensures) _ (c .entry-of .ensures),
     )
 
-same-length : tie.Need-same-length Inv-loop μ-loop
-same-length c = c .before .loop .inv .0
-
 returns : tie.Need-returns Inv-loop μ-loop
 returns c = λ d L e. entering-end (c .before .loop .inv .1 d L e) (omega (arith, c .loop-test .left, e))
 
@@ -106,15 +72,15 @@ enter-children-spec =
     loop-holds
     parent-of-requires
     start-of-requires
-    cast-start
-    seat-of-requires
-    cast-place
-    entry-of-requires
-    add-winners
-    mul-winners
+    (λ c. search needs)
+    (λ c κs. search needs)
+    (λ c. search needs)
+    (λ c κs. search needs)
+    (λ c. search needs)
+    (λ c. search needs)
     slice-write-winners
-    add-c
-    loop-less
+    (λ c. search needs)
+    (λ c. search needs)
     loop-again
-    same-length
+    (λ c. search needs)
     returns)
