@@ -14,13 +14,18 @@ Inv-loop s at arcs₀ n i₀ arcs i = EnteringEnds s arcs i
 abbrev μ-loop : tie.MeasureT-loop
 μ-loop s at arcs₀ n i₀ arcs i = arcCount s - i
 
+-- the places of the function that answers look back to
+abbrev Start : Type 0
+Start = tie.Start Inv-loop μ-loop
+
 slice-write-arcs-2 : tie.Need-slice-write-arcs-2 Inv-loop μ-loop
 slice-write-arcs-2 c = simp length-set (omega (arith, c .before .before .before .loop .inv .all))
 
 loop-again : tie.Need-loop-again Inv-loop μ-loop
 loop-again c =
+    let start : Start = search needs in
     let loop = c .before .before .before .loop in
-    let pre = c .before .before .before .before .before .before .pre in
+    let pre = start .pre in
     ends-more _ _ (loop .inv) (omega (arith, c .before .before .loop-test .taken, pre .0 .arcs-all)) (c .before .end-at .ensures .0) (c .end-at2 .ensures .0)
 
 returns : tie.Need-returns Inv-loop μ-loop

@@ -11,8 +11,9 @@ returns c = rw (sym (c .before .leaf-word .ensures) ∙ not-true (c .before .lea
 
 slice-write-arcs : tie.Need-slice-write-arcs
 slice-write-arcs c =
+    let start : tie.Start = search needs in
     let leaf-word = c .before .before .before .leaf-word in
-    let pre = c .before .before .before .before .before .before .pre in
+    let pre = start .pre in
     let leaf = sym (leaf-word .ensures) ∙ not-false (leaf-word .result) (c .before .before .if1 .left) in
     omega (arith, c .before .arc-word .ensures .0, pre .1 .below _ (pre .0) leaf)
 

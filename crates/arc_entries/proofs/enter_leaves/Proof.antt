@@ -13,19 +13,30 @@ Inv-loop d arcs₀ n k₀ arcs k = EnteringLeaves d arcs₀ arcs k
 abbrev μ-loop : tie.MeasureT-loop
 μ-loop d arcs₀ n k₀ arcs k = words d - k
 
+-- the places of the function that answers look back to
+abbrev Start : Type 0
+Start = tie.Start Inv-loop μ-loop
+
+abbrev At-loop : Type 0
+At-loop = tie.At-loop Inv-loop μ-loop
+
+abbrev In-loop : Type 0
+In-loop = tie.In-loop Inv-loop μ-loop
+
 enter-leaf-requires : tie.Need-enter-leaf-requires Inv-loop μ-loop
 enter-leaf-requires c κs =
-    let earlier = c .before .before .before .before in
-    let pre = earlier .before .pre in
+    let start : Start = search needs in
+    let pre = start .pre in
     (omega arith, leaves-ask pre (c .before .before .loop .inv))
 
 loop-again : tie.Need-loop-again Inv-loop μ-loop
 loop-again c =
-    let earlier = c .before .before .before .before in
-    let early = earlier .before .before .before .before in
-    let pre = early .pre in
-    let loop = earlier .before .loop in
-    let loop-test = earlier .loop-test in
+    let start : Start = search needs in
+    let at-loop : At-loop = search needs in
+    let in-loop : In-loop = search needs in
+    let pre = start .pre in
+    let loop = at-loop .loop in
+    let loop-test = in-loop .loop-test in
     leaves-more pre (loop .inv) (loop-test .taken) _ (c .before .before .enter-leaf .ensures)
 
 returns : tie.Need-returns Inv-loop μ-loop

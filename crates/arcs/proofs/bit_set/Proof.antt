@@ -1,4 +1,5 @@
 -- `bit_set` meets its contract: the arcs passed have no such bit. Assumes nothing.
+use borrow.Author.Needs.{needs}
 use Prim.Native.Nat.{_-_, _≤_}
 use mathlib.Core.Path.{_≡_, sym}
 use mathlib.Core.Bool.{false}
@@ -17,12 +18,17 @@ Inv-loop s at arcs a₀ a = (a ≤ arcCount s) × (any (arcBits s) a ≡ false)
 abbrev μ-loop : tie.MeasureT-loop
 μ-loop s at arcs a₀ a = arcCount s - a
 
+-- the places of the function that answers look back to
+abbrev Start : Type 0
+Start = tie.Start Inv-loop μ-loop
+
 loop-holds : tie.Need-loop-holds Inv-loop μ-loop
 loop-holds c = (omega arith, any-none _)
 
 ends-at-requires : tie.Need-ends-at-requires Inv-loop μ-loop
 ends-at-requires c κs =
-    let pre = c .before .before .before .before .pre in
+    let start : Start = search needs in
+    let pre = start .pre in
     (pre .0, omega arith)
 
 returns : tie.Need-returns Inv-loop μ-loop

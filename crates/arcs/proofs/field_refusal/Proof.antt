@@ -1,4 +1,5 @@
 -- `field_refusal` meets its contract: the two flags say what was found among the arcs passed. Assumes nothing.
+use borrow.Author.Needs.{needs}
 use Prim.Native.Nat.{_-_, _≤_}
 use mathlib.Core.Logic.{⊎-elim}
 use mathlib.Core.Path.{_≡_, sym, ap, _∙_}
@@ -20,25 +21,33 @@ Inv-loop s at arcs outside₀ long₀ a₀ outside long a = (a ≤ arcCount s) �
 abbrev μ-loop : tie.MeasureT-loop
 μ-loop s at arcs outside₀ long₀ a₀ outside long a = arcCount s - a
 
+-- the places of the function that answers look back to
+abbrev Start : Type 0
+Start = tie.Start Inv-loop μ-loop
+
+abbrev At-loop : Type 0
+At-loop = tie.At-loop Inv-loop μ-loop
+
 loop-holds : tie.Need-loop-holds Inv-loop μ-loop
 loop-holds c = (omega arith, sym (any-none _), sym (any-none _))
 
 ends-outside-requires : tie.Need-ends-outside-requires Inv-loop μ-loop
 ends-outside-requires c κs =
-    let pre = c .before .before .before .before .pre in
+    let start : Start = search needs in
+    let pre = start .pre in
     (pre .0, omega arith)
 
 length-at-requires : tie.Need-length-at-requires Inv-loop μ-loop
 length-at-requires c κs =
-    let entry = c .before .before .before .before in
-    (entry .before .before .pre .0, omega arith)
+    let start : Start = search needs in
+    (start .pre .0, omega arith)
 
 loop-again : tie.Need-loop-again Inv-loop μ-loop
 loop-again c =
+    let at-loop : At-loop = search needs in
     let ends-outside = c .before .before .before .ends-outside .ensures in
     let length = ap (ltb mostLength) (sym (c .before .length-at .ensures)) in
-    let entry = c .before .before .before .before in
-    let loop = entry .before .loop in (
+    let loop = at-loop .loop in (
       omega arith,
       ⊎-elim
           (λ w. flag-set _ (loop .a) _ (w .1) (sym ends-outside ∙ w .0 .taken))

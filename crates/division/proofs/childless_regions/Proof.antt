@@ -1,4 +1,5 @@
 -- `childless_regions` meets its contract: the regions passed have handed up their heights, and none of them is childless. Assumes nothing.
+use borrow.Author.Needs.{needs}
 use Prim.Native.Nat.{_≤_}
 use mathlib.Core.Bool.{true≢false}
 use mathlib.Core.Path.{_≡_, refl, sym, _∙_}
@@ -15,21 +16,28 @@ Inv-loop d best₀ r₀ best r = (r ≤ words d) × (length best ≡ 4096) × Pa
 abbrev μ-loop : tie.MeasureT-loop
 μ-loop d best₀ r₀ best r = r
 
+-- the places of the function that answers look back to
+abbrev Start : Type 0
+Start = tie.Start Inv-loop μ-loop
+
+abbrev At-loop : Type 0
+At-loop = tie.At-loop Inv-loop μ-loop
+
 loop-holds : tie.Need-loop-holds Inv-loop μ-loop
 loop-holds c = rw (c .before .pre .2) (omega arith, refl, passed-start _ 4096 _ (omega arith))
 
 without-child-requires : tie.Need-without-child-requires Inv-loop μ-loop
 without-child-requires c κs =
+    let start : Start = search needs in
     let loop = c .before .before .loop in
-    let start = c .before .before .before .before in
     let held = passed-le (start .args .d .now) (start .pre .1) (start .pre .0) (loop .best) (loop .r) (omega arith) (loop .inv .2) in
     (omega arith, omega arith, start .pre .0, start .pre .1, omega (arith, held))
 
 returns : tie.Need-returns Inv-loop μ-loop
 returns c =
-    let earlier = c .before .before .before .before in
-    let loop = earlier .loop in
-    let start = earlier .before .before in
+    let at-loop : At-loop = search needs in
+    let start : Start = search needs in
+    let loop = at-loop .loop in
     let none = sym (c .before .without-child .ensures .0) ∙ c .if1 .taken in (
       sym (found-childless _ (start .pre .1) (start .pre .0) (loop .best) (loop .r) (omega arith) (omega arith) (omega arith) (loop .inv .2) none),
       λ e. absurd (true≢false e),
@@ -37,9 +45,9 @@ returns c =
 
 loop-again : tie.Need-loop-again Inv-loop μ-loop
 loop-again c =
-    let earlier = c .before .before .before .before in
-    let loop = earlier .loop in
-    let start = earlier .before .before in
+    let at-loop : At-loop = search needs in
+    let start : Start = search needs in
+    let loop = at-loop .loop in
     let without-child = c .before .without-child in
     let some = sym (without-child .ensures .0) ∙ c .if1 .left in
     rw (without-child .ensures .1 (c .if1 .left)) (
@@ -51,11 +59,10 @@ loop-again c =
 returns-2 : tie.Need-returns-2 Inv-loop μ-loop
 returns-2 c =
     let loop = c .before .loop in
-    let start = c .before .before .before in
-    let d = start .args .d .now in
+    let d = c .before .before .before .args .d .now in
     let done : loop .r ≡ 0 = omega arith in
     let all : Passed d (loop .best) 0 = rw done at (loop .inv .2) in
-    (sym (all-passed d (start .pre .1) (start .pre .0) (loop .best) all), λ _. root-height d (start .pre .1) (start .pre .0) (loop .best) (omega arith) all)
+    (sym (all-passed d (c .before .before .before .pre .1) (c .before .before .before .pre .0) (loop .best) all), λ _. root-height d (c .before .before .before .pre .1) (c .before .before .before .pre .0) (loop .best) (omega arith) all)
 
 pub childless-regions-spec : {M : Type 1} → statement M
 childless-regions-spec =

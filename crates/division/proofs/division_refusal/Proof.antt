@@ -17,16 +17,16 @@ returns-2 c =
 
 nesting-refusal-requires : tie.Need-nesting-refusal-requires
 nesting-refusal-requires c κs =
-    let earlier = c .before .before .before .before in
+    let start : tie.Start = search needs in
     let wrong-parents = c .before .before .before .wrong-parents in
-    (earlier .before .pre .0, sym (wrong-parents .ensures) ∙ c .before .before .if1 .left)
+    (start .pre .0, sym (wrong-parents .ensures) ∙ c .before .before .if1 .left)
 
 returns-3 : tie.Need-returns-3
 unfolding divisionRefusals
 returns-3 c =
-    let earlier = c .before .before .before .before in
+    let after-wrong-parents : tie.After-wrong-parents = search needs in
     let if1 = c .before .before .before .if1 in
-    rw (sym (earlier .wrong-parents .ensures) ∙ if1 .left, sym (c .before .before .wrong-leaves .ensures) ∙ c .before .if2 .left)
+    rw (sym (after-wrong-parents .wrong-parents .ensures) ∙ if1 .left, sym (c .before .before .wrong-leaves .ensures) ∙ c .before .if2 .left)
     (c .nesting-refusal .ensures)
 
 pub division-refusal-spec : {M : Type 1} → statement M

@@ -22,7 +22,8 @@ divided c = c .before .before .before .before
 
 lay-division-requires : tie.Need-lay-division-requires
 lay-division-requires c κs =
-    let known = sized (c .before .before .before .before .before .before) in
+    let after-lay-graph : tie.After-lay-graph = search needs in
+    let known = sized (after-lay-graph) in
     let pre = entry known .pre in
     let used = known .sizes-of .ensures in
     (pre .accepted, pre .located, used, omega (arith, used .few-regions), used .few-spans, omega (arith, used .few-regions))
@@ -36,13 +37,15 @@ slice-aggregate-run-tables c =
 
 slice-aggregate-run-tables-2 : tie.Need-slice-aggregate-run-tables-2
 slice-aggregate-run-tables-2 c =
-    let division = divided (c .before .before .before .before) in
+    let after-rows3 : tie.After-rows3 = search needs in
+    let division = divided (after-rows3) in
     let sizes = sized (graphed division) .sizes-of in
     part-length (division .lay-division .last .1 .1 .1 .1 .0) (sizes .result .spans) (division .lay-division .kept .1 .1 .1 .1 .0) (sizes .ensures .few-spans)
 
 run-tables-requires : tie.Need-run-tables-requires
 run-tables-requires c κs =
-    let division = divided (c .before .before .before .before .before .before) in
+    let after-rows3 : tie.After-rows3 = search needs in
+    let division = divided (after-rows3) in
     let graph = graphed division in
     let pre = entry (sized graph) .pre in
     (pre .accepted, pre .sized, sized graph .sizes-of .ensures, laid (pre .accepted) (graph .lay-graph .ensures) (division .lay-division .ensures))

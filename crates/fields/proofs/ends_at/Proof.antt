@@ -34,8 +34,9 @@ payload-at-requires c κs =
 
 returns : tie.Need-returns
 returns c =
-    let args = c .before .before .before .before .args in
-    let pre = c .before .before .before .before .pre in
+    let start : tie.Start = search needs in
+    let args = start .args in
+    let pre = start .pre in
     c .payload-at .ensures ∙ ap (λ (n : ℕ). payload (args .s .now) (2 + n + 2 * (args .a .0))) (pre .0 .spans-all)
 
 pub ends-at-spec : {M : Type 1} → statement M

@@ -36,8 +36,9 @@ payload-at-requires c κs =
 returns : tie.Need-returns
 unfolding arcLength
 returns c =
-    let args = c .before .before .before .before .args in
-    let pre = c .before .before .before .before .pre in
+    let start : tie.Start = search needs in
+    let args = start .args in
+    let pre = start .pre in
     c .payload-at .ensures ∙ ap (λ (n : ℕ). payload (args .s .now) (2 + n + 2 * (args .a .0) + 1)) (pre .0 .spans-all)
 
 pub length-at-spec : {M : Type 1} → statement M

@@ -20,8 +20,8 @@ returns c = (found-none _ _ _ _ (c .before .label-of .ensures) (c .if1 .taken), 
 count-arcs-requires : tie.Need-count-arcs-requires
 unfolding top
 count-arcs-requires c κs =
-    let earlier = c .before .before .before .before in
-    let pre = earlier .before .pre in
+    let start : tie.Start = search needs in
+    let pre = start .pre in
     (pre .0, node-reached (pre .1) (c .before .label-of .ensures) (c .if1 .left))
 
 returns-2 : tie.Need-returns-2
@@ -33,21 +33,24 @@ returns-2 c =
 write-arcs-requires : tie.Need-write-arcs-requires
 unfolding top
 write-arcs-requires c κs =
-    let earlier = c .before .before .before .before in
-    let early = earlier .before .before .before .before in
-    let pre = early .pre in
-    let label-of = earlier .label-of in
+    let start : tie.Start = search needs in
+    let after-label-of : tie.After-label-of = search needs in
+    let pre = start .pre in
+    let label-of = after-label-of .label-of in
     let if1 = c .before .before .before .if1 in
     (pre .0, node-reached (pre .1) (label-of .ensures) (if1 .left), c .before .before .count-arcs .ensures .0, c .before .if2 .left)
 
 returns-3 : tie.Need-returns-3
 unfolding top
 returns-3 c =
-    let earlier = c .before .before .before .before in
-    let count-arcs = earlier .before .count-arcs in
-    let label-of = earlier .before .before .before .label-of in
-    let if1 = earlier .before .before .if1 in
-    let if2 = earlier .if2 in
+    let after-count-arcs : tie.After-count-arcs = search needs in
+    let after-label-of : tie.After-label-of = search needs in
+    let else1 : tie.Else1 = search needs in
+    let else2 : tie.Else2 = search needs in
+    let count-arcs = after-count-arcs .count-arcs in
+    let label-of = after-label-of .label-of in
+    let if1 = else1 .if1 in
+    let if2 = else2 .if2 in
     let all = count-arcs .ensures .0 in
     (found-route _ _ _ _ (label-of .ensures) (if1 .left) all (if2 .left), c .before .before .write-arcs .ensures ∙ left-route _ _ _ _ _ all)
 

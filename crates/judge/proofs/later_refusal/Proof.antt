@@ -44,30 +44,31 @@ arc-refusal-requires c κs = (begun c .pre .0, count-arcs _ (counted c), count-n
 
 returns-3 : tie.Need-returns-3
 returns-3 c =
-    let earlier = c .before .before .before .before in
-    arc-stops _ (form earlier) (counted (c .before .before)) _ (c .if3 .taken) (c .before .arc-refusal .ensures)
+    let else1 : tie.Else1 = search needs in
+    arc-stops _ (form else1) (counted (c .before .before)) _ (c .if3 .taken) (c .before .arc-refusal .ensures)
 
 cast-division-refusal : tie.Need-cast-division-refusal
 cast-division-refusal c =
-    let earlier = c .before .before .before .before in
-    let start = begun earlier in
-    omega (arith, start .pre .0 .arcs-all, count-arcs (start .args .s .now) (counted earlier))
+    let else2 : tie.Else2 = search needs in
+    let start = begun else2 in
+    omega (arith, start .pre .0 .arcs-all, count-arcs (start .args .s .now) (counted else2))
 
 division-refusal-requires : tie.Need-division-refusal-requires
 division-refusal-requires c κs =
-    let earlier = c .before .before .before .before in
-    let start = begun earlier in
-    let d : words (c .before .region-words .result .now) ≤ mostRegionWords = rw (c .before .region-words .ensures) (count-region-words _ (counted earlier)) in
-    (d, omega (arith, start .pre .0 .arcs-all, count-arcs (start .args .s .now) (counted earlier)))
+    let else2 : tie.Else2 = search needs in
+    let start = begun else2 in
+    let d : words (c .before .region-words .result .now) ≤ mostRegionWords = rw (c .before .region-words .ensures) (count-region-words _ (counted else2)) in
+    (d, omega (arith, start .pre .0 .arcs-all, count-arcs (start .args .s .now) (counted else2)))
 
 returns-4 : tie.Need-returns-4
 returns-4 c =
-    let arc = c .before .before .before .before in
+    let else2 : tie.Else2 = search needs in
+    let else1 : tie.Else1 = search needs in
+    let after-arc-refusal : tie.After-arc-refusal = search needs in
     let if3 = c .before .before .before .if3 in
-    let earlier = arc .before in
-    let at = begun earlier .pre .0 in
+    let at = begun else2 .pre .0 in
     c .division-refusal .ensures
-    ∙ division-decides _ (form (earlier .before .before)) (counted earlier) (sym (arc .arc-refusal .ensures) ∙ ap numbered (if3 .left)) _ _ _
+    ∙ division-decides _ (form (else1)) (counted else2) (sym (after-arc-refusal .arc-refusal .ensures) ∙ ap numbered (if3 .left)) _ _ _
     (c .before .before .region-words .ensures) (at .arcs-all) (at .spans-all)
 
 pub later-refusal-spec : {M : Type 1} → statement M

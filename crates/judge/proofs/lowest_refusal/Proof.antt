@@ -21,9 +21,9 @@ find-sections-requires c κs = front-there _ (sym (c .before .out-of-order .ensu
 
 later-refusal-requires : tie.Need-later-refusal-requires
 later-refusal-requires c κs =
-    let earlier = c .before .before .before .before in
+    let after-wrong-size : tie.After-wrong-size = search needs in
     let if1 = c .before .before .before .if1 in
-    (c .find-sections .ensures, sym (earlier .wrong-size .ensures) ∙ if1 .left, sym (c .before .before .out-of-order .ensures) ∙ c .before .if2 .left)
+    (c .find-sections .ensures, sym (after-wrong-size .wrong-size .ensures) ∙ if1 .left, sym (c .before .before .out-of-order .ensures) ∙ c .before .if2 .left)
 
 pub lowest-refusal-spec : {M : Type 1} → statement M
 lowest-refusal-spec =

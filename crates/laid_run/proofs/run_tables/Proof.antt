@@ -20,11 +20,11 @@ use Rattle.laid_run.proofs.run_tables.Tie as tie
 
 start-requires : tie.Need-start-requires
 start-requires c κs =
-    let earlier = c .before .before .before .before in
-    let early = earlier .before .before .before .before in
-    let source-of = earlier .before .source-of in
-    let args = early .before .before .args in
-    let pre = early .before .before .pre in
+    let after-source-of : tie.After-source-of = search needs in
+    let start : tie.Start = search needs in
+    let source-of = after-source-of .source-of in
+    let args = start .args in
+    let pre = start .pre in
     let b = args .s .now in (
       graphOf b,
       divisionOf b,
@@ -64,7 +64,8 @@ started c =
 
 rounds-requires : tie.Need-rounds-requires
 rounds-requires c κs =
-    let begun = c .before .before .before .before in
+    let after-start : tie.After-start = search needs in
+    let begun = after-start in
     let S = started begun in
     let b = outset begun .args .s .now in
     (graphOf b, divisionOf b, 0, S .0, (S .1, S .2))
@@ -115,19 +116,22 @@ array-share-prefix-predecessors c = parts (c .before .before .before) .1
 
 slice-aggregate-write-table-2 : tie.Need-slice-aggregate-write-table-2
 slice-aggregate-write-table-2 c =
-    let ran = c .before .before .before .before in
+    let after-rounds : tie.After-rounds = search needs in
+    let ran = after-rounds in
     part-length (predecessors ran) (entry ran .args .sizes .nodes) refl (parts ran .1)
 
 write-table-requires : tie.Need-write-table-requires
 write-table-requires c κs =
-    let ran = c .before .before .before .before .before in
+    let after-rounds : tie.After-rounds = search needs in
+    let ran = after-rounds in
     let args = entry ran .args in
     let pre = entry ran .pre in
     writable (args .s .now) (args .limit) (labels ran) (predecessors ran) (own ran) (pre .0) (pre .2 .nodes-all) (rounds-made ran .1) _ (pre .1)
 
 returns : tie.Need-returns
 returns c =
-    let told = c .before .before .before .before .before .before in
+    let after-has-ended : tie.After-has-ended = search needs in
+    let told = after-has-ended in
     let ran = told .before .before in
     let args = entry ran .args in
     let pre = entry ran .pre in

@@ -8,39 +8,43 @@ use Rattle.layout.proofs.lay_arcs.Tie as tie
 
 enter-ends-requires : tie.Need-enter-ends-requires
 enter-ends-requires c κs =
-    let earlier = c .before .before .before .before in
-    let pre = earlier .pre in
+    let start : tie.Start = search needs in
+    let pre = start .pre in
     (pre .1, few-arcs _ (pre .0), pre .2)
 
 enter-leaves-requires : tie.Need-enter-leaves-requires
 enter-leaves-requires c κs =
-    let earlier = c .before .before .before .before in
-    let early = earlier .before .before .before .before in
-    let pre = early .before .pre in
-    let enter-ends = earlier .enter-ends in
+    let start : tie.Start = search needs in
+    let after-enter-ends : tie.After-enter-ends = search needs in
+    let pre = start .pre in
+    let enter-ends = after-enter-ends .enter-ends in
     rw (c .before .region-words .ensures) (leaves-apart _ (pre .0) _ (omega (arith, enter-ends .kept, pre .2)))
 
 link-requires : tie.Need-link-requires
 link-requires c κs =
-    let earlier = c .before .before .before .before in
-    let early = earlier .before .before .before .before in
-    let first = early .before .before .before .before in
-    let pre = first .before .before .pre in
-    let enter-ends = early .before .enter-ends in
-    let region-words = earlier .before .before .region-words in
-    let enter-leaves = earlier .enter-leaves in
+    let start : tie.Start = search needs in
+    let after-enter-ends : tie.After-enter-ends = search needs in
+    let after-region-words : tie.After-region-words = search needs in
+    let after-enter-leaves : tie.After-enter-leaves = search needs in
+    let pre = start .pre in
+    let enter-ends = after-enter-ends .enter-ends in
+    let region-words = after-region-words .region-words in
+    let enter-leaves = after-enter-leaves .enter-leaves in
     linkable _ (pre .0) (enter-ends .ensures) (rw (region-words .ensures) at (enter-leaves .ensures))
     (omega (arith, enter-leaves .kept, enter-ends .kept, pre .2)) _ (pre .3)
 
 returns : tie.Need-returns
 returns c =
-    let earlier = c .before .before .before .before .before .before .before .before in
-    let early = earlier .before .before .before .before .before .before .before .before in
-    let pre = early .before .before .before .pre in
-    let enter-ends = earlier .before .before .before .before .before .before .enter-ends in
-    let region-words = earlier .before .before .before .region-words in
-    let enter-leaves = earlier .before .enter-leaves in
-    let link = c .before .before .before .before .link in
+    let start : tie.Start = search needs in
+    let after-enter-ends : tie.After-enter-ends = search needs in
+    let after-region-words : tie.After-region-words = search needs in
+    let after-enter-leaves : tie.After-enter-leaves = search needs in
+    let after-link : tie.After-link = search needs in
+    let pre = start .pre in
+    let enter-ends = after-enter-ends .enter-ends in
+    let region-words = after-region-words .region-words in
+    let enter-leaves = after-enter-leaves .enter-leaves in
+    let link = after-link .link in
     arcs-laid _ (pre .0) (enter-ends .ensures) (rw (region-words .ensures) at (enter-leaves .ensures))
     (omega (arith, enter-leaves .kept, enter-ends .kept, pre .2)) (link .ensures) (omega (arith, link .kept, enter-leaves .kept, enter-ends .kept, pre .2))
     (omega (arith, link .kept, pre .3))

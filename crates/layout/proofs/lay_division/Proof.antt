@@ -10,46 +10,42 @@ use Rattle.layout.proofs.lay_division.Tie as tie
 
 slice-aggregate-enter-spans : tie.Need-slice-aggregate-enter-spans
 slice-aggregate-enter-spans c =
-    let earlier = c .before .before .before .before in
-    let args = earlier .before .args in
-    let pre = earlier .before .pre in
+    let start : tie.Start = search needs in
+    let args = start .args in
+    let pre = start .pre in
     part-length (args .spans .now) (args .sizes .spans) refl (pre .4)
 
 enter-spans-requires : tie.Need-enter-spans-requires
 enter-spans-requires c κs =
-    let earlier = c .before .before .before .before in
-    let pre = earlier .before .pre in
+    let start : tie.Start = search needs in
+    let pre = start .pre in
     (pre .1, length-take-le _ _ (pre .4) ∙ pre .2 .spans-all)
 
 slice-aggregate-lay-regions : tie.Need-slice-aggregate-lay-regions
 slice-aggregate-lay-regions c =
-    let earlier = c .before .before .before .before in
-    let early = earlier .before .before .before .before in
-    let args = early .before .args in
-    let pre = early .before .pre in
+    let start : tie.Start = search needs in
+    let args = start .args in
+    let pre = start .pre in
     part-length _ (args .sizes .regions) refl (pre .2 .few-regions)
 
 slice-aggregate-lay-regions-2 : tie.Need-slice-aggregate-lay-regions-2
 slice-aggregate-lay-regions-2 c =
-    let earlier = c .before .before .before .before in
-    let early = earlier .before .before .before .before in
-    let args = early .before .before .args in
-    let pre = early .before .before .pre in
+    let start : tie.Start = search needs in
+    let args = start .args in
+    let pre = start .pre in
     part-length (args .rows .now) (4 * args .sizes .regions) refl (pre .3)
 
 slice-aggregate-lay-regions-3 : tie.Need-slice-aggregate-lay-regions-3
 slice-aggregate-lay-regions-3 c =
-    let earlier = c .before .before .before .before in
-    let early = earlier .before .before .before .before in
-    let args = early .before .before .before .args in
-    let pre = early .before .before .before .pre in
+    let start : tie.Start = search needs in
+    let args = start .args in
+    let pre = start .pre in
     part-length (args .regions .now) (2 * args .sizes .regions) refl (pre .5)
 
 lay-regions-requires : tie.Need-lay-regions-requires
 lay-regions-requires c κs =
-    let earlier = c .before .before .before .before in
-    let early = earlier .before .before .before .before in
-    let pre = early .before .before .before .pre in
+    let start : tie.Start = search needs in
+    let pre = start .pre in
     let all = pre .2 .regions-all in (
       pre .0,
       pre .1,
@@ -60,13 +56,12 @@ lay-regions-requires c κs =
 
 returns : tie.Need-returns
 returns c =
-    let earlier = c .before .before .before .before in
-    let early = earlier .before .before .before .before in
-    let prior = early .before .before .before .before in
-    let first = prior .before .before .before .before in
-    let lay-regions = earlier .before .lay-regions in
-    let enter-spans = early .before .before .before .enter-spans in
-    let pre = first .before .pre in
+    let after-lay-regions : tie.After-lay-regions = search needs in
+    let after-enter-spans : tie.After-enter-spans = search needs in
+    let start : tie.Start = search needs in
+    let lay-regions = after-lay-regions .lay-regions in
+    let enter-spans = after-enter-spans .enter-spans in
+    let pre = start .pre in
     division-laid (pre .2) _ _ _ (lay-regions .ensures) (enter-spans .ensures)
 
 pub lay-division-spec : {M : Type 1} → statement M

@@ -20,6 +20,13 @@ Inv-loop d seen₀ n k₀ seen k = (k ≤ words d) × (length seen ≡ 2048) × 
 abbrev μ-loop : tie.MeasureT-loop
 μ-loop d seen₀ n k₀ seen k = words d - k
 
+-- the places of the function that answers look back to
+abbrev At-loop : Type 0
+At-loop = tie.At-loop Inv-loop μ-loop
+
+abbrev Start : Type 0
+Start = tie.Start Inv-loop μ-loop
+
 loop-holds : tie.Need-loop-holds Inv-loop μ-loop
 loop-holds c = (search needs, refl, tally-none _ mostRegionWords 2048)
 
@@ -28,14 +35,16 @@ cast-seen c = tt
 
 add-seen : tie.Need-add-seen Inv-loop μ-loop
 add-seen c =
-    let loop = c .before .before .before .before .loop in
+    let at-loop : At-loop = search needs in
+    let loop = at-loop .loop in
     omega (arith, loop .inv .2 .below (c .before .before .arc-word .result .0) (omega arith), a-bit (c .leaf-word .result))
 
 loop-again : tie.Need-loop-again Inv-loop μ-loop
 loop-again c =
-    let earlier = c .before .before .before .before in
-    let loop = earlier .loop in
-    let d = earlier .before .before .args .d .now in
+    let at-loop : At-loop = search needs in
+    let start : Start = search needs in
+    let loop = at-loop .loop in
+    let d = start .args .d .now in
     let arc-word = c .before .before .arc-word in
     let i = arc-word .result .0 in
     let room : getD (loop .seen) i 0 < mostRegionWords = omega (arith, loop .inv .2 .counts i (omega arith), count-le (leafOfArc d i) (loop .k)) in (

@@ -1,4 +1,5 @@
 -- `wrong_leaves` meets its contract: the numbers passed have as many leaves as they should. Assumes nothing.
+use borrow.Author.Needs.{needs}
 use Prim.Native.Nat.{_-_, _≤_}
 use mathlib.Core.Path.{_≡_, sym, _∙_}
 use mathlib.Core.Bool.{false}
@@ -15,6 +16,10 @@ Inv-loop d arcs seen a₀ a = (a ≤ 2048) × (any (wrongCount d arcs) a ≡ fal
 abbrev μ-loop : tie.MeasureT-loop
 μ-loop d arcs seen a₀ a = 2048 - a
 
+-- the places of the function that answers look back to
+abbrev After-count-leaves : Type 0
+After-count-leaves = tie.After-count-leaves Inv-loop μ-loop
+
 count-leaves-requires : tie.Need-count-leaves-requires Inv-loop μ-loop
 count-leaves-requires c κs = c .before .pre .0
 
@@ -26,15 +31,17 @@ cast-if1 c = tt
 
 returns : tie.Need-returns Inv-loop μ-loop
 returns c =
+    let after-count-leaves : After-count-leaves = search needs in
     let loop = c .before .before .loop in
-    let leaves = c .before .before .before .before .count-leaves .ensures in
+    let leaves = after-count-leaves .count-leaves .ensures in
     let count = leaves .1 .counts (loop .a) (omega (arith, leaves .0)) in
     sym (one-wrong _ _ (loop .a) (λ e. omega (arith, c .if1 .taken, count, e)))
 
 loop-again : tie.Need-loop-again Inv-loop μ-loop
 loop-again c =
+    let after-count-leaves : After-count-leaves = search needs in
     let loop = c .before .before .loop in
-    let leaves = c .before .before .before .before .count-leaves .ensures in
+    let leaves = after-count-leaves .count-leaves .ensures in
     let right = right-count _ _ (loop .a) (sym (leaves .1 .counts (loop .a) (omega (arith, leaves .0))) ∙ c .if1 .left) in
     (omega arith, any-more _ (loop .a) (loop .inv .1) right)
 

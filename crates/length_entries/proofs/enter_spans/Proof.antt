@@ -1,4 +1,5 @@
 -- `enter_spans` meets its contract: the heights passed have their spans. Assumes nothing.
+use borrow.Author.Needs.{needs}
 use Prim.Native.Nat.{_-_}
 use mathlib.Core.Path.{sym, _∙_}
 use native.Mathlib.Omega.{arith}
@@ -15,25 +16,29 @@ Inv-loop s spans₀ n i₀ spans i = Prefix (spanCount s) (span s) spans i
 abbrev μ-loop : tie.MeasureT-loop
 μ-loop s spans₀ n i₀ spans i = spanCount s - i
 
+-- the places of the function that answers look back to
+abbrev Start : Type 0
+Start = tie.Start Inv-loop μ-loop
+
 loop-holds : tie.Need-loop-holds Inv-loop μ-loop
 loop-holds c = prefix-none _ _ _ (c .before .before .pre .1)
 
 span-at-requires : tie.Need-span-at-requires Inv-loop μ-loop
 span-at-requires c κs =
-    let earlier = c .before .before .before .before in
-    let args = earlier .args in
+    let start : Start = search needs in
+    let args = start .args in
     omega (arith, spans-le (args .s .now) 2)
 
 loop-again : tie.Need-loop-again Inv-loop μ-loop
 loop-again c =
-    let earlier = c .before .before .before .before in
-    let pre = earlier .before .pre in
+    let start : Start = search needs in
+    let pre = start .pre in
     prefix-more _ (c .before .before .loop .inv) (omega (arith, c .before .loop-test .taken, pre .0 .spans-all)) (c .span-at .ensures)
 
 same-length : tie.Need-same-length Inv-loop μ-loop
 same-length c =
-    let earlier = c .before .before .before .before in
-    let pre = earlier .pre in
+    let start : Start = search needs in
+    let pre = start .pre in
     c .before .loop .inv .long ∙ sym (pre .1)
 
 returns : tie.Need-returns Inv-loop μ-loop

@@ -1,4 +1,5 @@
 -- `previous` meets its contract: the tail of the predecessor, an arc of the sheet. Assumes nothing.
+use borrow.Author.Needs.{needs}
 use mathlib.Core.Path.{_∙_}
 use Rattle.refusals.proofs.Accepted.{few-arcs}
 use Rattle.lent_table.proofs.Columns.{before-tail}
@@ -21,9 +22,9 @@ end-at-requires c κs =
 
 returns : tie.Need-returns
 returns c =
-    let earlier = c .before .before .before .before in
-    let args = earlier .args in
-    let pre = earlier .pre in
+    let start : tie.Start = search needs in
+    let args = start .args in
+    let pre = start .pre in
     (c .end-at .ensures .0 ∙ rw (c .before .predecessor-of .ensures) (before-tail (args .s .now) _ _ (pre .1) (pre .2)), c .end-at .ensures .1)
 
 pub previous-spec : {M : Type 1} → statement M

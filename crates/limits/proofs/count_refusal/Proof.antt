@@ -18,9 +18,10 @@ returns-2 c =
 returns-3 : tie.Need-returns-3
 unfolding countRefusals
 returns-3 c =
-    let earlier = c .before .before .before .before in
-    let nodes-outside = earlier .before .nodes-outside in
-    let if1 = earlier .if1 in
+    let after-nodes-outside : tie.After-nodes-outside = search needs in
+    let else1 : tie.Else1 = search needs in
+    let nodes-outside = after-nodes-outside .nodes-outside in
+    let if1 = else1 .if1 in
     let source-outside = c .before .before .before .source-outside in
     rw (
       sym (nodes-outside .ensures) ∙ if1 .left,
@@ -31,11 +32,14 @@ returns-3 c =
 returns-4 : tie.Need-returns-4
 unfolding countRefusals
 returns-4 c =
-    let earlier = c .before .before .before .before in
-    let nodes-outside = earlier .before .before .before .nodes-outside in
-    let if1 = earlier .before .before .if1 in
-    let source-outside = earlier .before .source-outside in
-    let if2 = earlier .if2 in
+    let after-nodes-outside : tie.After-nodes-outside = search needs in
+    let else1 : tie.Else1 = search needs in
+    let after-source-outside : tie.After-source-outside = search needs in
+    let else2 : tie.Else2 = search needs in
+    let nodes-outside = after-nodes-outside .nodes-outside in
+    let if1 = else1 .if1 in
+    let source-outside = after-source-outside .source-outside in
+    let if2 = else2 .if2 in
     let spans-outside = c .before .before .before .spans-outside in
     rw (
       sym (nodes-outside .ensures) ∙ if1 .left,
@@ -47,11 +51,14 @@ returns-4 c =
 returns-5 : tie.Need-returns-5
 unfolding countRefusals
 returns-5 c =
-    let earlier = c .before .before .before .before in
-    let nodes-outside = earlier .before .before .before .nodes-outside in
-    let if1 = earlier .before .before .if1 in
-    let source-outside = earlier .before .source-outside in
-    let if2 = earlier .if2 in
+    let after-nodes-outside : tie.After-nodes-outside = search needs in
+    let else1 : tie.Else1 = search needs in
+    let after-source-outside : tie.After-source-outside = search needs in
+    let else2 : tie.Else2 = search needs in
+    let nodes-outside = after-nodes-outside .nodes-outside in
+    let if1 = else1 .if1 in
+    let source-outside = after-source-outside .source-outside in
+    let if2 = else2 .if2 in
     let spans-outside = c .before .before .before .spans-outside in
     rw (
       sym (nodes-outside .ensures) ∙ if1 .left,

@@ -18,9 +18,9 @@ returns c =
 returns-2 : tie.Need-returns-2
 unfolding tooMany
 returns-2 c =
-    let earlier = c .before .before .before .before in
-    let args = earlier .before .args in
-    let pre = earlier .before .pre in
+    let start : tie.Start = search needs in
+    let args = start .args in
+    let pre = start .pre in
     rw (le-ltb 15 (spanCount (args .s .now)) (omega (arith, pre .spans-all)), lt-ltb 2048 (arcCount (args .s .now)) (omega (arith, pre .arcs-all)))
 
 region-words-requires : tie.Need-region-words-requires
@@ -29,9 +29,9 @@ region-words-requires c κs = search needs
 returns-3 : tie.Need-returns-3
 unfolding tooMany
 returns-3 c =
-    let earlier = c .before .before .before .before in
-    let args = earlier .before .before .args in
-    let pre = earlier .before .before .pre in
+    let start : tie.Start = search needs in
+    let args = start .args in
+    let pre = start .pre in
     rw (
       le-ltb 15 (spanCount (args .s .now)) (omega (arith, pre .spans-all)),
       le-ltb 2048 (arcCount (args .s .now)) (omega (arith, pre .arcs-all)),

@@ -16,8 +16,9 @@ put-status-line-requires c κs =
 
 put-node-lines-requires : tie.Need-put-node-lines-requires
 put-node-lines-requires c κs =
+    let start : tie.Start = search needs in
     let put-status-line = c .before .before .before .put-status-line in
-    let pre = c .before .before .before .before .before .before .before .pre in
+    let pre = start .pre in
     (omega arith, pre .1, node-lines-fit _ (pre .2) (put-status-line .ensures) (pre .1))
 
 same-length : tie.Need-same-length
@@ -26,9 +27,10 @@ same-length c = search needs
 returns : tie.Need-returns
 unfolding listingOf
 returns c =
-    let earlier = c .before .before .before .before .before .before .before .before in
-    let put-status-line = c .before .before .before .before .before .before .put-status-line in
-    let pre = earlier .before .before .pre in
+    let after-put-status-line : tie.After-put-status-line = search needs in
+    let start : tie.Start = search needs in
+    let put-status-line = after-put-status-line .put-status-line in
+    let pre = start .pre in
     let line = wrote-then (put-status-line .ensures) (c .before .before .put-node-lines .ensures) in
     filled line refl (listing-room _ (pre .2) _ (pre .1))
 

@@ -11,29 +11,33 @@ use Rattle.listing.proofs.write_refused.Tie as tie
 put-number-requires : tie.Need-put-number-requires
 unfolding refusedLine
 put-number-requires c κs =
+    let start : tie.Start = search needs in
     let put-text = c .before .before .before .put-text in
-    let fits = c .before .before .before .before .before .before .before .fits in
-    let pre = c .before .before .before .before .before .before .before .pre in
+    let fits = start .fits in
+    let pre = start .pre in
     room-after (put-text .ensures) (room-before _ (refused-room (fits .n .fits) (pre)))
 
 put-byte-requires : tie.Need-put-byte-requires
 unfolding refusedLine
 put-byte-requires c κs =
-    let earlier = c .before .before .before .before .before .before .before .before in
+    let after-put-text : tie.After-put-text = search needs in
+    let start : tie.Start = search needs in
     let put-number = c .before .before .before .put-number in
-    let put-text = c .before .before .before .before .before .before .before .put-text in
-    let fits = earlier .before .before .before .fits in
-    let pre = earlier .before .before .before .pre in
+    let put-text = after-put-text .put-text in
+    let fits = start .fits in
+    let pre = start .pre in
     byte-room (room-after (wrote-then (put-text .ensures) (put-number .ensures)) (refused-room (fits .n .fits) (pre)))
 
 returns : tie.Need-returns
 unfolding refusedLine
 returns c =
-    let earlier = c .before .before .before .before .before .before .before .before in
-    let put-number = c .before .before .before .before .before .before .put-number in
-    let put-text = earlier .before .before .put-text in
-    let fits = earlier .before .before .before .before .before .before .fits in
-    let pre = earlier .before .before .before .before .before .before .pre in
+    let after-put-number : tie.After-put-number = search needs in
+    let after-put-text : tie.After-put-text = search needs in
+    let start : tie.Start = search needs in
+    let put-number = after-put-number .put-number in
+    let put-text = after-put-text .put-text in
+    let fits = start .fits in
+    let pre = start .pre in
     let line = wrote-then (wrote-then (put-text .ensures) (put-number .ensures)) (c .before .before .put-byte .ensures) in
     filled line refl (refused-room (fits .n .fits) (pre))
 

@@ -15,28 +15,32 @@ put-number-requires c κs =
 put-payload-requires : tie.Need-put-payload-requires
 unfolding nodeLine
 put-payload-requires c κs =
+    let start : tie.Start = search needs in
     let put-number = c .before .before .before .put-number in
-    let pre = c .before .before .before .before .before .before .before .pre in
+    let pre = start .pre in
     (omega (arith, pre .0), room-after (put-number .ensures) (room-before _ (room-before _ (pre .1))))
 
 put-payload-requires-2 : tie.Need-put-payload-requires-2
 unfolding nodeLine
 put-payload-requires-2 c κs =
-    let earlier = c .before .before .before .before .before .before .before .before in
+    let after-put-number : tie.After-put-number = search needs in
+    let start : tie.Start = search needs in
     let put-payload = c .before .before .before .put-payload in
-    let put-number = c .before .before .before .before .before .before .before .put-number in
-    let pre = earlier .before .before .before .pre in
+    let put-number = after-put-number .put-number in
+    let pre = start .pre in
     let distance = wrote-then (put-number .ensures) (put-payload .ensures) in
     (omega (arith, pre .0), room-after distance (room-before _ (pre .1)))
 
 put-byte-requires : tie.Need-put-byte-requires
 unfolding nodeLine
 put-byte-requires c κs =
-    let earlier = c .before .before .before .before .before .before .before .before in
+    let after-put-payload : tie.After-put-payload = search needs in
+    let after-put-number : tie.After-put-number = search needs in
+    let start : tie.Start = search needs in
     let put-payload2 = c .before .before .before .put-payload2 in
-    let put-payload = c .before .before .before .before .before .before .before .put-payload in
-    let put-number = earlier .before .before .before .put-number in
-    let pre = earlier .before .before .before .before .before .before .before .pre in
+    let put-payload = after-put-payload .put-payload in
+    let put-number = after-put-number .put-number in
+    let pre = start .pre in
     let distance = wrote-then (put-number .ensures) (put-payload .ensures) in
     let arc = wrote-then distance (put-payload2 .ensures) in
     byte-room (room-after arc (pre .1))
@@ -44,10 +48,12 @@ put-byte-requires c κs =
 returns : tie.Need-returns
 unfolding nodeLine
 returns c =
-    let earlier = c .before .before .before .before .before .before .before .before in
-    let put-payload2 = c .before .before .before .before .before .before .put-payload2 in
-    let put-payload = earlier .before .before .put-payload in
-    let put-number = earlier .before .before .before .before .before .before .put-number in
+    let after-put-payload2 : tie.After-put-payload2 = search needs in
+    let after-put-payload : tie.After-put-payload = search needs in
+    let after-put-number : tie.After-put-number = search needs in
+    let put-payload2 = after-put-payload2 .put-payload2 in
+    let put-payload = after-put-payload .put-payload in
+    let put-number = after-put-number .put-number in
     let distance = wrote-then (put-number .ensures) (put-payload .ensures) in
     let arc = wrote-then distance (put-payload2 .ensures) in
     wrote-then arc (c .before .before .put-byte .ensures)

@@ -15,18 +15,27 @@ Inv-loop table nodes out₀ at next₀ v₀ out next v = (v ≤ nodes) × Wrote 
 abbrev μ-loop : tie.MeasureT-loop
 μ-loop table nodes out₀ at next₀ v₀ out next v = nodes - v
 
+-- the places of the function that answers look back to
+abbrev Start : Type 0
+Start = tie.Start Inv-loop μ-loop
+
+abbrev At-loop : Type 0
+At-loop = tie.At-loop Inv-loop μ-loop
+
 loop-holds : tie.Need-loop-holds Inv-loop μ-loop
 unfolding nodeLines
 loop-holds c = search needs
 
 put-node-line-requires : tie.Need-put-node-line-requires Inv-loop μ-loop
 put-node-line-requires c κs =
-    let pre = c .before .before .before .before .before .pre in
+    let start : Start = search needs in
+    let pre = start .pre in
     (omega arith, line-room _ (c .before .before .loop .inv .1) (c .before .loop-test .taken) (pre .1) (pre .2))
 
 loop-again : tie.Need-loop-again Inv-loop μ-loop
 loop-again c =
-    let loop = c .before .before .before .before .before .loop in
+    let at-loop : At-loop = search needs in
+    let loop = at-loop .loop in
     (omega arith, rw line-more (wrote-then (loop .inv .1) (c .before .before .put-node-line .ensures)))
 
 same-length : tie.Need-same-length Inv-loop μ-loop

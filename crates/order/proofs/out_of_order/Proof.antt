@@ -16,6 +16,19 @@ Inv-loop s at₀ before₀ at before = Passing s before (at .at)
 abbrev μ-loop : tie.MeasureT-loop
 μ-loop s at₀ before₀ at before = words s - at .at
 
+-- the places of the function that answers look back to
+abbrev Start : Type 0
+Start = tie.Start Inv-loop μ-loop
+
+abbrev At-loop : Type 0
+At-loop = tie.At-loop Inv-loop μ-loop
+
+abbrev After-word : Type 0
+After-word = tie.After-word Inv-loop μ-loop
+
+abbrev After-word-after : Type 0
+After-word-after = tie.After-word-after Inv-loop μ-loop
+
 loop-holds : tie.Need-loop-holds Inv-loop μ-loop
 loop-holds c = pass-start _
 
@@ -24,21 +37,24 @@ enum-told c = search needs
 
 returns : tie.Need-returns Inv-loop μ-loop
 returns c =
-    let earlier = c .before .before .before .before in
-    let args = earlier .before .before .args in
-    let loop = earlier .loop in
+    let start : Start = search needs in
+    let at-loop : At-loop = search needs in
+    let args = start .args in
+    let loop = at-loop .loop in
     let word-after = c .before .before .before .word-after in
     rw (c .may-end .ensures) (pass-end (args .s .now) (loop .before) (loop .at .at)
     (step-end (args .s .now) (loop .at) (sym (word-after .ensures) ∙ c .before .enum-told .given .1)) (loop .inv))
 
 returns-2 : tie.Need-returns-2 Inv-loop μ-loop
 returns-2 c =
-    let earlier = c .before .before .before .before in
-    let early = earlier .before .before .before .before in
-    let args = early .before .args in
-    let loop = earlier .before .before .before .loop in
-    let word = earlier .word in
-    let word-after = earlier .before .before .word-after in
+    let start : Start = search needs in
+    let at-loop : At-loop = search needs in
+    let after-word : After-word = search needs in
+    let after-word-after : After-word-after = search needs in
+    let args = start .args in
+    let loop = at-loop .loop in
+    let word = after-word .word in
+    let word-after = after-word-after .word-after in
     let st = step-word (args .s .now) (loop .at) (word .given .0 .0) (word .given .0 .1 .0) (sym (word-after .ensures) ∙ word .given .1) in
     let read = step-kind (args .s .now) (loop .at) (word .given .0 .0) _ (word .given .0 .1 .0) st (c .before .before .kind-of .ensures) in
     sym (pass-stop (args .s .now) (loop .before) (loop .at .at) (st .inside)
@@ -46,23 +62,27 @@ returns-2 c =
 
 loop-less : tie.Need-loop-less Inv-loop μ-loop
 loop-less c =
-    let earlier = c .before .before .before .before in
-    let early = earlier .before .before .before .before in
-    let args = early .before .args in
-    let loop = earlier .before .before .before .loop in
-    let word = earlier .word in
-    let word-after = earlier .before .before .word-after in
+    let start : Start = search needs in
+    let at-loop : At-loop = search needs in
+    let after-word : After-word = search needs in
+    let after-word-after : After-word-after = search needs in
+    let args = start .args in
+    let loop = at-loop .loop in
+    let word = after-word .word in
+    let word-after = after-word-after .word-after in
     let st = step-word (args .s .now) (loop .at) (word .given .0 .0) (word .given .0 .1 .0) (sym (word-after .ensures) ∙ word .given .1) in
     omega (arith, st .inside, st .moved)
 
 loop-again : tie.Need-loop-again Inv-loop μ-loop
 loop-again c =
-    let earlier = c .before .before .before .before in
-    let early = earlier .before .before .before .before in
-    let args = early .before .args in
-    let loop = earlier .before .before .before .loop in
-    let word = earlier .word in
-    let word-after = earlier .before .before .word-after in
+    let start : Start = search needs in
+    let at-loop : At-loop = search needs in
+    let after-word : After-word = search needs in
+    let after-word-after : After-word-after = search needs in
+    let args = start .args in
+    let loop = at-loop .loop in
+    let word = after-word .word in
+    let word-after = after-word-after .word-after in
     let st = step-word (args .s .now) (loop .at) (word .given .0 .0) (word .given .0 .1 .0) (sym (word-after .ensures) ∙ word .given .1) in
     let read = step-kind (args .s .now) (loop .at) (word .given .0 .0) _ (word .given .0 .1 .0) st (c .before .before .kind-of .ensures) in
     rw (read, st .moved) (pass-on (args .s .now) (loop .before) (loop .at .at) (st .inside)

@@ -27,7 +27,8 @@ is-leaf-requires c κs = search needs
 
 returns-2 : tie.Need-returns-2
 returns-2 c =
-    let args = c .before .before .before .before .args in
+    let start : tie.Start = search needs in
+    let args = start .args in
     rw (← c .before .before .parent-word .ensures, le-ltb (args .k) (c .before .before .parent-word .result) (omega (arith, c .before .if1 .left)))
     (c .is-leaf .ensures)
 

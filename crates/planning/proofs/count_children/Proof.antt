@@ -15,6 +15,25 @@ Inv-loop parents rows₀ n c₀ rows c = (d : Division) → ParentsOf d parents 
 abbrev μ-loop : tie.MeasureT-loop
 μ-loop parents rows₀ n c₀ rows c = n - c
 
+-- the places of the function that answers look back to
+abbrev Start : Type 0
+Start = tie.Start Inv-loop μ-loop
+
+abbrev In-loop : Type 0
+In-loop = tie.In-loop Inv-loop μ-loop
+
+abbrev After-children-of : Type 0
+After-children-of = tie.After-children-of Inv-loop μ-loop
+
+abbrev After-set-field : Type 0
+After-set-field = tie.After-set-field Inv-loop μ-loop
+
+abbrev After-set-field2 : Type 0
+After-set-field2 = tie.After-set-field2 Inv-loop μ-loop
+
+abbrev At-loop : Type 0
+At-loop = tie.At-loop Inv-loop μ-loop
+
 -- where the function begins
 abbrev entry : (c : tie.In-loop Inv-loop μ-loop) → tie.Start Inv-loop μ-loop
 entry c = c .before .before .before .before .before .before .before .before
@@ -28,79 +47,80 @@ inside c = omega (arith, c .loop-test .taken, entry c .pre .1 .all)
 
 loop-holds : tie.Need-loop-holds Inv-loop μ-loop
 loop-holds c =
-    let earlier = c .before .before .before .before in
-    let args = earlier .before .before .args in
-    let pre = earlier .before .before .pre in
+    let start : Start = search needs in
+    let args = start .args in
+    let pre = start .pre in
     λ d Q. counting-start (args .rows .now) _ Q (omega (arith, pre .2, pre .1 .all, Q .all)) (c .before .before .fill .ensures)
 
 children-of-requires : tie.Need-children-of-requires Inv-loop μ-loop
 children-of-requires c κs =
-    let earlier = c .before .before .before .before in
-    let early = earlier .before .before .before .before in
-    let pre = early .before .before .pre in
+    let start : Start = search needs in
+    let pre = start .pre in
     let pass = c .before .before in
     count-row (pre .1) (now pass) (inside pass)
 
 add-counted : tie.Need-add-counted Inv-loop μ-loop
 add-counted c =
-    let earlier = c .before .before .before .before in
-    let early = earlier .before .before .before .before in
-    let pre = early .before .before .before .pre in
+    let start : Start = search needs in
+    let pre = start .pre in
     let pass = c .before .before .before in
     let b = count-bounds (pre .1) (now pass) (inside pass) _ (c .children-of .ensures) in
     omega (arith, b .fits)
 
 set-field-requires : tie.Need-set-field-requires Inv-loop μ-loop
 set-field-requires c κs =
-    let earlier = c .before .before .before .before in
-    let early = earlier .before .before .before .before in
-    let pre = early .before .before .before .before .pre in
-    let pass = earlier in
+    let start : Start = search needs in
+    let in-loop : In-loop = search needs in
+    let pre = start .pre in
+    let pass = in-loop in
     let b = count-bounds (pre .1) (now pass) (inside pass) _ (c .before .children-of .ensures) in
     (omega arith, b .row)
 
 set-field-requires-2 : tie.Need-set-field-requires-2 Inv-loop μ-loop
 set-field-requires-2 c κs =
-    let earlier = c .before .before .before .before in
-    let early = earlier .before .before .before .before in
-    let first = early .before .before .before .before in
-    let pre = first .before .before .before .before .pre in
-    let children-of = earlier .before .children-of in
+    let start : Start = search needs in
+    let after-children-of : After-children-of = search needs in
+    let in-loop : In-loop = search needs in
+    let pre = start .pre in
+    let children-of = after-children-of .children-of in
     let set-field = c .before .before .before .set-field in
-    let pass = early in
+    let pass = in-loop in
     let b = count-bounds (pre .1) (now pass) (inside pass) _ (children-of .ensures) in
     (omega arith, omega (arith, b .row, set-field .kept))
 
 set-field-requires-3 : tie.Need-set-field-requires-3 Inv-loop μ-loop
 set-field-requires-3 c κs =
-    let earlier = c .before .before .before .before in
-    let early = earlier .before .before .before .before in
-    let first = early .before .before .before .before in
-    let pre = first .before .before .before .before .before .before .before .before .pre in
-    let children-of = early .before .children-of in
+    let start : Start = search needs in
+    let after-children-of : After-children-of = search needs in
+    let after-set-field : After-set-field = search needs in
+    let in-loop : In-loop = search needs in
+    let pre = start .pre in
+    let children-of = after-children-of .children-of in
     let set-field2 = c .before .before .before .set-field2 in
-    let set-field = earlier .before .before .before .set-field in
-    let pass = first in
+    let set-field = after-set-field .set-field in
+    let pass = in-loop in
     let b = count-bounds (pre .1) (now pass) (inside pass) _ (children-of .ensures) in
     (omega arith, omega (arith, b .row-parent, set-field2 .kept, set-field .kept))
 
 loop-again : tie.Need-loop-again Inv-loop μ-loop
 loop-again c =
-    let earlier = c .before .before .before .before in
-    let early = earlier .before .before .before .before in
-    let first = early .before .before .before .before in
-    let set-field2 = earlier .before .before .set-field2 in
-    let set-field = early .before .before .set-field in
-    let loop = first .before .before .before .before .loop in
-    let loop-test = first .before .before .before .loop-test in
-    let children-of = first .children-of in
+    let after-set-field2 : After-set-field2 = search needs in
+    let after-set-field : After-set-field = search needs in
+    let at-loop : At-loop = search needs in
+    let in-loop : In-loop = search needs in
+    let after-children-of : After-children-of = search needs in
+    let set-field2 = after-set-field2 .set-field2 in
+    let set-field = after-set-field .set-field in
+    let loop = at-loop .loop in
+    let loop-test = in-loop .loop-test in
+    let children-of = after-children-of .children-of in
     rw (c .before .before .set-field3 .ensures, set-field2 .ensures, set-field .ensures)
     (λ d Q. counting-step Q (loop .inv d Q) (omega (arith, loop-test .taken, Q .all)) _ (children-of .ensures))
 
 same-length : tie.Need-same-length Inv-loop μ-loop
 same-length c =
-    let earlier = c .before .before .before .before in
-    let pre = earlier .before .before .before .before .pre in
+    let start : Start = search needs in
+    let pre = start .pre in
     c .before .loop .inv (pre .0) (pre .1) .all ∙ sym (pre .2)
 
 returns : tie.Need-returns Inv-loop μ-loop

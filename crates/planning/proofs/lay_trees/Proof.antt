@@ -19,6 +19,16 @@ Inv-loop rows₀ n start₀ r₀ rows start r =
 abbrev μ-loop : tie.MeasureT-loop
 μ-loop rows₀ n start₀ r₀ rows start r = n - r
 
+-- the places of the function that answers look back to
+abbrev At-loop : Type 0
+At-loop = tie.At-loop Inv-loop μ-loop
+
+abbrev After-set-field : Type 0
+After-set-field = tie.After-set-field Inv-loop μ-loop
+
+abbrev In-loop : Type 0
+In-loop = tie.In-loop Inv-loop μ-loop
+
 -- where the function begins
 abbrev entry : (c : tie.In-loop Inv-loop μ-loop) → tie.Start Inv-loop μ-loop
 entry c = c .before .before .before
@@ -35,28 +45,34 @@ loop-holds c = (refl, λ d R _. laying-start R)
 
 mul-start : tie.Need-mul-start Inv-loop μ-loop
 mul-start c =
-    let earlier = c .before .before .before .before in
-    let loop = earlier .before .before .before .loop in
-    let set-field = earlier .set-field in
-    let pass = earlier .before .before in
+    let at-loop : At-loop = search needs in
+    let after-set-field : After-set-field = search needs in
+    let in-loop : In-loop = search needs in
+    let loop = at-loop .loop in
+    let set-field = after-set-field .set-field in
+    let pass = in-loop in
     let read = c .children-of .ensures ∙ ap (λ (l : List ℕ). field l (loop .r) 1) (set-field .ensures) in
     omega (arith, laying-fits (now pass) (inside pass) (c .children-of .result) read)
 
 add-start : tie.Need-add-start Inv-loop μ-loop
 add-start c =
-    let earlier = c .before .before .before .before in
-    let loop = earlier .before .before .before .loop in
-    let set-field = earlier .set-field in
-    let pass = earlier .before .before in
+    let at-loop : At-loop = search needs in
+    let after-set-field : After-set-field = search needs in
+    let in-loop : In-loop = search needs in
+    let loop = at-loop .loop in
+    let set-field = after-set-field .set-field in
+    let pass = in-loop in
     let read = c .children-of .ensures ∙ ap (λ (l : List ℕ). field l (loop .r) 1) (set-field .ensures) in
     omega (arith, laying-fits (now pass) (inside pass) (c .children-of .result) read)
 
 loop-again : tie.Need-loop-again Inv-loop μ-loop
 loop-again c =
-    let earlier = c .before .before .before .before in
-    let loop = earlier .before .before .before .loop in
-    let set-field = earlier .set-field in
-    let loop-test = earlier .before .before .loop-test in
+    let at-loop : At-loop = search needs in
+    let after-set-field : After-set-field = search needs in
+    let in-loop : In-loop = search needs in
+    let loop = at-loop .loop in
+    let set-field = after-set-field .set-field in
+    let loop-test = in-loop .loop-test in
     let read = c .children-of .ensures ∙ ap (λ (l : List ℕ). field l (loop .r) 1) (set-field .ensures) in (
       omega (arith, set-field .kept, loop .inv .0),
       rw (set-field .ensures) (λ d R e. laying-step (loop .inv .1 d R e) (omega (arith, loop-test .taken, e)) _ read),

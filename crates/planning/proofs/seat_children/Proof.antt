@@ -17,6 +17,19 @@ Inv-loop rows₀ n c₀ rows c =
 abbrev μ-loop : tie.MeasureT-loop
 μ-loop rows₀ n c₀ rows c = n - c
 
+-- the places of the function that answers look back to
+abbrev In-loop : Type 0
+In-loop = tie.In-loop Inv-loop μ-loop
+
+abbrev After-parent-of : Type 0
+After-parent-of = tie.After-parent-of Inv-loop μ-loop
+
+abbrev After-children-of : Type 0
+After-children-of = tie.After-children-of Inv-loop μ-loop
+
+abbrev After-seat-of : Type 0
+After-seat-of = tie.After-seat-of Inv-loop μ-loop
+
 -- where the function begins
 abbrev entry : tie.In-loop Inv-loop μ-loop → tie.Start Inv-loop μ-loop
 entry c = c .before .before .before
@@ -44,27 +57,30 @@ children-of-requires c κs =
 
 add-place : tie.Need-add-place Inv-loop μ-loop
 add-place c =
+    let in-loop : In-loop = search needs in
+    let after-parent-of : After-parent-of = search needs in
     let children-of = c .before .before .children-of in
-    let earlier = c .before .before .before .before in
-    let pass = earlier .before .before in
-    let over = earlier .parent-of .ensures _ (now pass .counted) (inside pass) in
+    let pass = in-loop in
+    let over = after-parent-of .parent-of .ensures _ (now pass .counted) (inside pass) in
     let fits = seat-fits (now pass) (inside pass) _ over (children-of .result) (c .seat-of .result) (children-of .ensures) (c .seat-of .ensures) in
     omega (arith, fits)
 
 loop-again : tie.Need-loop-again Inv-loop μ-loop
 loop-again c =
-    let earlier = c .before .before .before .before in
-    let early = earlier .before .before .before .before in
-    let pass = early .before .before in
+    let in-loop : In-loop = search needs in
+    let after-children-of : After-children-of = search needs in
+    let after-parent-of : After-parent-of = search needs in
+    let after-seat-of : After-seat-of = search needs in
+    let pass = in-loop in
     let loop = pass .before .loop in
     let set-field = c .before .before .set-field in
-    let children-of = earlier .before .before .children-of in (
+    let children-of = after-children-of .children-of in (
       omega (arith, set-field .kept, loop .inv .0),
       rw (set-field .ensures)
           (λ d S e.
           let now = loop .inv .1 d S e in
           let inside : loop .c < regions d = omega (arith, pass .loop-test .taken, e) in
-          seating-step now inside _ (early .parent-of .ensures d (now .counted) inside) _ _ (children-of .ensures) (earlier .seat-of .ensures)),
+          seating-step now inside _ (after-parent-of .parent-of .ensures d (now .counted) inside) _ _ (children-of .ensures) (after-seat-of .seat-of .ensures)),
     )
 
 returns : tie.Need-returns Inv-loop μ-loop

@@ -10,8 +10,8 @@ returns c = λ d keys Q inside. sym (item-none Q _ inside (sym (c .before .child
 
 shared-slice-read-t10 : tie.Need-shared-slice-read-t10
 shared-slice-read-t10 c =
-    let earlier = c .before .before .before .before in
-    let pre = earlier .before .before .pre in
+    let start : tie.Start = search needs in
+    let pre = start .pre in
     let children-of = c .before .before .before .children-of in
     rw (c .before .start-of .ensures) (first-in (pre .2) _ (pre .3) (λ e. c .before .before .if1 .left (children-of .ensures ∙ e)))
 

@@ -13,15 +13,15 @@ returns c = λ d keys Q inside. key-none Q _ inside (sym (c .before .children-of
 
 shared-slice-read-result : tie.Need-shared-slice-read-result
 shared-slice-read-result c =
-    let earlier = c .before .before .before .before in
-    let pre = earlier .before .before .pre in
+    let start : tie.Start = search needs in
+    let pre = start .pre in
     let children-of = c .before .before .before .children-of in
     rw (c .before .start-of .ensures) (first-in (pre .2) _ (pre .3) (λ e. c .before .before .if1 .left (children-of .ensures ∙ e)))
 
 cast-result : tie.Need-cast-result
 cast-result c =
-    let earlier = c .before .before .before .before in
-    let pre = earlier .before .before .pre in
+    let start : tie.Start = search needs in
+    let pre = start .pre in
     let children-of = c .before .before .before .children-of in
     rw (c .before .start-of .ensures)
     (omega (arith, key-fits (pre .2) _ (pre .3) (λ e. c .before .before .if1 .left (children-of .ensures ∙ e))))

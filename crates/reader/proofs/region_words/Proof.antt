@@ -1,4 +1,5 @@
 -- `region_words` meets its contract: the rest of the sheet, from the place where the sections end. Assumes nothing.
+use borrow.Author.Needs.{needs}
 use Prim.Native.Nat.{ℕ, _+_, _*_}
 use mathlib.Core.Path.{_≡_, ap, _∙_}
 use native.Mathlib.Omega.{arith}
@@ -9,31 +10,27 @@ use Rattle.reader.proofs.region_words.Tie as tie
 
 add-t3 : tie.Need-add-t3
 add-t3 c =
-    let entry = c .before .before in
-    omega (arith, located-inside (entry .args .s .now) (entry .args .at) (entry .pre))
+    omega (arith, located-inside (c .before .before .args .s .now) (c .before .before .args .at) (c .before .before .pre))
 
 mul-t4 : tie.Need-mul-t4
 mul-t4 c =
-    let entry = c .before .before .before in
-    omega (arith, located-inside (entry .args .s .now) (entry .args .at) (entry .pre))
+    omega (arith, located-inside (c .before .before .before .args .s .now) (c .before .before .before .args .at) (c .before .before .before .pre))
 
 add-t5 : tie.Need-add-t5
 add-t5 c =
-    let entry = c .before .before .before in
-    omega (arith, located-inside (entry .args .s .now) (entry .args .at) (entry .pre))
+    omega (arith, located-inside (c .before .before .before .args .s .now) (c .before .before .before .args .at) (c .before .before .before .pre))
 
 rest-after-requires : tie.Need-rest-after-requires
 rest-after-requires c κs =
-    let entry = c .before .before .before in
-    omega (arith, located-inside (entry .args .s .now) (entry .args .at) (entry .pre))
+    omega (arith, located-inside (c .before .before .before .args .s .now) (c .before .before .before .args .at) (c .before .before .before .pre))
 
 returns : tie.Need-returns
 unfolding regionWords
 returns c =
-    let entry = c .before .before .before .before in
-    let s = entry .args .s .now in
-    let at = entry .args .at in
-    let e : 2 + at .spans + 2 * at .arcs ≡ regionsAt s = omega (arith, entry .pre .spans-all, entry .pre .arcs-all) in
+    let start : tie.Start = search needs in
+    let s = start .args .s .now in
+    let at = start .args .at in
+    let e : 2 + at .spans + 2 * at .arcs ≡ regionsAt s = omega (arith, start .pre .spans-all, start .pre .arcs-all) in
     c .rest-after .ensures ∙ ap (λ (i : ℕ). partAfter s (record { at = i })) e
 
 pub region-words-spec : {M : Type 1} → statement M

@@ -20,23 +20,23 @@ cast-i c = search needs
 
 sub-arc-word : tie.Need-sub-arc-word
 sub-arc-word c =
-    let earlier = c .before .before .before .before in
-    let args = earlier .args in
+    let start : tie.Start = search needs in
+    let args = start .args in
     let leaf = sym (c .before .before .is-leaf .ensures) ∙ not-false (c .before .before .is-leaf .result) (c .before .if1 .left) in
     omega (arith, leaf-positive (args .d .now) (args .r .0) leaf)
 
 arc-word-requires : tie.Need-arc-word-requires
 arc-word-requires c κs =
-    let earlier = c .before .before .before .before in
-    let args = earlier .args in
+    let start : tie.Start = search needs in
+    let args = start .args in
     let leaf = sym (c .before .before .is-leaf .ensures) ∙ not-false (c .before .before .is-leaf .result) (c .before .if1 .left) in
     omega (arith, leaf-positive (args .d .now) (args .r .0) leaf)
 
 returns-2 : tie.Need-returns-2
 returns-2 c =
-    let earlier = c .before .before .before .before in
+    let start : tie.Start = search needs in
     let is-leaf = c .before .before .before .is-leaf in
-    let args = earlier .before .args in
+    let args = start .args in
     let leaf = sym (is-leaf .ensures) ∙ not-false (is-leaf .result) (c .before .before .if1 .left) in
     c .arc-word .ensures .0 ∙ sym (leaf-row (args .d .now) (args .r .0) leaf .0)
 

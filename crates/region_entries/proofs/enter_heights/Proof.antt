@@ -13,6 +13,22 @@ Inv-loop d parents regions₀ r₀ regions r = EnteringHeights d regions r
 abbrev μ-loop : tie.MeasureT-loop
 μ-loop d parents regions₀ r₀ regions r = r
 
+-- the places of the function that answers look back to
+abbrev Start : Type 0
+Start = tie.Start Inv-loop μ-loop
+
+abbrev At-loop : Type 0
+At-loop = tie.At-loop Inv-loop μ-loop
+
+abbrev In-loop : Type 0
+In-loop = tie.In-loop Inv-loop μ-loop
+
+abbrev After-settle-height : Type 0
+After-settle-height = tie.After-settle-height Inv-loop μ-loop
+
+abbrev After-loop : Type 0
+After-loop = tie.After-loop Inv-loop μ-loop
+
 loop-holds : tie.Need-loop-holds Inv-loop μ-loop
 loop-holds c =
     let pre = c .before .before .before .pre in
@@ -20,21 +36,26 @@ loop-holds c =
 
 settle-height-requires : tie.Need-settle-height-requires Inv-loop μ-loop
 settle-height-requires c κs =
+    let start : Start = search needs in
     let loop = c .before .before .loop in
-    let pre = c .before .before .before .before .before .before .pre in
+    let pre = start .pre in
     (loop .inv .within, omega (arith, loop .inv .all, loop .inv .within), heights-fit (pre .0) (loop .inv) (loop .r) (le-refl (loop .r)))
 
 hand-up-requires : tie.Need-hand-up-requires Inv-loop μ-loop
 hand-up-requires c κs =
-    let earlier = c .before .before .before .before in
-    let pre = earlier .before .before .before .before .before .before .before .pre in
-    let loop = earlier .before .before .before .loop in
-    let low = parent-lower (pre .0) (pre .1) (loop .r) (earlier .before .before .loop-test .taken) (loop .inv .within) in
-    omega (arith, low, loop .inv .all, loop .inv .within, earlier .settle-height .kept)
+    let start : Start = search needs in
+    let at-loop : At-loop = search needs in
+    let in-loop : In-loop = search needs in
+    let after-settle-height : After-settle-height = search needs in
+    let pre = start .pre in
+    let loop = at-loop .loop in
+    let low = parent-lower (pre .0) (pre .1) (loop .r) (in-loop .loop-test .taken) (loop .inv .within) in
+    omega (arith, low, loop .inv .all, loop .inv .within, after-settle-height .settle-height .kept)
 
 loop-again : tie.Need-loop-again Inv-loop μ-loop
 loop-again c =
-    let settling = c .before .before .before .before .before .before .before in
+    let after-settle-height : After-settle-height = search needs in
+    let settling = after-settle-height in
     let loop-test = settling .before .before .loop-test in
     let loop = settling .before .before .before .loop in
     let pre = settling .before .before .before .before .before .before .before .pre in
@@ -44,15 +65,18 @@ loop-again c =
 
 settle-height-requires-2 : tie.Need-settle-height-requires-2 Inv-loop μ-loop
 settle-height-requires-2 c κs =
+    let start : Start = search needs in
     let loop = c .before .before .loop in
-    let pre = c .before .before .before .before .before .before .pre in
+    let pre = start .pre in
     (omega arith, omega (arith, loop .inv .all), heights-fit (pre .0) (loop .inv) 0 (omega arith))
 
 returns : tie.Need-returns Inv-loop μ-loop
 returns c =
-    let earlier = c .before .before .before .before in
-    let pre = earlier .before .before .before .before .before .pre in
-    heights-all (pre .0) (earlier .before .loop .inv) (earlier .loop-test .left) (c .before .before .settle-height2 .ensures .1)
+    let start : Start = search needs in
+    let at-loop : At-loop = search needs in
+    let after-loop : After-loop = search needs in
+    let pre = start .pre in
+    heights-all (pre .0) (at-loop .loop .inv) (after-loop .loop-test .left) (c .before .before .settle-height2 .ensures .1)
 
 pub enter-heights-spec : {M : Type 1} → statement M
 enter-heights-spec =

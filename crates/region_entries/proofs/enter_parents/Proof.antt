@@ -13,10 +13,14 @@ Inv-loop d parents₀ n k₀ parents k = EnteringParents d parents k
 abbrev μ-loop : tie.MeasureT-loop
 μ-loop d parents₀ n k₀ parents k = words d - k
 
+-- the places of the function that answers look back to
+abbrev Start : Type 0
+Start = tie.Start Inv-loop μ-loop
+
 cast-parents : tie.Need-cast-parents Inv-loop μ-loop
 cast-parents c =
-    let earlier = c .before .before .before .before in
-    let pre = earlier .before .pre in
+    let start : Start = search needs in
+    let pre = start .pre in
     omega (arith, c .parent-word .ensures, parent-fits (pre .0) (c .before .before .loop .k) (c .before .loop-test .taken))
 
 loop-again : tie.Need-loop-again Inv-loop μ-loop

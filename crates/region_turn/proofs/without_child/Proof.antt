@@ -9,18 +9,17 @@ use Rattle.region_turn.proofs.without_child.Tie as tie
 
 returns : tie.Need-returns
 returns c =
-    let earlier = c .before .before .before .before in
-    let start = earlier .before in
+    let start : tie.Start = search needs in
     let own = getD (start .args .best .now) (start .args .r .0) 0 in
     let is-leaf = c .before .is-leaf in
     (sym (rw (← is-leaf .ensures) (holds-none own (is-leaf .result) (c .if1 .taken))), λ e. absurd (true≢false e), λ _. refl)
 
 returns-2 : tie.Need-returns-2
 returns-2 c =
-    let earlier = c .before .before .before .before in
-    let start = earlier .before .before .before .before in
+    let start : tie.Start = search needs in
+    let after-is-leaf : tie.After-is-leaf = search needs in
     let own = getD (start .args .best .now) (start .args .r .0) 0 in
-    let is-leaf = earlier .is-leaf in (
+    let is-leaf = after-is-leaf .is-leaf in (
       sym (rw (← is-leaf .ensures) (holds-one own (is-leaf .result) (c .before .before .before .if1 .left))),
       λ _. rw (← c .before .parent-of .ensures .0) (c .hand-to .ensures),
       λ e. absurd (true≢false (sym e)),

@@ -13,24 +13,28 @@ enum-told c = search needs
 
 report-accepted-requires : tie.Need-report-accepted-requires
 report-accepted-requires c κs =
-    let earlier = c .before .before .before .before .before .before .before .before in
-    let judge = c .before .before .before .before .judge in
-    let pre = earlier .pre in
+    let after-judge : tie.After-judge = search needs in
+    let start : tie.Start = search needs in
+    let judge = after-judge .judge in
+    let pre = start .pre in
     (sym (judge .ensures) ∙ ap said (c .before .before .enum-told .given .1), pre .0, pre .1)
 
 returns : tie.Need-returns
 returns c =
-    let earlier = c .before .before .before .before .before .before .before .before in
-    let number-of = c .before .before .before .before .number-of in
-    let judged = c .before .before .before .before .before .before .judged in
-    let judge = earlier .judge in (
+    let after-number-of : tie.After-number-of = search needs in
+    let after-judged : tie.After-judged = search needs in
+    let after-judge : tie.After-judge = search needs in
+    let number-of = after-number-of .number-of in
+    let judged = after-judged .judged in
+    let judge = after-judge .judge in (
       reported-refusal _ _ (sym (judge .ensures) ∙ ap said (judged .given .1)) (rw (number-of .ensures) at (c .before .before .write-refused .ensures)),
       counts _ _ (filled-within (c .before .before .write-refused .ensures)),
     )
 
 returns-2 : tie.Need-returns-2
 returns-2 c =
-    let report-accepted = c .before .before .before .before .report-accepted in
+    let after-report-accepted : tie.After-report-accepted = search needs in
+    let report-accepted = after-report-accepted .report-accepted in
     (report-accepted .ensures, counts _ _ (filled-within (report-accepted .ensures .text)))
 
 pub report-spec : {M : Type 1} → statement M

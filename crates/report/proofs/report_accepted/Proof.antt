@@ -37,14 +37,17 @@ slice-aggregate-report-table c = sym (length-take-le _ _ (long-enough (c .before
 
 report-table-requires : tie.Need-report-table-requires
 report-table-requires c κs =
+    let start : tie.Start = search needs in
     let sized = c .before .before in
-    let pre = c .before .before .before .before .before .before .before .pre in
+    let pre = start .pre in
     (pre .0, sized .before .node-count .ensures, length-take-le _ _ (long-enough sized) ∙ sized .table-length .ensures, few (sized .before), pre .2)
 
 returns : tie.Need-returns
 returns c =
-    let report-table = c .before .before .before .before .report-table in
-    let sized = c .before .before .before .before .before .before .before in
+    let after-report-table : tie.After-report-table = search needs in
+    let after-table-length : tie.After-table-length = search needs in
+    let report-table = after-report-table .report-table in
+    let sized = after-table-length in
     let pre = sized .before .before .before .before .before .pre in
     rw (sized .table-length .ensures)
     (reported-listing _ (pre .0) (sized .before .node-count .ensures) (report-table .ensures .0) (report-table .ensures .1))

@@ -18,10 +18,11 @@ same-length-2 c = search needs
 
 returns : tie.Need-returns
 returns c =
-    let earlier = c .before .before .before .before .before .before .before .before in
-    let run = c .before .before .before .before .before .before .before .run in
-    let args = earlier .before .before .before .before .args in
-    let pre = earlier .before .before .before .before .pre in
+    let after-run : tie.After-run = search needs in
+    let start : tie.Start = search needs in
+    let run = after-run .run in
+    let args = start .args in
+    let pre = start .pre in
     let ended = run-leaves _ (args .table .now) (pre .0) (pre .1) (pre .2) (run .ensures .1) in
     (ended, rw ended at (c .before .before .write-listing .ensures))
 

@@ -23,20 +23,36 @@ Inv-loop rows arcs firsts lengths spans regions labels₀ predecessors₀ own₀
 abbrev μ-loop : tie.MeasureT-loop
 μ-loop rows arcs firsts lengths spans regions labels₀ predecessors₀ own₀ winners₀ limit left₀ n₀ labels predecessors own winners left n = left
 
+-- the places of the function that answers look back to
+abbrev Start : Type 0
+Start = tie.Start Inv-loop μ-loop
+
+abbrev At-loop : Type 0
+At-loop = tie.At-loop Inv-loop μ-loop
+
+abbrev Else1 : Type 0
+Else1 = tie.Else1 Inv-loop μ-loop
+
+abbrev After-has-ended : Type 0
+After-has-ended = tie.After-has-ended Inv-loop μ-loop
+
+abbrev In-loop : Type 0
+In-loop = tie.In-loop Inv-loop μ-loop
+
 loop-holds : tie.Need-loop-holds Inv-loop μ-loop
 loop-holds c = λ g d k keys R e. (keys, rounds-first R)
 
 has-ended-requires : tie.Need-has-ended-requires Inv-loop μ-loop
 has-ended-requires c κs =
-    let earlier = c .before .before .before .before in
-    let pre = earlier .before .pre in
+    let start : Start = search needs in
+    let pre = start .pre in
     let L = c .before .before .loop .inv (pre .0) (pre .1) (pre .2) (pre .3) (pre .4 .0) (pre .4 .1) in
     (pre .1, L .0, L .1 .represents .queues)
 
 returns : tie.Need-returns Inv-loop μ-loop
 returns c =
-    let earlier = c .before .before .before .before in
-    let loop = earlier .loop in
+    let at-loop : At-loop = search needs in
+    let loop = at-loop .loop in
     λ g d k keys R e.
     let L = loop .inv g d k keys R e in
     let told = c .before .has-ended .ensures g d _ _ _ (L .0) _ (L .1 .represents .queues) (R .tabled .ok .division .root-inner) in
@@ -44,13 +60,16 @@ returns c =
 
 count-round-requires : tie.Need-count-round-requires Inv-loop μ-loop
 count-round-requires c κs =
-    let earlier = c .before .before .before .before in
-    let early = earlier .before .before .before .before in
-    let if1 = earlier .if1 in
-    let has-ended = earlier .before .has-ended in
-    let loop-test = earlier .before .before .before .loop-test in
-    let loop = early .loop in
-    let pre = early .before .before .before .pre in
+    let else1 : Else1 = search needs in
+    let after-has-ended : After-has-ended = search needs in
+    let in-loop : In-loop = search needs in
+    let at-loop : At-loop = search needs in
+    let start : Start = search needs in
+    let if1 = else1 .if1 in
+    let has-ended = after-has-ended .has-ended in
+    let loop-test = in-loop .loop-test in
+    let loop = at-loop .loop in
+    let pre = start .pre in
     let R = pre .4 .0 in
     let L = loop .inv (pre .0) (pre .1) (pre .2) (pre .3) R (pre .4 .1) in
     let told = has-ended .ensures (pre .0) (pre .1) _ _ _ (L .0) _ (L .1 .represents .queues) (R .tabled .ok .division .root-inner) in
@@ -58,15 +77,17 @@ count-round-requires c κs =
 
 process-inner-requires : tie.Need-process-inner-requires Inv-loop μ-loop
 process-inner-requires c κs =
-    let earlier = c .before .before .before .before in
-    let early = earlier .before .before .before .before in
-    let prior = early .before .before .before .before in
+    let else1 : Else1 = search needs in
+    let after-has-ended : After-has-ended = search needs in
+    let in-loop : In-loop = search needs in
+    let at-loop : At-loop = search needs in
+    let start : Start = search needs in
     let count-round = c .count-round in
-    let if1 = earlier .before .if1 in
-    let has-ended = earlier .before .before .has-ended in
-    let loop-test = early .loop-test in
-    let loop = early .before .loop in
-    let pre = prior .pre in
+    let if1 = else1 .if1 in
+    let has-ended = after-has-ended .has-ended in
+    let loop-test = in-loop .loop-test in
+    let loop = at-loop .loop in
+    let pre = start .pre in
     let R = pre .4 .0 in
     let L = loop .inv (pre .0) (pre .1) (pre .2) (pre .3) R (pre .4 .1) in
     let inner = R .tabled .ok .division .root-inner in
@@ -76,14 +97,16 @@ process-inner-requires c κs =
 
 loop-again : tie.Need-loop-again Inv-loop μ-loop
 loop-again c =
-    let earlier = c .before .before .before .before in
-    let early = earlier .before .before .before .before in
+    let else1 : Else1 = search needs in
+    let after-has-ended : After-has-ended = search needs in
+    let in-loop : In-loop = search needs in
+    let at-loop : At-loop = search needs in
     let process-inner = c .process-inner in
     let count-round = c .before .count-round in
-    let if1 = earlier .before .before .if1 in
-    let has-ended = earlier .before .before .before .has-ended in
-    let loop-test = early .before .loop-test in
-    let loop = early .before .before .loop in
+    let if1 = else1 .if1 in
+    let has-ended = after-has-ended .has-ended in
+    let loop-test = in-loop .loop-test in
+    let loop = at-loop .loop in
     λ g d k keys R e.
     let L = loop .inv g d k keys R e in
     let inner = R .tabled .ok .division .root-inner in

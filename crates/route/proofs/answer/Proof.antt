@@ -40,7 +40,8 @@ node-outside-requires c κs = front-there _ (c .before .before .before .pre)
 
 returns : tie.Need-returns
 returns c =
-    let pre = c .before .before .before .before .before .pre in
+    let start : tie.Start = search needs in
+    let pre = start .pre in
     (node-stops _ _ _ _ pre (sym (c .before .node-outside .ensures) ∙ c .if1 .taken), left-refused _ _ _ _ _)
 
 wrong-length-requires : tie.Need-wrong-length-requires
@@ -75,7 +76,8 @@ find-route-requires c κs =
 
 returns-4 : tie.Need-returns-4
 returns-4 c =
-    let good = c .before .before .before .before in
+    let else3 : tie.Else3 = search needs in
+    let good = else3 in
     let fits = measured good in
     let found = c .before .before .find-route .ensures in
     (found .0 ∙ route-decides _ _ _ _ (begun fits .pre) (below (fits .before .before)) (sized fits) (passed good), found .1)

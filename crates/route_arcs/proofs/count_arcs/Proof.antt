@@ -15,6 +15,13 @@ Inv-loop s at table home u₀ arcs₀ u arcs = Counting s table (u₀ .0) (u .0)
 abbrev μ-loop : tie.MeasureT-loop
 μ-loop s at table home u₀ arcs₀ u arcs = length (routeTo s table (u .0))
 
+-- the places of the function that answers look back to
+abbrev Start : Type 0
+Start = tie.Start Inv-loop μ-loop
+
+abbrev After-source-number : Type 0
+After-source-number = tie.After-source-number Inv-loop μ-loop
+
 source-number-requires : tie.Need-source-number-requires Inv-loop μ-loop
 source-number-requires c κs = c .before .before .pre .0 .fitting .located .front
 
@@ -25,39 +32,41 @@ loop-holds c =
 
 previous-requires : tie.Need-previous-requires Inv-loop μ-loop
 previous-requires c κs =
-    let earlier = c .before .before .before .before in
+    let start : Start = search needs in
     let source-number = c .before .before .before .source-number in
-    let pre = earlier .before .before .pre in
+    let pre = start .pre in
     let away = not-home (source-number .ensures) (c .if1 .taken) in
     (pre .0 .fitting, c .before .before .loop .inv .reached .inside, arc-there (pre .0) (c .before .before .loop .inv .reached) away)
 
 add-arcs : tie.Need-add-arcs Inv-loop μ-loop
 add-arcs c =
-    let earlier = c .before .before .before .before in
+    let start : Start = search needs in
     let loop = c .before .before .before .loop in
-    let pre = earlier .before .before .before .pre in
+    let pre = start .pre in
     omega (arith, loop .inv .total, route-few (pre .0) (pre .1))
 
 loop-less : tie.Need-loop-less Inv-loop μ-loop
 loop-less c =
-    let earlier = c .before .before .before .before in
-    let pre = earlier .before .before .before .pre in
+    let start : Start = search needs in
+    let after-source-number : After-source-number = search needs in
+    let pre = start .pre in
     let loop = c .before .before .before .loop in
-    let source-number = earlier .source-number in
+    let source-number = after-source-number .source-number in
     rw (c .previous .ensures .0) (count-less (pre .0) (loop .inv) (not-home (source-number .ensures) (c .before .if1 .taken)))
 
 loop-again : tie.Need-loop-again Inv-loop μ-loop
 loop-again c =
-    let earlier = c .before .before .before .before in
-    let pre = earlier .before .before .before .pre in
+    let start : Start = search needs in
+    let after-source-number : After-source-number = search needs in
+    let pre = start .pre in
     let loop = c .before .before .before .loop in
-    let source-number = earlier .source-number in
+    let source-number = after-source-number .source-number in
     rw (c .previous .ensures .0) (count-on (pre .0) (loop .inv) (not-home (source-number .ensures) (c .before .if1 .taken)))
 
 returns : tie.Need-returns Inv-loop μ-loop
 returns c =
-    let earlier = c .before .before .before .before in
-    let pre = earlier .before .before .pre in
+    let start : Start = search needs in
+    let pre = start .pre in
     let source-number = c .before .before .before .source-number in
     let all = count-end (pre .0) (c .before .before .loop .inv) (c .if1 .left ∙ source-number .ensures) in
     (all, omega (arith, route-few (pre .0) (pre .1)))

@@ -1,4 +1,5 @@
 -- `write_arcs` meets its contract: what is written and what is to come make the route. Assumes nothing.
+use borrow.Author.Needs.{needs}
 use mathlib.Core.Path.{refl}
 use native.Mathlib.Nat.{le-refl}
 use Rattle.route_arcs.proofs.Following.{arc-there, Writing, write-away, write-on, write-end}
@@ -12,6 +13,10 @@ Inv-loop s at table arcs buffer₀ u₀ left₀ buffer u left = Writing s table 
 abbrev μ-loop : tie.MeasureT-loop
 μ-loop s at table arcs buffer₀ u₀ left₀ buffer u left = left
 
+-- the places of the function that answers look back to
+abbrev Start : Type 0
+Start = tie.Start Inv-loop μ-loop
+
 loop-holds : tie.Need-loop-holds Inv-loop μ-loop
 loop-holds c =
     let pre = c .before .before .before .pre in
@@ -22,8 +27,8 @@ sub-place c = omega (arith, c .before .loop .inv .few)
 
 predecessor-of-requires : tie.Need-predecessor-of-requires Inv-loop μ-loop
 predecessor-of-requires c κs =
-    let earlier = c .before .before .before .before in
-    let pre = earlier .before .pre in
+    let start : Start = search needs in
+    let pre = start .pre in
     omega (arith, pre .0 .fitting .sized, c .before .loop .inv .reached .inside)
 
 mul-buffer : tie.Need-mul-buffer Inv-loop μ-loop
@@ -34,15 +39,15 @@ slice-write-buffer c = omega (arith, c .before .before .loop .inv .few, c .befor
 
 previous-requires : tie.Need-previous-requires Inv-loop μ-loop
 previous-requires c κs =
-    let earlier = c .before .before .before .before in
-    let pre = earlier .before .before .pre in
+    let start : Start = search needs in
+    let pre = start .pre in
     let away = write-away (pre .0) (c .before .before .loop .inv) (c .before .loop-test .taken) in
     (pre .0 .fitting, c .before .before .loop .inv .reached .inside, arc-there (pre .0) (c .before .before .loop .inv .reached) away)
 
 loop-again : tie.Need-loop-again Inv-loop μ-loop
 loop-again c =
-    let earlier = c .before .before .before .before in
-    let pre = earlier .before .before .before .pre in
+    let start : Start = search needs in
+    let pre = start .pre in
     let loop = c .before .before .before .loop in
     rw (c .previous .ensures .0, c .before .predecessor-of .ensures) (write-on (pre .0) (loop .inv) (c .before .before .loop-test .taken))
 
@@ -51,8 +56,8 @@ same-length c = c .before .loop .inv .long
 
 returns : tie.Need-returns Inv-loop μ-loop
 returns c =
-    let earlier = c .before .before .before .before in
-    let pre = earlier .before .pre in
+    let start : Start = search needs in
+    let pre = start .pre in
     write-end (pre .0) (c .before .loop .inv) (omega arith)
 
 pub write-arcs-spec : {M : Type 1} → statement M

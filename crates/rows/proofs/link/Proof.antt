@@ -11,43 +11,59 @@ Inv-loop arcs₀ firsts₀ m a₀ arcs firsts a = Linking arcs₀ (length firsts
 abbrev μ-loop : tie.MeasureT-loop
 μ-loop arcs₀ firsts₀ m a₀ arcs firsts a = a
 
+-- the places of the function that answers look back to
+abbrev Start : Type 0
+Start = tie.Start Inv-loop μ-loop
+
+abbrev At-loop : Type 0
+At-loop = tie.At-loop Inv-loop μ-loop
+
+abbrev In-loop : Type 0
+In-loop = tie.In-loop Inv-loop μ-loop
+
+abbrev After-tail-of : Type 0
+After-tail-of = tie.After-tail-of Inv-loop μ-loop
+
 loop-holds : tie.Need-loop-holds Inv-loop μ-loop
 loop-holds c =
-    let earlier = c .before .before .before .before in
-    let pre = earlier .before .before .pre in
+    let start : Start = search needs in
+    let pre = start .pre in
     linking-start _ _ _ (pre) (c .before .before .fill .ensures)
 
 slice-read-next : tie.Need-slice-read-next Inv-loop μ-loop
 slice-read-next c =
-    let earlier = c .before .before .before .before in
-    let loop = earlier .before .loop in
-    let loop-test = earlier .loop-test in
+    let at-loop : At-loop = search needs in
+    let in-loop : In-loop = search needs in
+    let loop = at-loop .loop in
+    let loop-test = in-loop .loop-test in
     let b = link-bounds (loop .inv) (loop-test .taken) in
     rw (c .before .before .tail-of .ensures) (b .tail-in)
 
 slice-write-firsts : tie.Need-slice-write-firsts Inv-loop μ-loop
 slice-write-firsts c =
-    let earlier = c .before .before .before .before in
-    let early = earlier .before .before .before .before in
-    let loop = early .before .loop in
-    let loop-test = early .loop-test in
-    let tail-of = earlier .before .before .tail-of in
+    let at-loop : At-loop = search needs in
+    let in-loop : In-loop = search needs in
+    let after-tail-of : After-tail-of = search needs in
+    let loop = at-loop .loop in
+    let loop-test = in-loop .loop-test in
+    let tail-of = after-tail-of .tail-of in
     let b = link-bounds (loop .inv) (loop-test .taken) in
     rw (tail-of .ensures) (b .tail-in)
 
 loop-again : tie.Need-loop-again Inv-loop μ-loop
 loop-again c =
-    let earlier = c .before .before .before .before in
-    let early = earlier .before .before .before .before in
-    let loop = early .before .loop in
-    let loop-test = early .loop-test in
-    let tail-of = earlier .before .before .tail-of in
+    let at-loop : At-loop = search needs in
+    let in-loop : In-loop = search needs in
+    let after-tail-of : After-tail-of = search needs in
+    let loop = at-loop .loop in
+    let loop-test = in-loop .loop-test in
+    let tail-of = after-tail-of .tail-of in
     rw (c .before .before .set-field .ensures) (linking-step (loop .inv) (loop-test .taken) _ (tail-of .ensures))
 
 returns : tie.Need-returns Inv-loop μ-loop
 returns c =
-    let earlier = c .before .before .before .before in
-    let pre = earlier .before .before .before .before .pre in
+    let start : Start = search needs in
+    let pre = start .pre in
     linking-end (pre .short) (c .before .loop .inv) (c .loop-test .left)
 
 pub link-spec : {M : Type 1} → statement M

@@ -17,29 +17,30 @@ wrong-length-requires c κs =
 
 returns : tie.Need-returns
 returns c =
-    let earlier = c .before .before .before .before in
-    let args = earlier .before .args in
-    refused-table (args .sheet .now) (args .limit) (args .table .now) (earlier .before .pre) (sym (c .before .wrong-length .ensures) ∙ c .if1 .taken)
+    let start : tie.Start = search needs in
+    let args = start .args in
+    refused-table (args .sheet .now) (args .limit) (args .table .now) (start .pre) (sym (c .before .wrong-length .ensures) ∙ c .if1 .taken)
 
 find-sections-requires : tie.Need-find-sections-requires
 find-sections-requires c κs =
-    let earlier = c .before .before .before .before in
-    front-there _ (earlier .before .pre)
+    let start : tie.Start = search needs in
+    front-there _ (start .pre)
 
 run-accepted-requires : tie.Need-run-accepted-requires
 run-accepted-requires c κs =
-    let earlier = c .before .before .before .before in
-    let pre = earlier .before .before .before .pre in
+    let start : tie.Start = search needs in
+    let pre = start .pre in
     table-fits (c .before .find-sections .ensures) pre (sym (c .before .before .before .wrong-length .ensures) ∙ c .before .before .if1 .left)
 
 returns-2 : tie.Need-returns-2
 returns-2 c =
-    let earlier = c .before .before .before .before in
-    let early = earlier .before .before .before .before in
-    let args = early .before .before .before .args in
-    let pre = early .before .before .before .pre in
+    let start : tie.Start = search needs in
+    let after-wrong-length : tie.After-wrong-length = search needs in
+    let else1 : tie.Else1 = search needs in
+    let args = start .args in
+    let pre = start .pre in
     let run-accepted = c .before .before .before .run-accepted in
-    let right = right-length _ _ (sym (earlier .before .before .before .wrong-length .ensures) ∙ earlier .before .before .if1 .left) in
+    let right = right-length _ _ (sym (after-wrong-length .wrong-length .ensures) ∙ else1 .if1 .left) in
     let done = made (args .sheet .now) (args .limit) (args .table .now) pre right in
     (c .status .ensures ∙ ap (λ (x : Bool). if x then ended else paused) (run-accepted .ensures .status) ∙ done .0, run-accepted .ensures .words ∙ done .1)
 

@@ -16,8 +16,8 @@ run-accepted-requires c κs =
 
 returns : tie.Need-returns
 returns c =
-    let earlier = c .before .before .before .before in
-    let args = earlier .before .before .args in
+    let start : tie.Start = search needs in
+    let args = start .args in
     let judge = c .before .before .before .judge in
     refused-sheet (args .sheet .now) (args .limit) (args .table .now) _ (sym (judge .ensures) ∙ ap judged-says (c .before .judged .given .1))
 

@@ -18,15 +18,17 @@ sub-t5 c = search needs
 
 sub-t6 : tie.Need-sub-t6
 sub-t6 c =
-    let past-spans = c .before .before .before .before .past-spans in
+    let after-past-spans : tie.After-past-spans = search needs in
+    let past-spans = after-past-spans .past-spans in
     omega (arith, past-spans .ensures)
 
 returns : tie.Need-returns
 returns c =
-    let earlier = c .before .before .before .before in
-    let args = earlier .before .before .args in
-    let pre = earlier .before .before .pre in
-    let past-spans = earlier .past-spans in
+    let start : tie.Start = search needs in
+    let after-past-spans : tie.After-past-spans = search needs in
+    let args = start .args in
+    let pre = start .pre in
+    let past-spans = after-past-spans .past-spans in
     let past-arcs = c .before .before .before .past-arcs in
     let s = args .s .now in
     record {

@@ -17,14 +17,18 @@ Inv-loop s from pairs a₀ a = (a ≤ (words s - from) / 2) × (lead (isArc s fr
 abbrev μ-loop : tie.MeasureT-loop
 μ-loop s from pairs a₀ a = (words s - from) / 2 - a
 
+-- the places of the function that answers look back to
+abbrev Start : Type 0
+Start = tie.Start Inv-loop μ-loop
+
 loop-holds : tie.Need-loop-holds Inv-loop μ-loop
 loop-holds c = (search needs, lead-none _)
 
 returns : tie.Need-returns Inv-loop μ-loop
 unfolding arcsFrom
 returns c =
-    let earlier = c .before .before .before .before in
-    let args = earlier .before .args in
+    let start : Start = search needs in
+    let args = start .args in
     let loop = c .before .before .before .loop in
     ap (λ (n : ℕ). args .c .at + 2 * n) (sym (lead-stop _ _ _ (omega arith) (loop .inv .1) (sym (c .before .arc-here .ensures) ∙ not-true _ (c .if1 .taken))))
 

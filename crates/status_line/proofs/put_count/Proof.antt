@@ -6,7 +6,8 @@ use Rattle.status_line.proofs.put_count.Tie as tie
 
 put-text-requires : tie.Need-put-text-requires
 put-text-requires c κs =
-    let pre = c .before .before .before .before .pre in
+    let start : tie.Start = search needs in
+    let pre = start .pre in
     room-before _ (pre .2)
 
 count-at-requires : tie.Need-count-at-requires
@@ -14,9 +15,10 @@ count-at-requires c κs = search needs
 
 put-number-requires : tie.Need-put-number-requires
 put-number-requires c κs =
-    let earlier = c .before .before .before .before .before .before .before .before in
-    let put-text = c .before .before .before .before .put-text in
-    let pre = earlier .before .pre in
+    let after-put-text : tie.After-put-text = search needs in
+    let start : tie.Start = search needs in
+    let put-text = after-put-text .put-text in
+    let pre = start .pre in
     rw (c .before .count-at .ensures) (room-after (put-text .ensures) (pre .2))
 
 same-length : tie.Need-same-length
@@ -24,8 +26,10 @@ same-length c = search needs
 
 returns : tie.Need-returns
 returns c =
-    let count-at = c .before .before .before .before .count-at in
-    let put-text = c .before .before .before .before .before .before .before .put-text in
+    let after-count-at : tie.After-count-at = search needs in
+    let after-put-text : tie.After-put-text = search needs in
+    let count-at = after-count-at .count-at in
+    let put-text = after-put-text .put-text in
     wrote-then (put-text .ensures) (rw (count-at .ensures) at (c .before .before .put-number .ensures))
 
 pub put-count-spec : {M : Type 1} → statement M

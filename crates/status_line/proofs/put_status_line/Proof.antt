@@ -54,21 +54,24 @@ updates c = wrote-then (inner (inner-put c)) (c .put-count4 .ensures)
 put-count-requires-2 : tie.Need-put-count-requires-2
 unfolding statusLine counted
 put-count-requires-2 c κs =
-    let done = c .before .before .before .before in
+    let after-put-count : tie.After-put-count = search needs in
+    let done = after-put-count in
     let pre = entry (status-put done) .pre in
     (omega arith, pre .0, room-after (rounds done) (room-before _ (room-before _ (room-before _ (pre .1)))))
 
 put-count-requires-3 : tie.Need-put-count-requires-3
 unfolding statusLine counted
 put-count-requires-3 c κs =
-    let done = c .before .before .before .before in
+    let after-put-count2 : tie.After-put-count2 = search needs in
+    let done = after-put-count2 in
     let pre = entry (status-put (rounds-put done)) .pre in
     (omega arith, pre .0, room-after (leaves done) (room-before _ (room-before _ (pre .1))))
 
 put-count-requires-4 : tie.Need-put-count-requires-4
 unfolding statusLine counted
 put-count-requires-4 c κs =
-    let done = c .before .before .before .before in
+    let after-put-count3 : tie.After-put-count3 = search needs in
+    let done = after-put-count3 in
     let pre = entry (status-put (rounds-put (leaves-put done))) .pre in
     (omega arith, pre .0, room-after (inner done) (room-before _ (pre .1)))
 

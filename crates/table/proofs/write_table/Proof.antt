@@ -15,11 +15,11 @@ same-length c = search needs
 
 returns : tie.Need-returns
 returns c =
-    let earlier = c .before .before .before .before in
-    let early = earlier .before .before .before .before in
-    let args = early .before .before .before .args in
-    let pre = early .before .before .before .pre in
-    let write-header = earlier .before .before .write-header in
+    let start : tie.Start = search needs in
+    let after-write-header : tie.After-write-header = search needs in
+    let args = start .args in
+    let pre = start .pre in
+    let write-header = after-write-header .write-header in
     whole-table _ _ _ _ _ (args .table .now) (pre .nodes) (write-header .ensures) (c .before .before .write-nodes .ensures)
 
 pub write-table-spec : {M : Type 1} → statement M

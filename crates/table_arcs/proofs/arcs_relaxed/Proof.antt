@@ -1,4 +1,5 @@
 -- `arcs_relaxed` meets its contract: the arcs passed are relaxed. Assumes nothing.
+use borrow.Author.Needs.{needs}
 use Prim.Native.Nat.{_-_, _≤_}
 use borrow.Author.Tests.{not-true, not-false}
 use mathlib.Core.Path.{_≡_, sym, _∙_}
@@ -18,6 +19,10 @@ Inv-loop s at table arcs a₀ a = (a ≤ arcCount s) × (all (arcRelaxed s table
 abbrev μ-loop : tie.MeasureT-loop
 μ-loop s at table arcs a₀ a = arcCount s - a
 
+-- the places of the function that answers look back to
+abbrev Start : Type 0
+Start = tie.Start Inv-loop μ-loop
+
 cast-arcs : tie.Need-cast-arcs Inv-loop μ-loop
 cast-arcs c =
     let pre = c .before .before .before .pre in
@@ -28,39 +33,39 @@ loop-holds c = (omega arith, all-none _)
 
 arc-relaxed-requires : tie.Need-arc-relaxed-requires Inv-loop μ-loop
 arc-relaxed-requires c κs =
-    let earlier = c .before .before .before .before in
-    let pre = earlier .before .pre in
+    let start : Start = search needs in
+    let pre = start .pre in
     (pre, omega (arith, pre .located .arcs-all))
 
 returns : tie.Need-returns Inv-loop μ-loop
 returns c =
-    let earlier = c .before .before .before .before in
-    let pre = earlier .before .before .before .pre in
+    let start : Start = search needs in
+    let pre = start .pre in
     sym (all-miss _ _ _ (omega (arith, pre .located .arcs-all)) (sym (c .before .arc-relaxed .ensures) ∙ not-true _ (c .if1 .taken)))
 
 add-a : tie.Need-add-a Inv-loop μ-loop
 add-a c =
-    let earlier = c .before .before .before .before in
-    let pre = earlier .before .before .before .pre in
+    let start : Start = search needs in
+    let pre = start .pre in
     omega (arith, few-arcs _ (pre .accepted), pre .located .arcs-all)
 
 loop-less : tie.Need-loop-less Inv-loop μ-loop
 loop-less c =
-    let earlier = c .before .before .before .before in
-    let pre = earlier .before .before .before .pre in
+    let start : Start = search needs in
+    let pre = start .pre in
     omega (arith, pre .located .arcs-all)
 
 loop-again : tie.Need-loop-again Inv-loop μ-loop
 loop-again c =
-    let earlier = c .before .before .before .before in
-    let pre = earlier .before .before .before .pre in
+    let start : Start = search needs in
+    let pre = start .pre in
     let loop = c .before .before .before .loop in
     (omega (arith, pre .located .arcs-all), all-more _ _ (loop .inv .1) (sym (c .before .arc-relaxed .ensures) ∙ not-false _ (c .if1 .left)))
 
 returns-2 : tie.Need-returns-2 Inv-loop μ-loop
 returns-2 c =
-    let earlier = c .before .before .before .before in
-    let pre = earlier .before .pre in
+    let start : Start = search needs in
+    let pre = start .pre in
     sym (all-end _ _ _ (omega (arith, pre .located .arcs-all)) (c .before .loop .inv .1))
 
 pub arcs-relaxed-spec : {M : Type 1} → statement M

@@ -19,21 +19,21 @@ label-of-requires c κs =
 
 returns : tie.Need-returns
 returns c =
-    let earlier = c .before .before .before .before in
-    let pre = earlier .before .pre in
+    let start : tie.Start = search needs in
+    let pre = start .pre in
     source-not-zero pre (c .before .before .source-number .ensures) (c .before .label-of .ensures) (c .if1 .taken)
 
 predecessor-of-requires : tie.Need-predecessor-of-requires
 predecessor-of-requires c κs =
-    let earlier = c .before .before .before .before in
-    let pre = earlier .before .pre in
+    let start : tie.Start = search needs in
+    let pre = start .pre in
     omega (arith, pre .sized, source-in _ (pre .accepted), c .before .before .source-number .ensures)
 
 returns-2 : tie.Need-returns-2
 unfolding top
 returns-2 c =
-    let earlier = c .before .before .before .before in
-    let pre = earlier .before .before .pre in
+    let start : tie.Start = search needs in
+    let pre = start .pre in
     let source-number = c .before .before .before .source-number in
     source-zero pre (source-number .ensures) (c .before .before .label-of .ensures) (c .predecessor-of .ensures) (c .before .if1 .left)
 

@@ -15,7 +15,8 @@ same-length c = search needs
 
 returns : tie.Need-returns
 returns c =
-    let if1 = c .before .before .before .before .if1 in
+    let then1 : tie.Then1 = search needs in
+    let if1 = then1 .if1 in
     rw (field-none _ (if1 .taken)) (c .before .before .put-byte .ensures)
 
 put-number-requires : tie.Need-put-number-requires
@@ -28,7 +29,8 @@ same-length-2 c = search needs
 
 returns-2 : tie.Need-returns-2
 returns-2 c =
-    let if1 = c .before .before .before .before .if1 in
+    let else1 : tie.Else1 = search needs in
+    let if1 = else1 .if1 in
     rw (field-number _ (if1 .left)) (c .before .before .put-number .ensures)
 
 pub put-field-spec : {M : Type 1} → statement M

@@ -17,9 +17,10 @@ payload-at-requires c κs = search needs
 put-field-requires : tie.Need-put-field-requires
 unfolding spaced
 put-field-requires c κs =
-    let earlier = c .before .before .before .before .before .before .before .before in
-    let put-byte = c .before .before .before .before .put-byte in
-    let pre = earlier .pre in
+    let after-put-byte : tie.After-put-byte = search needs in
+    let start : tie.Start = search needs in
+    let put-byte = after-put-byte .put-byte in
+    let pre = start .pre in
     rw (c .before .payload-at .ensures) (room-after (put-byte .ensures) (pre .1))
 
 same-length : tie.Need-same-length
@@ -28,8 +29,10 @@ same-length c = search needs
 returns : tie.Need-returns
 unfolding spaced
 returns c =
-    let payload-at = c .before .before .before .before .payload-at in
-    let put-byte = c .before .before .before .before .before .before .before .put-byte in
+    let after-payload-at : tie.After-payload-at = search needs in
+    let after-put-byte : tie.After-put-byte = search needs in
+    let payload-at = after-payload-at .payload-at in
+    let put-byte = after-put-byte .put-byte in
     wrote-then (put-byte .ensures) (rw (payload-at .ensures) at (c .before .before .put-field .ensures))
 
 pub put-payload-spec : {M : Type 1} → statement M

@@ -22,9 +22,10 @@ returns-2 c =
 returns-3 : tie.Need-returns-3
 unfolding malformed
 returns-3 c =
-    let earlier = c .before .before .before .before in
-    let wrong-kind = earlier .before .wrong-kind in
-    let if1 = earlier .if1 in
+    let after-wrong-kind : tie.After-wrong-kind = search needs in
+    let else1 : tie.Else1 = search needs in
+    let wrong-kind = after-wrong-kind .wrong-kind in
+    let if1 = else1 .if1 in
     let wrong-counts = c .before .before .before .wrong-counts in
     let status-kind = sym (wrong-kind .ensures) ∙ if1 .left in
     let count-kinds = sym (wrong-counts .ensures) ∙ c .before .before .if2 .left in
@@ -32,30 +33,32 @@ returns-3 c =
 
 cast-wrong-nodes : tie.Need-cast-wrong-nodes
 cast-wrong-nodes c =
-    let earlier = c .before .before .before .before in
-    let early = earlier .before .before .before .before in
-    let pre = early .before .pre in
+    let start : tie.Start = search needs in
+    let pre = start .pre in
     omega (arith, few-nodes _ (pre .accepted), c .node-count .ensures)
 
 cast-wrong-nodes-2 : tie.Need-cast-wrong-nodes-2
 cast-wrong-nodes-2 c =
-    let earlier = c .before .before .before .before in
-    let early = earlier .before .before .before .before in
-    let pre = early .before .before .pre in
+    let start : tie.Start = search needs in
+    let pre = start .pre in
     omega (arith, few-arcs _ (pre .accepted), pre .located .arcs-all)
 
 returns-4 : tie.Need-returns-4
 unfolding malformed
 returns-4 c =
-    let earlier = c .before .before .before .before in
-    let early = earlier .before .before .before .before in
-    let wrong-kind = early .wrong-kind in
-    let if1 = earlier .before .before .before .if1 in
-    let wrong-counts = earlier .before .before .wrong-counts in
-    let if2 = earlier .before .if2 in
-    let status = earlier .status in
+    let after-wrong-kind : tie.After-wrong-kind = search needs in
+    let else1 : tie.Else1 = search needs in
+    let after-wrong-counts : tie.After-wrong-counts = search needs in
+    let else2 : tie.Else2 = search needs in
+    let after-status : tie.After-status = search needs in
+    let start : tie.Start = search needs in
+    let wrong-kind = after-wrong-kind .wrong-kind in
+    let if1 = else1 .if1 in
+    let wrong-counts = after-wrong-counts .wrong-counts in
+    let if2 = else2 .if2 in
+    let status = after-status .status in
     let if3 = c .before .before .before .if3 in
-    let pre = early .before .before .before .pre in
+    let pre = start .pre in
     let status-kind = sym (wrong-kind .ensures) ∙ if1 .left in
     let count-kinds = sym (wrong-counts .ensures) ∙ if2 .left in
     rw (status-kind, count-kinds, ← status .ensures, le-ltb _ _ (if3 .left), ← c .before .before .node-count .ensures, ← pre .located .arcs-all)

@@ -12,60 +12,66 @@ write-count-requires c κs =
 
 write-count-requires-2 : tie.Need-write-count-requires-2
 write-count-requires-2 c κs =
-    let earlier = c .before .before .before .before in
-    let pre = earlier .before .before .before .pre in
+    let start : tie.Start = search needs in
+    let after-status-word : tie.After-status-word = search needs in
+    let pre = start .pre in
     let write-count = c .before .before .before .write-count in
-    let args = earlier .before .before .before .args in
-    let status-word = earlier .before .status-word in
+    let args = start .args in
+    let status-word = after-status-word .status-word in
     (omega (arith, pre .0, write-count .kept .0, length-set (args .table .now) 0 (status-word .result)), pre .1 .leaves)
 
 write-count-requires-3 : tie.Need-write-count-requires-3
 write-count-requires-3 c κs =
-    let earlier = c .before .before .before .before in
-    let early = earlier .before .before .before .before in
-    let pre = early .before .before .before .pre in
-    let write-count = earlier .before .before .before .write-count in
+    let start : tie.Start = search needs in
+    let after-write-count : tie.After-write-count = search needs in
+    let after-status-word : tie.After-status-word = search needs in
+    let pre = start .pre in
+    let write-count = after-write-count .write-count in
     let write-count2 = c .before .before .before .write-count2 in
-    let args = early .before .before .before .args in
-    let status-word = early .before .status-word in
+    let args = start .args in
+    let status-word = after-status-word .status-word in
     (omega (arith, pre .0, write-count .kept .0, write-count2 .kept .0, length-set (args .table .now) 0 (status-word .result)), pre .1 .inner)
 
 write-count-requires-4 : tie.Need-write-count-requires-4
 write-count-requires-4 c κs =
-    let earlier = c .before .before .before .before in
-    let early = earlier .before .before .before .before in
-    let prior = early .before .before .before .before in
-    let args = prior .before .before .before .args in
-    let status-word = prior .before .status-word in
-    let pre = prior .before .before .before .pre in
-    let write-count = early .before .before .before .write-count in
-    let write-count2 = earlier .before .before .before .write-count2 in
+    let start : tie.Start = search needs in
+    let after-status-word : tie.After-status-word = search needs in
+    let after-write-count : tie.After-write-count = search needs in
+    let after-write-count2 : tie.After-write-count2 = search needs in
+    let args = start .args in
+    let status-word = after-status-word .status-word in
+    let pre = start .pre in
+    let write-count = after-write-count .write-count in
+    let write-count2 = after-write-count2 .write-count2 in
     let write-count3 = c .before .before .before .write-count3 in
     let long = length-set (args .table .now) 0 (status-word .result) in
     (omega (arith, pre .0, write-count .kept .0, write-count2 .kept .0, write-count3 .kept .0), pre .1 .updates)
 
 same-length : tie.Need-same-length
 same-length c =
-    let earlier = c .before .before .before .before .before .before .before .before in
-    let early = earlier .before .before .before .before .before .before .before .before in
-    let args = early .before .before .args in
-    let status-word = early .status-word in
-    let write-count = earlier .before .before .before .before .before .before .write-count in
-    let write-count2 = earlier .before .before .write-count2 in
-    let write-count3 = c .before .before .before .before .before .before .write-count3 in
+    let start : tie.Start = search needs in
+    let after-status-word : tie.After-status-word = search needs in
+    let after-write-count : tie.After-write-count = search needs in
+    let after-write-count2 : tie.After-write-count2 = search needs in
+    let after-write-count3 : tie.After-write-count3 = search needs in
+    let args = start .args in
+    let status-word = after-status-word .status-word in
+    let write-count = after-write-count .write-count in
+    let write-count2 = after-write-count2 .write-count2 in
+    let write-count3 = after-write-count3 .write-count3 in
     let long = length-set (args .table .now) 0 (status-word .result) in
     omega (arith, write-count .kept .0, write-count2 .kept .0, write-count3 .kept .0, c .before .before .write-count4 .kept .0)
 
 returns : tie.Need-returns
 returns c =
-    let earlier = c .before .before .before .before in
-    let early = earlier .before .before .before .before in
-    let prior = early .before .before .before .before in
-    let first = prior .before .before .before .before in
-    let write-count3 = earlier .before .before .write-count3 in
-    let write-count2 = early .before .before .write-count2 in
-    let write-count = prior .before .before .write-count in
-    let status-word = first .status-word in
+    let after-write-count3 : tie.After-write-count3 = search needs in
+    let after-write-count2 : tie.After-write-count2 = search needs in
+    let after-write-count : tie.After-write-count = search needs in
+    let after-status-word : tie.After-status-word = search needs in
+    let write-count3 = after-write-count3 .write-count3 in
+    let write-count2 = after-write-count2 .write-count2 in
+    let write-count = after-write-count .write-count in
+    let status-word = after-status-word .status-word in
     rw (c .before .before .write-count4 .ensures, write-count3 .ensures, write-count2 .ensures, write-count .ensures, status-word .ensures)
 
 pub write-header-spec : {M : Type 1} → statement M

@@ -21,9 +21,10 @@ returns-2 c =
 returns-3 : tie.Need-returns-3
 unfolding wrongNode
 returns-3 c =
-    let earlier = c .before .before .before .before in
-    let wrong-kind = earlier .before .wrong-kind in
-    let if1 = earlier .if1 in
+    let after-wrong-kind : tie.After-wrong-kind = search needs in
+    let else1 : tie.Else1 = search needs in
+    let wrong-kind = after-wrong-kind .wrong-kind in
+    let if1 = else1 .if1 in
     let wrong-kind2 = c .before .before .before .wrong-kind2 in
     let label = sym (wrong-kind .ensures) ∙ if1 .left in
     let arc = sym (wrong-kind2 .ensures) ∙ c .before .before .if2 .left in
@@ -32,9 +33,10 @@ returns-3 c =
 returns-4 : tie.Need-returns-4
 unfolding wrongNode top
 returns-4 c =
-    let earlier = c .before .before .before .before in
-    let wrong-kind = earlier .before .wrong-kind in
-    let if1 = earlier .if1 in
+    let after-wrong-kind : tie.After-wrong-kind = search needs in
+    let else1 : tie.Else1 = search needs in
+    let wrong-kind = after-wrong-kind .wrong-kind in
+    let if1 = else1 .if1 in
     let wrong-kind2 = c .before .before .before .wrong-kind2 in
     let label = sym (wrong-kind .ensures) ∙ if1 .left in
     let arc = sym (wrong-kind2 .ensures) ∙ c .before .before .if2 .left in

@@ -11,51 +11,56 @@ use Rattle.table_nodes.proofs.node_fits.Tie as tie
 returns : tie.Need-returns
 unfolding top
 returns c =
-    let earlier = c .before .before .before .before in
-    let pre = earlier .before .pre in
+    let start : tie.Start = search needs in
+    let pre = start .pre in
     fits-unreached (pre .0) (pre .1) (c .before .label-of .ensures) (c .before .before .predecessor-of .ensures) (c .if1 .taken)
 
 returns-2 : tie.Need-returns-2
 unfolding top
 returns-2 c =
-    let earlier = c .before .before .before .before in
-    let early = earlier .before .before .before .before in
-    let pre = early .pre in
-    let label-of = earlier .label-of in
-    let predecessor-of = earlier .before .predecessor-of in
+    let start : tie.Start = search needs in
+    let after-label-of : tie.After-label-of = search needs in
+    let after-predecessor-of : tie.After-predecessor-of = search needs in
+    let pre = start .pre in
+    let label-of = after-label-of .label-of in
+    let predecessor-of = after-predecessor-of .predecessor-of in
     let if1 = c .before .before .before .if1 in
     fits-source (pre .0) (pre .1) (label-of .ensures) (predecessor-of .ensures) (if1 .left) (c .before .source-number .ensures) (c .if2 .taken)
 
 returns-3 : tie.Need-returns-3
 unfolding top
 returns-3 c =
-    let earlier = c .before .before .before .before in
-    let early = earlier .before .before .before .before in
-    let pre = early .before .before .pre in
-    let label-of = earlier .before .before .label-of in
-    let predecessor-of = earlier .before .before .before .predecessor-of in
-    let if1 = earlier .before .if1 in
+    let start : tie.Start = search needs in
+    let after-label-of : tie.After-label-of = search needs in
+    let after-predecessor-of : tie.After-predecessor-of = search needs in
+    let else1 : tie.Else1 = search needs in
+    let pre = start .pre in
+    let label-of = after-label-of .label-of in
+    let predecessor-of = after-predecessor-of .predecessor-of in
+    let if1 = else1 .if1 in
     let source-number = c .before .before .before .source-number in
     fits-no-arc (pre .0) (pre .1) (label-of .ensures) (predecessor-of .ensures) (if1 .left) (source-number .ensures) (c .before .before .if2 .left)
     (omega (arith, c .if3 .taken, pre .0 .located .arcs-all))
 
 cast-t10 : tie.Need-cast-t10
 cast-t10 c =
-    let earlier = c .before .before .before .before in
-    let early = earlier .before .before .before .before in
-    let pre = early .before .before .pre in
+    let start : tie.Start = search needs in
+    let pre = start .pre in
     omega (arith, few-arcs _ (pre .0 .accepted), c .if3 .left, pre .0 .located .arcs-all)
 
 returns-4 : tie.Need-returns-4
 unfolding top
 returns-4 c =
-    let earlier = c .before .before .before .before in
-    let early = earlier .before .before .before .before in
-    let pre = early .before .before .before .pre in
-    let label-of = earlier .before .before .before .label-of in
-    let predecessor-of = early .predecessor-of in
-    let if1 = earlier .before .before .if1 in
-    let source-number = earlier .source-number in
+    let start : tie.Start = search needs in
+    let after-label-of : tie.After-label-of = search needs in
+    let after-predecessor-of : tie.After-predecessor-of = search needs in
+    let else1 : tie.Else1 = search needs in
+    let after-source-number : tie.After-source-number = search needs in
+    let pre = start .pre in
+    let label-of = after-label-of .label-of in
+    let predecessor-of = after-predecessor-of .predecessor-of in
+    let if1 = else1 .if1 in
+    let source-number = after-source-number .source-number in
     let if2 = c .before .before .before .if2 in
     c .feeds .ensures ∙ fits-arc (pre .0) (pre .1) (label-of .ensures) (predecessor-of .ensures) (if1 .left) (source-number .ensures) (if2 .left)
     (omega (arith, c .before .if3 .left, pre .0 .located .arcs-all))

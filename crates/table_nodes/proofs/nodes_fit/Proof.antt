@@ -19,6 +19,10 @@ Inv-loop s at table nodes v₀ v = (v ≤ nodeCount s) × (all (nodeFits s table
 abbrev μ-loop : tie.MeasureT-loop
 μ-loop s at table nodes v₀ v = nodeCount s - v
 
+-- the places of the function that answers look back to
+abbrev Start : Type 0
+Start = tie.Start Inv-loop μ-loop
+
 cast-nodes : tie.Need-cast-nodes Inv-loop μ-loop
 cast-nodes c =
     let pre = c .before .before .before .pre in
@@ -32,8 +36,8 @@ returns c = sym (all-miss _ _ _ (omega arith) (sym (c .before .node-fits .ensure
 
 add-v : tie.Need-add-v Inv-loop μ-loop
 add-v c =
-    let earlier = c .before .before .before .before in
-    let pre = earlier .before .before .before .pre in
+    let start : Start = search needs in
+    let pre = start .pre in
     omega (arith, few-nodes _ (pre .accepted))
 
 loop-again : tie.Need-loop-again Inv-loop μ-loop

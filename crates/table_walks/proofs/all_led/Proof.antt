@@ -1,4 +1,5 @@
 -- `all_led` meets its contract: the walks from the nodes passed lead back. Assumes nothing.
+use borrow.Author.Needs.{needs}
 use Prim.Native.Nat.{_-_, _≤_}
 use borrow.Author.Tests.{not-true, not-false}
 use mathlib.Core.Path.{_≡_, sym, _∙_}
@@ -20,6 +21,13 @@ Inv-loop s at table stamps₀ home nodes v₀ stamps v = (v ≤ nodeCount s) × 
 abbrev μ-loop : tie.MeasureT-loop
 μ-loop s at table stamps₀ home nodes v₀ stamps v = nodeCount s - v
 
+-- the places of the function that answers look back to
+abbrev Start : Type 0
+Start = tie.Start Inv-loop μ-loop
+
+abbrev At-loop : Type 0
+At-loop = tie.At-loop Inv-loop μ-loop
+
 source-number-requires : tie.Need-source-number-requires Inv-loop μ-loop
 source-number-requires c κs = c .before .before .pre .0 .fitting .located .front
 
@@ -40,20 +48,20 @@ node-count-requires c κs =
 
 cast-nodes : tie.Need-cast-nodes Inv-loop μ-loop
 cast-nodes c =
-    let earlier = c .before .before .before .before in
-    let pre = earlier .pre in
+    let start : Start = search needs in
+    let pre = start .pre in
     omega (arith, few-nodes _ (pre .0 .fitting .accepted), c .node-count .ensures)
 
 loop-holds : tie.Need-loop-holds Inv-loop μ-loop
 loop-holds c =
-    let earlier = c .before .before .before .before in
-    let pre = earlier .pre in
+    let start : Start = search needs in
+    let pre = start .pre in
     (omega arith, all-none _, stamps-start (pre .0) (pre .1) (c .before .source-number .ensures))
 
 node-led-requires : tie.Need-node-led-requires Inv-loop μ-loop
 node-led-requires c κs =
-    let earlier = c .before .before .before .before in
-    let pre = earlier .before .before .before .pre in
+    let start : Start = search needs in
+    let pre = start .pre in
     (pre .0, omega arith, c .before .before .loop .inv .2)
 
 returns : tie.Need-returns Inv-loop μ-loop
@@ -61,15 +69,14 @@ returns c = sym (all-miss _ _ _ (omega arith) (sym (c .before .node-led .ensures
 
 add-v : tie.Need-add-v Inv-loop μ-loop
 add-v c =
-    let earlier = c .before .before .before .before in
-    let early = earlier .before .before .before .before in
-    let pre = early .before .pre in
+    let start : Start = search needs in
+    let pre = start .pre in
     omega (arith, few-nodes _ (pre .0 .fitting .accepted))
 
 loop-again : tie.Need-loop-again Inv-loop μ-loop
 loop-again c =
-    let earlier = c .before .before .before .before in
-    let loop = earlier .loop in
+    let at-loop : At-loop = search needs in
+    let loop = at-loop .loop in
     let led = not-false _ (c .if1 .left) in
     (omega arith, all-more _ _ (loop .inv .1) (sym (c .before .node-led .ensures .0) ∙ led), c .before .node-led .ensures .1 led)
 

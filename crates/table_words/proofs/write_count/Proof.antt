@@ -5,8 +5,8 @@ use Rattle.table_words.proofs.write_count.Tie as tie
 
 returns : tie.Need-returns
 returns c =
-    let earlier = c .before .before .before .before in
-    let word = earlier .word in
+    let after-word : tie.After-word = search needs in
+    let word = after-word .word in
     let word2 = c .before .before .before .word2 in
     rw (← word .ensures, ← word2 .ensures) (c .before .before .write-pair .ensures)
 

@@ -19,22 +19,37 @@ Inv-loop rows winners₀ start rest₀ winners rest =
 abbrev μ-loop : tie.MeasureT-loop
 μ-loop rows winners₀ start rest₀ winners rest = rest
 
+-- the places of the function that answers look back to
+abbrev Start : Type 0
+Start = tie.Start Inv-loop μ-loop
+
+abbrev After-start-of : Type 0
+After-start-of = tie.After-start-of Inv-loop μ-loop
+
+abbrev At-loop : Type 0
+At-loop = tie.At-loop Inv-loop μ-loop
+
+abbrev In-loop : Type 0
+In-loop = tie.In-loop Inv-loop μ-loop
+
 decide-requires : tie.Need-decide-requires Inv-loop μ-loop
 decide-requires c κs =
-    let earlier = c .before .before .before .before in
-    let pre = earlier .before .before .before .pre in
-    let start-of = earlier .start-of in
+    let start : Start = search needs in
+    let after-start-of : After-start-of = search needs in
+    let pre = start .pre in
+    let start-of = after-start-of .start-of in
     let children-of = c .before .before .before .children-of in
     let begin = building-start _ _ (pre .2) (pre .3) (children-of .ensures) in
     building-in (c .before .before .loop .inv .1 (pre .0) (pre .1) _ (start-of .ensures) begin) _ (start-of .ensures) (c .before .loop-test .taken)
 
 loop-again : tie.Need-loop-again Inv-loop μ-loop
 loop-again c =
-    let earlier = c .before .before .before .before in
-    let loop = earlier .before .loop in
+    let at-loop : At-loop = search needs in
+    let in-loop : In-loop = search needs in
+    let loop = at-loop .loop in
     let decide = c .before .before .decide in (
       omega (arith, decide .kept, loop .inv .0),
-      λ d keys r row B. building-step (loop .inv .1 d keys r row B) _ row (earlier .loop-test .taken) _ (decide .ensures),
+      λ d keys r row B. building-step (loop .inv .1 d keys r row B) _ row (in-loop .loop-test .taken) _ (decide .ensures),
     )
 
 returns : tie.Need-returns Inv-loop μ-loop

@@ -19,13 +19,20 @@ Inv-loop rows winners₀ count r₀ winners r =
 abbrev μ-loop : tie.MeasureT-loop
 μ-loop rows winners₀ count r₀ winners r = count - r
 
+-- the places of the function that answers look back to
+abbrev After-enter-children : Type 0
+After-enter-children = tie.After-enter-children Inv-loop μ-loop
+
+abbrev In-loop : Type 0
+In-loop = tie.In-loop Inv-loop μ-loop
+
 loop-holds : tie.Need-loop-holds Inv-loop μ-loop
 loop-holds c = (refl, λ d keys e E. valid-none E)
 
 build-tree-requires : tie.Need-build-tree-requires Inv-loop μ-loop
 build-tree-requires c κs =
-    let entry = c .before .before .before .before in
-    let entered = entry .before in
+    let after-enter-children : After-enter-children = search needs in
+    let entered = after-enter-children in
     let pre = entered .before .before .before .before .pre in
     let pass = c .before in
     let start = entered .enter-children .ensures (pre .0) (pre .1) (pre .2) in
@@ -33,8 +40,9 @@ build-tree-requires c κs =
 
 loop-again : tie.Need-loop-again Inv-loop μ-loop
 loop-again c =
+    let in-loop : In-loop = search needs in
     let build-tree = c .before .before .build-tree in
-    let pass = c .before .before .before .before in
+    let pass = in-loop in
     let loop = pass .before .loop in (
       omega (arith, build-tree .kept, loop .inv .0),
       λ d keys e E. build-tree .ensures d keys (loop .inv .1 d keys e E) (omega (arith, pass .loop-test .taken, e)),
@@ -42,7 +50,8 @@ loop-again c =
 
 returns : tie.Need-returns Inv-loop μ-loop
 returns c =
-    let entered = c .before .before .before .before in
+    let after-enter-children : After-enter-children = search needs in
+    let entered = after-enter-children in
     λ d L e. valid-regions (c .before .loop .inv .1 d _ e (entered .enter-children .ensures d L e)) (omega (arith, c .loop-test .left, e))
 
 pub clear-spec : {M : Type 1} → statement M

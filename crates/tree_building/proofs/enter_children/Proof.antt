@@ -18,6 +18,10 @@ Inv-loop rows winners₀ count c₀ winners c =
 abbrev μ-loop : tie.MeasureT-loop
 μ-loop rows winners₀ count c₀ winners c = count - c
 
+-- the places of the function that answers look back to
+abbrev In-loop : Type 0
+In-loop = tie.In-loop Inv-loop μ-loop
+
 -- where the function begins
 abbrev entry : tie.In-loop Inv-loop μ-loop → tie.Start Inv-loop μ-loop
 entry c = c .before .before .before .before
@@ -50,7 +54,8 @@ slice-write-winners c =
 
 loop-again : tie.Need-loop-again Inv-loop μ-loop
 loop-again c =
-    let pass = c .before .before .before .before in
+    let in-loop : In-loop = search needs in
+    let pass = in-loop in
     let loop = pass .before .loop in (
       simp length-set (loop .inv .0),
       λ d L e.
