@@ -1,4 +1,4 @@
--- The marked cases of the paper as a table, computed from the definitions: a call, what it answers, and what is then in what was lent. Assumes nothing.
+-- The marked cases of the paper as a table, computed from the definitions: a call, what it answers, and what is then in what was lent or is printed.
 use Prim.Native.Nat.{ℕ}
 use mathlib.Core.List.{List, [], _∷_, _++_, map}
 use mathlib.Core.Path.{_≡_, refl}
@@ -29,22 +29,22 @@ use Rattle.answers.specs.Tables.{tableLength, wrongLength, labelsIn, predecesso
 use Rattle.answers.specs.Runs.{runRefusals, runAnswer, runTable, tableAfter}
 use Rattle.answers.specs.Routes.{nodeOutside, wrongNode, isPaused, malformed, notShortest, tableRefusals, routeRefusals, routeTo, foundRoute}
 use Rattle.answers.specs.Routes.{routeAnswer, leftBy, bufferAfter}
-use Rattle.sheet.specs.Sections.{nodeCount}
 use Rattle.text.specs.Text.{ascii, lastDigits, decimal}
 use Rattle.table_fields.specs.Fields.{field, spaced}
 use Rattle.status_line.specs.StatusLine.{status, counted, statusLine}
 use Rattle.node_lines.specs.NodeLines.{nodeLine, nodeLines}
-use Rattle.listing.specs.Listing.{listingOf}
+use Rattle.listing.specs.Listing.{listingOf, refusedLine}
+use Rattle.listing.specs.Printed.{printed}
 
 -- a call: to judge a sheet, given by its words; to run it for at most so many rounds, with a table lent; to read the route to a node out of a table, with
--- a buffer lent
+-- a buffer lent; and what `marks` does, to run a sheet to its end and print
 pub data Call : Type 0 where
   judge : List ℕ → Call
   run : List ℕ → ℕ → List ℕ → Call
   readRoute : List ℕ → List ℕ → ℕ → List ℕ → Call
   print : List ℕ → Call
 
--- what comes of it: the answer, and the words of what was lent
+-- what comes of it: the answer, and the words of what was lent, or the bytes printed
 record Outcome : Type 0 where
   answer : Answer
   words : List ℕ
@@ -52,8 +52,7 @@ record Outcome : Type 0 where
 abbrev outcome : Call → Outcome
 outcome (judge ws) = record { answer = judgement (bytesOf ws); words = [] }
 outcome (run ws k table) = record { answer = runAnswer (bytesOf ws) k table; words = tableAfter (bytesOf ws) k table }
-outcome (print ws) =
-    let b = bytesOf ws in record { answer = judgement b; words = listingOf (runTable b enoughRounds) (nodeCount b) }
+outcome (print ws) = record { answer = judgement (bytesOf ws); words = printed (bytesOf ws) }
 outcome (readRoute ws table node buffer) =
     record { answer = routeAnswer (bytesOf ws) table node buffer; words = bufferAfter (bytesOf ws) table node buffer }
 
@@ -68,12 +67,15 @@ c is a = record { call = c; expected = record { answer = a; words = [] } }
 abbrev _is_leaving_ : Call → Answer → List ℕ → Row
 c is a leaving ws = record { call = c; expected = record { answer = a; words = ws } }
 
--- one node, so many nodes written; and one node with an arc to itself of the given length
-abbrev nodes : ℕ → List ℕ
-nodes n = n ∷ 0x20000000 ∷ 0x30000001 ∷ []
+-- a sheet whose first word is the given one; one node with an arc to itself whose second word is the given one; the one-node hall without its third word
+abbrev startingWith : ℕ → List ℕ
+startingWith nodeWord = nodeWord ∷ 0x20000000 ∷ 0x30000001 ∷ []
 
-abbrev loop : ℕ → List ℕ
-loop length = 0x10000001 ∷ 0x20000000 ∷ 0x30000001 ∷ 0x40000000 ∷ length ∷ 0x70000000 ∷ []
+abbrev selfArc : ℕ → List ℕ
+selfArc lengthWord = 0x10000001 ∷ 0x20000000 ∷ 0x30000001 ∷ 0x40000000 ∷ lengthWord ∷ 0x70000000 ∷ []
+
+abbrev spanless : List ℕ
+spanless = 0x10000001 ∷ 0x20000000 ∷ []
 
 -- a table for n nodes, not yet written
 abbrev blank : ℕ → List ℕ
@@ -102,7 +104,13 @@ rows =
     ∷ judge oneNode is accepted
     -- "A to its end, as printed."
     ∷ run hallA enoughRounds (blank 4) is ended leaving finishedA 0x90000008
-    ∷ print hallA is accepted leaving ascii "ended rounds 3 leaves 5 inner 6 updates 13\n0 0 -\n1 3 2\n2 1 1\n3 8 3\n"
+    ∷ print hallA is accepted leaving (
+    ascii "ended rounds 3 leaves 5 inner 6 updates 13\n"
+    ++ ascii "0 0 -\n"
+    ++ ascii "1 3 2\n"
+    ++ ascii "2 1 1\n"
+    ++ ascii "3 8 3\n"
+    )
     -- "A, k = 1: paused; counts 1, 2, 2, 8; labels 0, 4, unreached, 9."
     ∷ run hallA 1 (blank 4) is paused leaving (
     0x80000000 ∷ 0xb0000000 ∷ 0xb0000001 ∷ 0xb0000000 ∷ 0xb0000002 ∷ 0xb0000000 ∷ 0xb0000002 ∷ 0xb0000000 ∷ 0xb0000008
@@ -119,15 +127,16 @@ rows =
     ∷ 0x90000000 ∷ 0xafffffff ∷ []
     )
     -- "Without its third word: 14."
-    ∷ judge (0x10000001 ∷ 0x20000000 ∷ []) is refused (input 14)
-    ∷ run (0x10000001 ∷ 0x20000000 ∷ []) enoughRounds (7 ∷ 8 ∷ []) is refused (input 14) leaving (7 ∷ 8 ∷ [])
+    ∷ judge spanless is refused (input 14)
+    ∷ run spanless enoughRounds (7 ∷ 8 ∷ []) is refused (input 14) leaving (7 ∷ 8 ∷ [])
+    ∷ print spanless is refused (input 14) leaving ascii "refused 14\n"
     -- "Node count 0: 4. 1,024 keeps the limit, 1,025: 4."
-    ∷ judge (nodes 0x10000000) is refused (input 4)
-    ∷ judge (nodes 0x10000400) is accepted
-    ∷ judge (nodes 0x10000401) is refused (input 4)
+    ∷ judge (startingWith 0x10000000) is refused (input 4)
+    ∷ judge (startingWith 0x10000400) is accepted
+    ∷ judge (startingWith 0x10000401) is refused (input 4)
     -- "Length 262,144: 9. 262,143 keeps the limit."
-    ∷ judge (loop 0x50040000) is refused (input 9)
-    ∷ judge (loop 0x5003ffff) is accepted
+    ∷ judge (selfArc 0x50040000) is refused (input 9)
+    ∷ judge (selfArc 0x5003ffff) is accepted
     -- "A with last word `70001001`: 12." "A with `60000000` added: 13."
     ∷ judge (mostOfHallA ++ (0x70001001 ∷ [])) is refused (input 12)
     ∷ judge (hallA ++ (0x60000000 ∷ [])) is refused (input 13)
@@ -136,6 +145,7 @@ rows =
     ∷ readRoute hallA (finishedA 0x90000008) 3 (0 ∷ 7 ∷ []) is refused (state 25) leaving (0 ∷ 7 ∷ [])
     -- "A's finished table with node 3 at 9: 24."
     ∷ readRoute hallA (finishedA 0x90000009) 3 (0 ∷ 0 ∷ 7 ∷ []) is refused (state 24) leaving (0 ∷ 0 ∷ 7 ∷ [])
+    -- NOT MARKED in the paper, which lists these two with the marked ones
     -- "Nodes 1 and 2 joined by zero arcs both ways, cut off from the source, in a table that feeds each from the other at 7: 24."
     ∷ readRoute cutOff ring 1 (0 ∷ 7 ∷ []) is refused (state 24) leaving (0 ∷ 7 ∷ [])
     -- "Span 0: 6."
@@ -150,5 +160,5 @@ unfolding any count lead most upTo times column word kind payload top spansFrom 
     countInner countRound processChild alive hasEnded processFor process start round after nodeWords tableOf wrongLength runRefusals runAnswer runTable
     tableAfter all labelsIn predecessorsIn followed leadsBack sourceTest unfedTest fedTest relaxedTest ledTest settled? nodeOutside wrongNode isPaused
     malformed notShortest tableRefusals routeRefusals routeTo foundRoute routeAnswer leftBy bufferAfter
-    lastDigits decimal field spaced status counted statusLine nodeLine nodeLines listingOf
+    lastDigits decimal field spaced status counted statusLine nodeLine nodeLines listingOf refusedLine printed
 marked = refl

@@ -11,8 +11,9 @@ use Rattle.answers.specs.Tables.{tableLength}
 use Rattle.answers.specs.Runs.{tableAfter}
 use Rattle.answers.proofs.Outcome.{made}
 use Rattle.listing.specs.Listing.{listingOf, refusedLine}
+use Rattle.listing.specs.Printed.{endTable, printed}
 use Rattle.listing.specs.Written.{Filled}
-use Rattle.report.specs.Report.{endTable, printed, wordsAfter, Reported}
+use Rattle.report.specs.Report.{wordsAfter, Reported}
 
 module _ (b : List ℕ) {table out outAfter : List ℕ} {n : ℕ} where
   -- of a refused sheet the line of the refusal is printed, and the table stays

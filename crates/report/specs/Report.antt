@@ -1,34 +1,15 @@
--- What `marks` prints of a sheet, and what it leaves in the table that the run writes. Definitions; assumes nothing.
+-- What `marks` prints of a sheet, and what it leaves in the table that the run writes. Definitions.
 use Prim.Native.Nat.{ℕ}
 use mathlib.Core.Path.{_≡_}
 use mathlib.Core.List.{List, _++_}
 use lib.ListN.{drop}
 use Rattle.indices.specs.Steps.{if_then_else_}
 use Rattle.sheet.specs.Sections.{nodeCount}
-use Rattle.sheet.specs.Answer.{numberOf, Answer, accepted, ended, paused, route, noRoute, refused, isRefused}
+use Rattle.sheet.specs.Answer.{isRefused}
 use Rattle.refusals.specs.Judgement.{judgement}
-use Rattle.procedure.specs.Procedure.{enoughRounds}
 use Rattle.answers.specs.Tables.{tableLength}
-use Rattle.answers.specs.Runs.{runTable}
-use Rattle.listing.specs.Listing.{listingOf, refusedLine}
+use Rattle.listing.specs.Printed.{endTable, printed}
 use Rattle.listing.specs.Written.{Filled}
-
--- the line of a refusal; of any other answer the listing
-abbrev pub textOf : Answer → List ℕ → List ℕ
-textOf (refused r) listing = refusedLine (numberOf r)
-textOf accepted listing = listing
-textOf ended listing = listing
-textOf paused listing = listing
-textOf (route n) listing = listing
-textOf noRoute listing = listing
-
--- the table of the run to its end
-abbrev pub endTable : List ℕ → List ℕ
-endTable b = runTable b enoughRounds
-
--- "reads a sheet on standard input, runs it to its end and prints"
-unfoldable pub printed : List ℕ → List ℕ
-printed b = textOf (judgement b) (listingOf (endTable b) (nodeCount b))
 
 -- the words lent for the table afterwards: the table at their front, or of a refusal as they were
 unfoldable pub wordsAfter : List ℕ → List ℕ → List ℕ

@@ -7,8 +7,9 @@ ghost use Rattle.sheet.specs.Sections.{nodeCount};
 ghost use Rattle.refusals.specs.Judgement.{Accepted};
 ghost use Rattle.answers.specs.Tables.{tableLength};
 ghost use Rattle.listing.specs.Listing.{listingOf, mostListing};
+ghost use Rattle.listing.specs.Printed.{endTable};
 ghost use Rattle.listing.specs.Written.{Filled};
-ghost use Rattle.report.specs.Report.{endTable, Reported};
+ghost use Rattle.report.specs.Report.{Reported};
 use judge::Judged;
 use libc::STDOUT_FILENO;
 
