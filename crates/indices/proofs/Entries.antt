@@ -1,14 +1,14 @@
 -- Entries of a list that are stored one after the other, each at its own place. Assumes nothing.
 use Prim.Native.Nat.{ℕ, _+_, _≤_, _<_}
 use mathlib.Core.Path.{_≡_, sym, ap, _∙_}
-use mathlib.Core.Logic.{_≢_, ⊎-elim}
+use mathlib.Core.Logic.{_≢_}
 use mathlib.Core.List.{List}
 use native.Mathlib.Omega.{arith}
 use lib.ListN.{length, set, length-set}
 use lib.Seq.{getD-set-same, getD-set-other, ext-getD}
 use Rattle.indices.specs.Columns.{at, column}
 use Rattle.indices.proofs.Columns.{length-column, at-column}
-use Rattle.indices.proofs.Steps.{eq-or-ne}
+use Rattle.indices.proofs.Steps.{by-equal}
 
 -- the first i entries stand at their places
 pub record Entered (place f : ℕ → ℕ) (l : List ℕ) (i : ℕ) : Type 0 where
@@ -29,9 +29,7 @@ entered-more {place} {f} {l} {i} x other inside e E =
     record {
       entry =
           λ j h.
-          ⊎-elim
-          (λ (same : j ≡ i). ap (λ (k : ℕ). at (set l (place i) x) (place k)) same ∙ getD-set-same l (place i) x 0 inside ∙ e ∙ sym (ap f same))
-          (λ (ne : j ≢ i). before .entry j (omega arith)) (eq-or-ne j i);
+          by-equal j i (λ same. ap (λ (k : ℕ). at (set l (place i) x) (place k)) same ∙ getD-set-same l (place i) x 0 inside ∙ e ∙ sym (ap f same)) (λ ne. before .entry j (omega arith));
     }
 
 -- A COLUMN FROM ITS FRONT

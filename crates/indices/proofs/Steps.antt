@@ -79,7 +79,7 @@ by-truth b holds fails = ⊎-elim holds fails (true-or-false b)
 
 -- what holds below n and of n holds below suc n
 pub below-suc {κ} : (P : ℕ → Type κ) (n : ℕ) → ((i : ℕ) → i < n → P i) → P n → (i : ℕ) → i < suc n → P i
-below-suc P n f p i l = ⊎-elim (λ (e : i ≡ n). rw e p) (λ (ne : i ≢ n). f i (omega arith)) (eq-or-ne i n)
+below-suc P n f p i l = by-equal i n (λ e. rw e p) (λ ne. f i (omega arith))
 
 module _ {ℓ κ} {S : Type ℓ} where
   pub upTo-keeps : (P : ℕ → S → Type κ) (f : ℕ → S → S) (s : S) (n : ℕ) → P zero s → ((i : ℕ) (t : S) → i < n → P i t → P (suc i) (f i t)) → P n (upTo n f s)

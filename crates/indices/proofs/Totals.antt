@@ -6,7 +6,7 @@ use mathlib.Core.Logic.{_≢_, _⊎_, ⊎-elim}
 use native.Mathlib.Nat.{le-refl}
 use native.Mathlib.Omega.{arith}
 use Rattle.indices.specs.Tests.{count}
-use Rattle.indices.proofs.Steps.{eq-or-ne}
+use Rattle.indices.proofs.Steps.{by-equal}
 
 -- f 0 + f 1 + .. + f (n - 1)
 unfoldable pub total : (ℕ → ℕ) → ℕ → ℕ
@@ -23,9 +23,7 @@ pub total-one : (f g : ℕ → ℕ) (k n : ℕ) → k < n → ((i : ℕ) → i <
 unfolding total
 total-one f g k zero l e = absurd (omega arith)
 total-one f g k (suc n) l e =
-    ⊎-elim
-    (λ (w : k ≡ n). omega (arith, total-same f g n (λ i li. e i (omega arith) (λ v. omega arith)), ap f w, ap g w))
-    (λ (w : k ≢ n). omega (arith, total-one f g k n (omega arith) (λ i li ni. e i (omega arith) ni), e n (omega arith) (λ v. w (sym v)))) (eq-or-ne k n)
+    by-equal k n (λ w. omega (arith, total-same f g n (λ i li. e i (omega arith) (λ v. omega arith)), ap f w, ap g w)) (λ w. omega (arith, total-one f g k n (omega arith) (λ i li ni. e i (omega arith) ni), e n (omega arith) (λ v. w (sym v))))
 
 pub total-le : (f : ℕ → ℕ) (n b : ℕ) → ((i : ℕ) → i < n → f i ≤ b) → total f n ≤ n * b
 unfolding total

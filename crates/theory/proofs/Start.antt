@@ -2,14 +2,14 @@
 use Prim.Native.Nat.{ℕ, _≤_, _<_}
 use mathlib.Core.Bool.{true, false}
 use mathlib.Core.Path.{_≡_, sym, ap, _∙_}
-use mathlib.Core.Logic.{_≢_, ⊎-elim}
+use mathlib.Core.Logic.{_≢_}
 use mathlib.Core.List.{List}
 use native.Mathlib.Nat.{le-refl}
 use native.Mathlib.Omega.{arith}
 use lib.ListN.{set, replicate, length-set, length-replicate, getD-replicate}
 use lib.Seq.{getD-set-same, getD-set-other}
 use Rattle.indices.specs.Columns.{at}
-use Rattle.indices.proofs.Steps.{eq-or-ne, true-or-false, set-elim}
+use Rattle.indices.proofs.Steps.{set-elim, by-equal, by-truth}
 use Rattle.sheet.specs.Words.{top}
 use Rattle.procedure.specs.Graph.{Graph, arcs, tail}
 use Rattle.procedure.specs.Division.{Division, regions, arcOf, isLeaf}
@@ -47,11 +47,8 @@ module _ {most : ℕ} {g : Graph} {d : Division} {spans : List ℕ} (ok : WellFo
   noKeys-valued : Valued d Root (noKeys g d)
   noKeys-valued y py ly out =
       getD-replicate (regions d) y top 0 ly
-      ∙ sym (⊎-elim
-      (λ (leaf : isLeaf d y ≡ true).
-      minKey-leaf d (noKeys g d) y leaf ∙ getD-replicate (arcs g) (arcOf d y) top 0 (ok .division .leaf-arc y ly leaf .0))
-      (λ (inner : isLeaf d y ≡ false). minKey-all-none d (noKeys g d) y inner (λ c h. getD-replicate (regions d) c top 0 (h .in-range)))
-      (true-or-false (isLeaf d y)))
+      ∙ sym (by-truth (isLeaf d y) (λ leaf.
+      minKey-leaf d (noKeys g d) y leaf ∙ getD-replicate (arcs g) (arcOf d y) top 0 (ok .division .leaf-arc y ly leaf .0)) (λ inner. minKey-all-none d (noKeys g d) y inner (λ c h. getD-replicate (regions d) c top 0 (h .in-range))))
 
   source-first : at (firstLabels g) (g .source) ≡ 0
   source-first = getD-set-same (replicate (g .nodes) top) (g .source) 0 0 (rw length-replicate (ok .graph .source-in))
@@ -90,20 +87,12 @@ module _ {most : ℕ} {g : Graph} {d : Division} {spans : List ℕ} (ok : WellFo
       record {
         source-label = source-first;
         source-unfed = getD-replicate (g .nodes) (g .source) top 0 (ok .graph .source-in);
-        led = λ v lv r. ⊎-elim (λ (e : v ≡ g .source). home e) (λ (n : v ≢ g .source). absurd (omega (arith, other-first v lv n))) (eq-or-ne v (g .source));
+        led = λ v lv r. by-equal v (g .source) (λ e. home e) (λ n. absurd (omega (arith, other-first v lv n)));
         unfed = λ v lv _. getD-replicate (g .nodes) v top 0 lv;
-        unkeyed = λ a la u. ⊎-elim
-            (λ (e : tail g a ≡ g .source). absurd (omega (arith, at-source a e, top-positive)))
-            (λ (n : tail g a ≢ g .source). o .miss a n ∙ none a la) (eq-or-ne (tail g a) (g .source));
-        relaxed = λ a la r k. absurd (⊎-elim
-            (λ (e : tail g a ≡ g .source). omega (arith, o .hit a la e, top-positive))
-            (λ (n : tail g a ≢ g .source). omega (arith, other-first (tail g a) (ok .graph .tail-in a la) n)) (eq-or-ne (tail g a) (g .source)));
-        bounded = λ v lv r. ⊎-elim
-            (λ (e : v ≡ g .source). rw (e, source-first) (omega arith))
-            (λ (n : v ≢ g .source). absurd (omega (arith, other-first v lv n))) (eq-or-ne v (g .source));
-        keyed = λ a la k. ⊎-elim
-            (λ (e : tail g a ≡ g .source). o .hit a la e ∙ sym (at-source a e))
-            (λ (n : tail g a ≢ g .source). absurd (omega (arith, o .miss a n, none a la))) (eq-or-ne (tail g a) (g .source));
+        unkeyed = λ a la u. by-equal (tail g a) (g .source) (λ e. absurd (omega (arith, at-source a e, top-positive))) (λ n. o .miss a n ∙ none a la);
+        relaxed = λ a la r k. absurd (by-equal (tail g a) (g .source) (λ e. omega (arith, o .hit a la e, top-positive)) (λ n. omega (arith, other-first (tail g a) (ok .graph .tail-in a la) n)));
+        bounded = λ v lv r. by-equal v (g .source) (λ e. rw (e, source-first) (omega arith)) (λ n. absurd (omega (arith, other-first v lv n)));
+        keyed = λ a la k. by-equal (tail g a) (g .source) (λ e. o .hit a la e ∙ sym (at-source a e)) (λ n. absurd (omega (arith, o .miss a n, none a la)));
         valued = outgoing-valued d (g .tails) (ok .division) (few-arcs ok) (g .source) 0 (noKeys g d) noKeys-sized Root (root-closed d) (omega arith)
             (λ b lb e. rw (none b lb) top-positive) noKeys-valued;
       }
