@@ -1,9 +1,10 @@
 -- The arcs' rows while they are filled, from a sheet b or from its region words d. Definitions; assumes nothing.
 use Prim.Native.Nat.{ℕ, _+_, _*_, _≤_, _<_}
-use mathlib.Core.Bool.{true, cond}
+use mathlib.Core.Bool.{true}
 use mathlib.Core.Path.{_≡_}
 use mathlib.Core.List.{List}
 use lib.ListN.{set}
+use Rattle.indices.specs.Steps.{if_then_else_}
 use Rattle.sheet.specs.Limits.{mostRegionWords}
 use Rattle.sheet.specs.Words.{words}
 use Rattle.sheet.specs.Sections.{arcCount}
@@ -24,7 +25,7 @@ pub record LeavesApart (d : List ℕ) (m : ℕ) : Type 0 where
 
 -- the arcs' rows once word k, region k + 1, is entered as the leaf of its arc, if it is a leaf
 abbrev pub leafEntered : List ℕ → ℕ → List ℕ → List ℕ
-leafEntered d k arcRows = cond (leafWord d k) (set arcRows (4 * arcWord d k + 2) (k + 1)) arcRows
+leafEntered d k arcRows = if leafWord d k then set arcRows (4 * arcWord d k + 2) (k + 1) else arcRows
 
 -- each leaf's region is in the row of its arc; tails and heads are as they were
 pub record LeavesEntered (d arcRows arcRows′ : List ℕ) : Type 0 where

@@ -1,14 +1,14 @@
 -- The heights in the regions' rows while they are filled, from a sheet's region words d. Definitions; assumes nothing.
 use Prim.Native.Nat.{ℕ, suc, max, _+_, _*_}
-use mathlib.Core.Bool.{cond}
 use mathlib.Core.List.{List}
 use lib.ListN.{set}
+use Rattle.indices.specs.Steps.{if_then_else_}
 use Rattle.sheet.specs.Regions.{isLeaf}
 use Rattle.slices.specs.Tables.{heightEntry}
 
 -- r's height, where its row holds the largest height that a child has handed up
 abbrev pub ownHeight : List ℕ → List ℕ → ℕ → ℕ
-ownHeight d regionRows r = cond (isLeaf d r) 0 (suc (heightEntry regionRows r))
+ownHeight d regionRows r = if isLeaf d r then 0 else suc (heightEntry regionRows r)
 
 -- the rows once r's has its height
 abbrev pub settled : List ℕ → List ℕ → ℕ → List ℕ

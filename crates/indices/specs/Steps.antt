@@ -1,11 +1,11 @@
--- Choice, and steps repeated. Each is computed. Definitions; assumes nothing.
+-- Choice, and steps repeated. Each is computed. Definitions.
 use Prim.Native.Nat.{ℕ, zero, suc}
-use mathlib.Core.Bool.{Bool, true, false}
+use mathlib.Core.Bool.{Bool, cond}
 
+-- the library's choice, `cond`, as it is read
 infix 5 if_then_else_
 abbrev pub if_then_else_ {ℓ} : {A : Type ℓ} → Bool → A → A → A
-if true then a else b = a
-if false then a else b = b
+if b then x else y = cond b x y
 
 -- step 0, then step 1, and so on up to step (n - 1)
 unfoldable pub upTo {ℓ} : {S : Type ℓ} → ℕ → (ℕ → S → S) → S → S

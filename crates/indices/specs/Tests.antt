@@ -1,6 +1,7 @@
 -- Tests and figures over the indices below a bound. Each is computed. Definitions; assumes nothing.
 use Prim.Native.Nat.{ℕ, zero, suc, _+_, max}
-use mathlib.Core.Bool.{Bool, true, false, cond, _&&_, _||_}
+use mathlib.Core.Bool.{Bool, true, false, _&&_, _||_}
+use Rattle.indices.specs.Steps.{if_then_else_}
 
 -- every index below n passes
 unfoldable pub all : (ℕ → Bool) → ℕ → Bool
@@ -15,12 +16,12 @@ any p (suc n) = any p n || p n
 -- how many indices below n pass
 unfoldable pub count : (ℕ → Bool) → ℕ → ℕ
 count p zero = 0
-count p (suc n) = count p n + cond (p n) 1 0
+count p (suc n) = count p n + (if p n then 1 else 0)
 
 -- how many indices pass, from 0 on and below n, before the first that does not
 unfoldable pub lead : (ℕ → Bool) → ℕ → ℕ
 lead p zero = 0
-lead p (suc n) = cond (p 0) (suc (lead (λ k. p (suc k)) n)) 0
+lead p (suc n) = if p 0 then suc (lead (λ k. p (suc k)) n) else 0
 
 -- the largest value at an index below n, 0 where there is none
 unfoldable pub most : (ℕ → ℕ) → ℕ → ℕ

@@ -1,9 +1,9 @@
 -- The words that the test program lends to a call, and how many of them the call has used. Definitions; assumes nothing.
 use Prim.Native.Nat.{ℕ, zero, suc}
-use mathlib.Core.Bool.{cond}
 use mathlib.Core.List.{List}
 use lib.ListN.{length}
 use lib.Dec.{eqb}
+use Rattle.indices.specs.Steps.{if_then_else_}
 use Rattle.indices.specs.Columns.{at}
 
 -- a word of kind 12
@@ -13,7 +13,7 @@ filling = 3318072773
 -- how many of the first n words there are up to the last that is another one
 unfoldable pub usedBelow : List ℕ → ℕ → ℕ
 usedBelow words zero = 0
-usedBelow words (suc n) = cond (eqb (at words n) filling) (usedBelow words n) (suc n)
+usedBelow words (suc n) = if eqb (at words n) filling then usedBelow words n else suc n
 
 -- how many words there are up to it
 unfoldable pub used : List ℕ → ℕ

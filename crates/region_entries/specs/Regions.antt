@@ -1,9 +1,9 @@
 -- The regions' parents and rows while they are filled, from a sheet's region words d. Definitions; assumes nothing.
 use Prim.Native.Nat.{ℕ, zero, suc, _*_, _≤_, _<_}
-use mathlib.Core.Bool.{cond}
 use mathlib.Core.Path.{_≡_}
 use mathlib.Core.List.{List}
 use lib.ListN.{length}
+use Rattle.indices.specs.Steps.{if_then_else_}
 use Rattle.indices.specs.Columns.{at}
 use Rattle.sheet.specs.Limits.{mostRegionWords}
 use Rattle.sheet.specs.Words.{words}
@@ -24,7 +24,7 @@ pub record ParentsEntered (d parents : List ℕ) : Type 0 where
 -- the arc in a region's row
 abbrev pub arcInRow : List ℕ → ℕ → ℕ
 arcInRow d zero = noArc
-arcInRow d (suc k) = cond (leafWord d k) (arcWord d k) noArc
+arcInRow d (suc k) = if leafWord d k then arcWord d k else noArc
 
 -- the regions' rows before any height is known
 pub record ArcsEntered (d regionRows : List ℕ) : Type 0 where

@@ -1,10 +1,11 @@
 -- The sections of a sheet, each found where the one before it ends: node count and source, spans, arcs, region words. Definitions; assumes nothing.
 use Prim.Native.Nat.{ℕ, _+_, _-_, _*_, _/_, _≤_}
 use mathlib.Core.List.{List}
-use mathlib.Core.Bool.{Bool, _&&_, cond}
+use mathlib.Core.Bool.{Bool, _&&_}
 use mathlib.Core.Path.{_≡_}
 use lib.ListN.{drop}
 use lib.Dec.{eqb, ltb}
+use Rattle.indices.specs.Steps.{if_then_else_}
 use Rattle.indices.specs.Tests.{lead}
 use Rattle.sheet.specs.declared.Cursor.{Cursor}
 use Rattle.sheet.specs.declared.Sections.{Sections}
@@ -14,7 +15,7 @@ use Rattle.sheet.specs.Words.{words, word, kind, payload}
 
 -- "A sheet is read word by word from its front": the word at a place with the place after it, or the end
 abbrev pub stepAt : List ℕ → Cursor → Step
-stepAt b c = cond (ltb (c .at) (words b)) (Word (word b (c .at)) (record { at = c .at + 1 })) End
+stepAt b c = if ltb (c .at) (words b) then Word (word b (c .at)) (record { at = c .at + 1 }) else End
 
 -- the part of a sheet after a place
 abbrev pub partAfter : List ℕ → Cursor → List ℕ
@@ -28,7 +29,7 @@ nodeCount b = payload b 0
 abbrev pub source : List ℕ → ℕ
 source b = payload b 1
 
--- "kind 3, up to 15 times: the span, for heights 1, 2, 3 and so on": the words of kind 3 that stand from word i on
+-- "kind 3, up to 15 times: the span, 1 to 1,000,000, for heights 1, 2, 3 and so on": the words of kind 3 that stand from word i on
 abbrev pub isSpan : List ℕ → ℕ → ℕ → Bool
 isSpan b i k = eqb (kind b (i + k)) 3
 
@@ -42,7 +43,7 @@ spanCount b = spansFrom b 2
 abbrev pub span : List ℕ → ℕ → ℕ
 span b k = payload b (2 + k)
 
--- "kinds 4 and 5 in pairs, one arc each": the pairs that stand from word i on
+-- "kinds 4 and 5 in pairs, up to 2,048 pairs, one arc each": the pairs that stand from word i on
 abbrev pub isArc : List ℕ → ℕ → ℕ → Bool
 isArc b i a = eqb (kind b (i + 2 * a)) 4 && eqb (kind b (i + 2 * a + 1)) 5
 
