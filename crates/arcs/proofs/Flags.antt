@@ -1,4 +1,4 @@
--- A flag that says whether some index passed does: it is set at one that does, and kept at one that does not. Assumes nothing.
+-- A flag that says whether some index passed does: it is set at one that does, and kept at one that does not.
 use Prim.Native.Nat.{ℕ, _+_}
 use mathlib.Core.Bool.{Bool, true, false, or-false}
 use mathlib.Core.Path.{_≡_, sym, _∙_}

@@ -1,4 +1,4 @@
--- The refusals that look at one arc after the other. Definitions; assumes nothing.
+-- The refusals that look at one arc after the other. Definitions.
 use Prim.Native.Nat.{ℕ}
 use mathlib.Core.List.{List, [], _∷_}
 use Rattle.sheet.specs.Answer.{input, Case, _when_}

@@ -1,4 +1,4 @@
--- What the counters say of the arcs at each node: a third one, or none. Assumes nothing.
+-- What the counters say of the arcs at each node: a third one, or none.
 use Prim.Native.Nat.{ℕ, _+_, _<_, _≤_}
 use mathlib.Core.Bool.{Bool, true, false, or-true}
 use mathlib.Core.List.{List}

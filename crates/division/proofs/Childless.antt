@@ -1,4 +1,4 @@
--- Regions to which nothing is handed up have no child: what the pass from the last region back finds of refusals 13 and 14. Assumes nothing.
+-- Regions to which nothing is handed up have no child: what the pass from the last region back finds of refusals 13 and 14.
 use Prim.Native.Nat.{ℕ, zero, suc, max, _-_, _<_, _≤_}
 use mathlib.Core.Bool.{Bool, true, false, not, _&&_, true≢false}
 use mathlib.Core.List.{List}

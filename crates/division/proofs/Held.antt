@@ -1,5 +1,5 @@
 -- Each region from the last one back hands its height and one more to its parent. What a region holds when its turn comes is its height, unless it is
--- inner and has no child: then it is 0. Assumes nothing.
+-- inner and has no child: then it is 0.
 use Prim.Native.Nat.{ℕ, zero, suc, max, _+_, _-_, _<_, _≤_}
 use mathlib.Core.Bool.{Bool, true, false, cond, true≢false}
 use mathlib.Core.List.{List}

@@ -1,4 +1,4 @@
--- The refusals that look at the regions from the last one back. Definitions; assumes nothing.
+-- The refusals that look at the regions from the last one back. Definitions.
 use Prim.Native.Nat.{ℕ}
 use mathlib.Core.List.{List, [], _∷_}
 use Rattle.sheet.specs.Answer.{input, Case, _when_}

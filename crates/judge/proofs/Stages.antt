@@ -1,4 +1,4 @@
--- What a stage of the judge may take from the stages before it, and how their numbers make one answer. Assumes nothing.
+-- What a stage of the judge may take from the stages before it, and how their numbers make one answer.
 use Prim.Native.Nat.{ℕ, _≤_}
 use mathlib.Core.Bool.{false}
 use mathlib.Core.List.{List, _++_}

@@ -1,4 +1,4 @@
--- How a word changes the counters of leaves: by one at its arc's number if it is a leaf, and else not at all. Assumes nothing.
+-- How a word changes the counters of leaves: by one at its arc's number if it is a leaf, and else not at all.
 use Prim.Native.Nat.{ℕ, zero, suc, _+_, _<_, _≤_}
 use mathlib.Core.Bool.{Bool, true, false, and-false}
 use mathlib.Core.List.{List, [], _∷_}

@@ -1,4 +1,4 @@
--- The leaves of each arc number: refusal 12 does not apply where each of the arcs has one and no number beyond them has any. Assumes nothing.
+-- The leaves of each arc number: refusal 12 does not apply where each of the arcs has one and no number beyond them has any.
 use Prim.Native.Nat.{ℕ, _<_, _≤_}
 use mathlib.Core.Bool.{Bool, true, false, not, _&&_, or-true}
 use mathlib.Core.List.{List}

@@ -1,5 +1,5 @@
 -- Words of which each may follow the one before it are in the order of the sheet: the spans, the arcs in pairs, and then region words alone.
--- By recursion on the words from the back of the order to its front. Assumes nothing.
+-- By recursion on the words from the back of the order to its front.
 use Prim.Native.Nat.{ℕ, zero, suc, _+_, _-_, _*_, _/_, _<_, _≤_}
 use mathlib.Core.Bool.{Bool, true, false, not, _&&_, _||_}
 use mathlib.Core.List.{List}

@@ -1,4 +1,4 @@
--- The pass over the kinds: what is left of it decides as the whole does. Assumes nothing.
+-- The pass over the kinds: what is left of it decides as the whole does.
 use Prim.Native.Nat.{ℕ, zero, suc, _+_, _-_, _<_, _≤_}
 use mathlib.Core.Bool.{Bool, true, false, cond, not, _&&_}
 use mathlib.Core.List.{List}

@@ -1,4 +1,4 @@
--- Which kind may follow which, word by word. Definitions; assumes nothing.
+-- Which kind may follow which, word by word. Definitions.
 use Prim.Native.Nat.{ℕ, zero, suc}
 use mathlib.Core.Bool.{Bool, false, cond, not, _&&_, _||_}
 use lib.Dec.{eqb}

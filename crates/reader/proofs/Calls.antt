@@ -1,5 +1,5 @@
 -- One contract in two forms, over a sheet and a place and over a reader, and two laws between them, each a walk of one shape of code. `apart`: a
--- function takes a reader, and hands its sheet and its place to one that meets the first form; so it meets the second. `made`: the other way. Assumes nothing.
+-- function takes a reader, and hands its sheet and its place to one that meets the first form; so it meets the second. `made`: the other way.
 use Prim.Native.Nat.{ℕ}
 use mathlib.Core.Path.{_≡_, refl}
 use mathlib.Core.List.{List, [], _∷_}

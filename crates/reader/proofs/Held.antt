@@ -1,4 +1,4 @@
--- What the walks over a reader share: its type and its machine value, what it owns, had twice, and what a caller has of a call. Assumes nothing.
+-- What the walks over a reader share: its type and its machine value, what it owns, had twice, and what a caller has of a call.
 use mathlib.Core.Path.{_≡_}
 use mathlib.Core.List.{[], _∷_}
 use lib.Dec.{T as Holds}

@@ -1,4 +1,4 @@
--- The two promises that `reader` has in both forms: the word after a place, and the part of a sheet after a place. Assumes nothing.
+-- The two promises that `reader` has in both forms: the word after a place, and the part of a sheet after a place.
 use Prim.Native.Nat.{_≤_}
 use mathlib.Core.Path.{_≡_}
 use mathlib.Core.List.{[], _∷_}

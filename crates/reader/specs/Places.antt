@@ -1,4 +1,4 @@
--- A reader of a sheet: made at a place, and the place that it is at. Definitions; assumes nothing.
+-- A reader of a sheet: made at a place, and the place that it is at. Definitions.
 use Prim.Native.Nat.{ℕ}
 use mathlib.Core.List.{List}
 use denote.Ref.{RefT}

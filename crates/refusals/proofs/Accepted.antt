@@ -1,4 +1,4 @@
--- What an accepted sheet ensures: none of the refusals applies to it. Assumes nothing.
+-- What an accepted sheet ensures: none of the refusals applies to it.
 use Prim.Native.Nat.{ℕ, _<_, _≤_}
 use mathlib.Core.Bool.{Bool, true, false, _||_}
 use mathlib.Core.List.{List}

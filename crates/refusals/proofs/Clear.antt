@@ -1,4 +1,4 @@
--- What it means of a sheet that a refusal does not apply to it, refusal by refusal. Assumes nothing.
+-- What it means of a sheet that a refusal does not apply to it, refusal by refusal.
 use Prim.Native.Nat.{ℕ, _%_, _<_, _≤_}
 use mathlib.Core.Bool.{Bool, true, false, not, _||_}
 use mathlib.Core.List.{List}

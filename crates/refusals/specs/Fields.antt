@@ -1,4 +1,4 @@
--- Refusals 8 to 10 of a sheet, those of its arcs, each beside its line of the paper. Definitions; assumes nothing.
+-- Refusals 8 to 10 of a sheet, those of its arcs, each beside its line of the paper. Definitions.
 use Prim.Native.Nat.{ℕ}
 use mathlib.Core.List.{List}
 use mathlib.Core.Bool.{Bool, true, false, _||_}

@@ -1,4 +1,4 @@
--- Refusals 1 to 7 of a sheet, each beside its line of the paper. Definitions; assumes nothing.
+-- Refusals 1 to 7 of a sheet, each beside its line of the paper. Definitions.
 use Prim.Native.Nat.{ℕ, _%_}
 use mathlib.Core.List.{List}
 use mathlib.Core.Bool.{Bool, _&&_, _||_, not}

@@ -1,4 +1,4 @@
--- The judgement of a sheet: the refusals in the order in which they are looked at, and the lowest that applies. Definitions; assumes nothing.
+-- The judgement of a sheet: the refusals in the order in which they are looked at, and the lowest that applies. Definitions.
 use Prim.Native.Nat.{ℕ}
 use mathlib.Core.List.{List, [], _∷_, _++_}
 use mathlib.Core.Path.{_≡_}

@@ -1,4 +1,4 @@
--- The test at a region's turn: an inner one must hold 1 at least. Assumes nothing.
+-- The test at a region's turn: an inner one must hold 1 at least.
 use Prim.Native.Nat.{ℕ, _<_, _≤_}
 use mathlib.Core.Bool.{Bool, true, false, not, _&&_}
 use mathlib.Core.Path.{_≡_, refl}

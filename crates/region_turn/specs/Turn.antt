@@ -1,5 +1,5 @@
 -- A region's turn in the pass from the last region back, over the region words d and an entry for each region, which is 0 until the region is handed
--- something. Definitions; assumes nothing.
+-- something. Definitions.
 use Prim.Native.Nat.{ℕ, max, _+_}
 use mathlib.Core.Bool.{Bool, _&&_, not}
 use mathlib.Core.List.{List}

@@ -1,4 +1,4 @@
--- The sections lie within the sheet, and the region words are what is left of it. Assumes nothing.
+-- The sections lie within the sheet, and the region words are what is left of it.
 use Prim.Native.Nat.{ℕ, _+_, _-_, _*_, _/_, _<_, _≤_}
 use mathlib.Core.List.{List}
 use mathlib.Core.Path.{_≡_, refl, ap, _∙_}

@@ -1,4 +1,4 @@
--- The fields of an arc. Definitions; assumes nothing.
+-- The fields of an arc. Definitions.
 use Prim.Native.Nat.{ℕ, _+_, _*_, _/_, _%_}
 use mathlib.Core.List.{List}
 use mathlib.Core.Bool.{Bool, true, false}

@@ -1,4 +1,4 @@
--- The limits of a sheet, each a named number. Definitions; assumes nothing.
+-- The limits of a sheet, each a named number. Definitions.
 use Prim.Native.Nat.{ℕ}
 
 -- "Byte count not a multiple of 4, or above 32,828."

@@ -1,4 +1,4 @@
--- The sections of a sheet, each found where the one before it ends: node count and source, spans, arcs, region words. Definitions; assumes nothing.
+-- The sections of a sheet, each found where the one before it ends: node count and source, spans, arcs, region words. Definitions.
 use Prim.Native.Nat.{ℕ, _+_, _-_, _*_, _/_, _≤_}
 use mathlib.Core.List.{List}
 use mathlib.Core.Bool.{Bool, _&&_}

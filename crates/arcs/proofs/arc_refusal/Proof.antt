@@ -1,4 +1,4 @@
--- `arc_refusal` meets its contract: each stage where none before it refuses. Assumes nothing.
+-- `arc_refusal` meets its contract: each stage where none before it refuses.
 use mathlib.Core.Path.{sym, ap, _∙_}
 use borrow.Author.Needs.{needs}
 use Rattle.sheet.specs.Answer.{numbered}

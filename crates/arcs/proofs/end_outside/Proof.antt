@@ -1,4 +1,4 @@
--- `end_outside` meets its contract: the end is read and compared. Assumes nothing.
+-- `end_outside` meets its contract: the end is read and compared.
 use borrow.Author.Needs.{needs}
 use Rattle.arcs.proofs.end_outside.Statement.{statement}
 use Rattle.arcs.proofs.end_outside.Tie as tie

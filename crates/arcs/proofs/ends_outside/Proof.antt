@@ -1,4 +1,4 @@
--- `ends_outside` meets its contract: the tail, and then the head. Assumes nothing.
+-- `ends_outside` meets its contract: the tail, and then the head.
 use mathlib.Core.Path.{sym, _∙_}
 use borrow.Author.Needs.{needs}
 use Rattle.arcs.proofs.ends_outside.Statement.{statement}

@@ -1,4 +1,4 @@
--- `field_refusal` meets its contract: the two flags say what was found among the arcs passed. Assumes nothing.
+-- `field_refusal` meets its contract: the two flags say what was found among the arcs passed.
 use borrow.Author.Needs.{needs}
 use Prim.Native.Nat.{_-_, _≤_}
 use mathlib.Core.Logic.{⊎-elim}

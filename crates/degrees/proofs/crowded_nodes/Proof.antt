@@ -1,4 +1,4 @@
--- `crowded_nodes` meets its contract: the counters say how many of the arcs passed each node has, each way. Assumes nothing.
+-- `crowded_nodes` meets its contract: the counters say how many of the arcs passed each node has, each way.
 use borrow.Author.Needs.{needs}
 use Prim.Native.Nat.{_-_, _≤_}
 use mathlib.Core.Bool.{true, false}

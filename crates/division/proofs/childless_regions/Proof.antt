@@ -1,4 +1,4 @@
--- `childless_regions` meets its contract: the regions passed have handed up their heights, and none of them is childless. Assumes nothing.
+-- `childless_regions` meets its contract: the regions passed have handed up their heights, and none of them is childless.
 use borrow.Author.Needs.{needs}
 use Prim.Native.Nat.{_≤_}
 use mathlib.Core.Bool.{true≢false}

@@ -1,4 +1,4 @@
--- `division_refusal` meets its contract: the tests in turn, each where none before it applies. Assumes nothing.
+-- `division_refusal` meets its contract: the tests in turn, each where none before it applies.
 use mathlib.Core.Path.{sym, _∙_}
 use borrow.Author.Needs.{needs}
 use Rattle.refusals.specs.Judgement.{divisionRefusals}

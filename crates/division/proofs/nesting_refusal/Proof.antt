@@ -1,4 +1,4 @@
--- `nesting_refusal` meets its contract: the pass, and then the height of region 0. Assumes nothing.
+-- `nesting_refusal` meets its contract: the pass, and then the height of region 0.
 use mathlib.Core.Bool.{false}
 use mathlib.Core.Path.{_≡_, sym, _∙_}
 use borrow.Author.Needs.{needs}

@@ -1,4 +1,4 @@
--- `nodes_outside` meets its contract: the two limits in turn. Assumes nothing.
+-- `nodes_outside` meets its contract: the two limits in turn.
 use borrow.Author.Needs.{needs}
 use borrow.Author.Tests.{lt-ltb, le-ltb}
 use Rattle.refusals.specs.Form.{nodesOutside}

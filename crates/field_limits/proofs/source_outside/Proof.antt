@@ -1,4 +1,4 @@
--- `source_outside` meets its contract: one comparison. Assumes nothing.
+-- `source_outside` meets its contract: one comparison.
 use borrow.Author.Needs.{needs}
 use Rattle.refusals.specs.Form.{sourceOutside}
 use Rattle.field_limits.proofs.source_outside.Statement.{statement}

@@ -1,4 +1,4 @@
--- `span_outside` meets its contract: the two limits in turn. Assumes nothing.
+-- `span_outside` meets its contract: the two limits in turn.
 use borrow.Author.Tests.{lt-ltb, le-ltb}
 use native.Mathlib.Omega.{arith}
 use Rattle.sheet.proofs.Bounds.{spans-le}

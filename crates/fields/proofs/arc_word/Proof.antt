@@ -1,4 +1,4 @@
--- `arc_word` meets its contract: the field of the word. Assumes nothing.
+-- `arc_word` meets its contract: the field of the word.
 use borrow.Author.Needs.{needs}
 use native.Mathlib.Omega.{arith}
 use Rattle.sheet.specs.Regions.{arcWord}

@@ -1,4 +1,4 @@
--- `end_at` meets its contract: the field of the word. Assumes nothing.
+-- `end_at` meets its contract: the field of the word.
 use mathlib.Core.Path.{refl}
 use borrow.Author.Needs.{needs}
 use native.Mathlib.Omega.{arith}

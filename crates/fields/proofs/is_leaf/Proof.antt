@@ -1,4 +1,4 @@
--- `is_leaf` meets its contract: region 0 is inner, another region is as its word says. Assumes nothing.
+-- `is_leaf` meets its contract: region 0 is inner, another region is as its word says.
 use mathlib.Core.Path.{_∙_}
 use borrow.Author.Needs.{needs}
 use Rattle.sheet.proofs.Regions.{leaf-of-word}

@@ -1,4 +1,4 @@
--- `leaf_word` meets its contract: the kind is 7. Assumes nothing.
+-- `leaf_word` meets its contract: the kind is 7.
 use borrow.Author.Needs.{needs}
 use Rattle.sheet.specs.Regions.{leafWord}
 use Rattle.fields.proofs.leaf_word.Statement.{statement}

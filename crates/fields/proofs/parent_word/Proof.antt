@@ -1,4 +1,4 @@
--- `parent_word` meets its contract: the field that the kind has. Assumes nothing.
+-- `parent_word` meets its contract: the field that the kind has.
 use mathlib.Core.Path.{sym, _∙_}
 use borrow.Author.Needs.{needs}
 use Rattle.sheet.specs.Regions.{parentWord}

@@ -1,4 +1,4 @@
--- `bit_set` meets its contract: the arcs, and then the leaves. Assumes nothing.
+-- `bit_set` meets its contract: the arcs, and then the leaves.
 use mathlib.Core.Path.{sym, _∙_}
 use borrow.Author.Needs.{needs}
 use native.Mathlib.Omega.{arith}

@@ -1,4 +1,4 @@
--- `judge` meets its contract: the answer for the lowest number. Assumes nothing.
+-- `judge` meets its contract: the answer for the lowest number.
 use mathlib.Core.Path.{_∙_}
 use borrow.Author.Needs.{needs}
 use Rattle.judge.proofs.judge.Statement.{statement}

@@ -1,4 +1,4 @@
--- `later_refusal` meets its contract: each stage where none before it refuses. Assumes nothing.
+-- `later_refusal` meets its contract: each stage where none before it refuses.
 use Prim.Native.Nat.{_≤_}
 use mathlib.Core.Path.{_≡_, sym, ap, _∙_}
 use borrow.Author.Needs.{needs}

@@ -1,4 +1,4 @@
--- `lowest_refusal` meets its contract: the first two tests, and then the others. Assumes nothing.
+-- `lowest_refusal` meets its contract: the first two tests, and then the others.
 use mathlib.Core.Path.{sym, _∙_}
 use borrow.Author.Needs.{needs}
 use Rattle.refusals.specs.Judgement.{formRefusals, refusals, judgement}

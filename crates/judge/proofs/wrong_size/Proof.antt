@@ -1,4 +1,4 @@
--- `wrong_size` meets its contract: the two tests in turn. Assumes nothing.
+-- `wrong_size` meets its contract: the two tests in turn.
 use borrow.Author.Tests.{eq-eqb, ne-eqb}
 use Rattle.refusals.specs.Form.{wrongSize}
 use Rattle.judge.proofs.wrong_size.Statement.{statement}

@@ -1,4 +1,4 @@
--- `answer` meets its contract: a number other than 0 is a refusal from the input. Assumes nothing.
+-- `answer` meets its contract: a number other than 0 is a refusal from the input.
 use Prim.Native.Nat.{suc, _-_}
 use mathlib.Core.Path.{_≡_}
 use native.Mathlib.Omega.{arith}

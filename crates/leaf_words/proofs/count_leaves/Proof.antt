@@ -1,4 +1,4 @@
--- `count_leaves` meets its contract: the counters say how many of the words passed are a leaf of each arc. Assumes nothing.
+-- `count_leaves` meets its contract: the counters say how many of the words passed are a leaf of each arc.
 use Prim.Native.Nat.{_-_, _≤_, _<_}
 use mathlib.Core.Path.{_≡_, refl}
 use borrow.Author.Needs.{needs}

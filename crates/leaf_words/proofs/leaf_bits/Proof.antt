@@ -1,4 +1,4 @@
--- `leaf_bits` meets its contract: the bits, and then whether the word is a leaf. Assumes nothing.
+-- `leaf_bits` meets its contract: the bits, and then whether the word is a leaf.
 use mathlib.Core.Bool.{and-true, and-false}
 use borrow.Author.Needs.{needs}
 use borrow.Author.Tests.{le-leb, lt-leb}

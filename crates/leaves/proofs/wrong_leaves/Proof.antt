@@ -1,4 +1,4 @@
--- `wrong_leaves` meets its contract: the numbers passed have as many leaves as they should. Assumes nothing.
+-- `wrong_leaves` meets its contract: the numbers passed have as many leaves as they should.
 use borrow.Author.Needs.{needs}
 use Prim.Native.Nat.{_-_, _≤_}
 use mathlib.Core.Path.{_≡_, sym, _∙_}

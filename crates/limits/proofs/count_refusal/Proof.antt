@@ -1,4 +1,4 @@
--- `count_refusal` meets its contract: the tests in turn, each where none before it applies. Assumes nothing.
+-- `count_refusal` meets its contract: the tests in turn, each where none before it applies.
 use mathlib.Core.Path.{sym, _∙_}
 use borrow.Author.Needs.{needs}
 use Rattle.refusals.specs.Judgement.{countRefusals}

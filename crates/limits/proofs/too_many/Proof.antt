@@ -1,4 +1,4 @@
--- `too_many` meets its contract: the three counts in turn. Assumes nothing.
+-- `too_many` meets its contract: the three counts in turn.
 use borrow.Author.Needs.{needs}
 use borrow.Author.Tests.{lt-ltb, le-ltb}
 use native.Mathlib.Omega.{arith}

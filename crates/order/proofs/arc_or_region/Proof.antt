@@ -1,4 +1,4 @@
--- `arc_or_region` meets its contract: kind 4, or else a region. Assumes nothing.
+-- `arc_or_region` meets its contract: kind 4, or else a region.
 use borrow.Author.Needs.{needs}
 use borrow.Author.Tests.{eq-eqb, ne-eqb}
 use Rattle.order.specs.Kinds.{arcOrRegion}

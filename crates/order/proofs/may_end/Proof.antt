@@ -1,4 +1,4 @@
--- `may_end` meets its contract: by the kind before. Assumes nothing.
+-- `may_end` meets its contract: by the kind before.
 use mathlib.Core.Path.{sym}
 use Rattle.order.specs.Kinds.{mayEnd}
 use Rattle.order.proofs.Order.{front-ends-not, later-ends}

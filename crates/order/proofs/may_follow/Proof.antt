@@ -1,4 +1,4 @@
--- `may_follow` meets its contract: by the kind before. Assumes nothing.
+-- `may_follow` meets its contract: by the kind before.
 use mathlib.Core.Path.{sym}
 use borrow.Author.Needs.{needs}
 use borrow.Author.Tests.{eq-eqb, ne-eqb}

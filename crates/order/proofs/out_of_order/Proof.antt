@@ -1,4 +1,4 @@
--- `out_of_order` meets its contract: what is left of the pass decides as the whole does. Assumes nothing.
+-- `out_of_order` meets its contract: what is left of the pass decides as the whole does.
 use Prim.Native.Nat.{_-_}
 use mathlib.Core.Path.{sym, ap, _∙_}
 use borrow.Author.Needs.{needs}

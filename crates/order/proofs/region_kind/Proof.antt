@@ -1,4 +1,4 @@
--- `region_kind` meets its contract: the half of 6 and of 7 is 3, and of no other kind. Assumes nothing.
+-- `region_kind` meets its contract: the half of 6 and of 7 is 3, and of no other kind.
 use Prim.Native.Nat.{ℕ, _/_}
 use mathlib.Core.Logic.{_≢_, ⊎-elim}
 use mathlib.Core.Path.{_≡_}

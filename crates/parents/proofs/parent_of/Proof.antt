@@ -1,4 +1,4 @@
--- `parent_of` meets its contract: the parent of its word. Assumes nothing.
+-- `parent_of` meets its contract: the parent of its word.
 use Prim.Native.Nat.{_-_}
 use mathlib.Core.Path.{_∙_}
 use borrow.Author.Needs.{needs}

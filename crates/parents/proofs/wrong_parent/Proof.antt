@@ -1,4 +1,4 @@
--- `wrong_parent` meets its contract: the two tests in turn. Assumes nothing.
+-- `wrong_parent` meets its contract: the two tests in turn.
 use borrow.Author.Needs.{needs}
 use borrow.Author.Tests.{lt-ltb, le-ltb}
 use native.Mathlib.Omega.{arith}

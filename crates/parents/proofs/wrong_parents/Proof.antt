@@ -1,4 +1,4 @@
--- `wrong_parents` meets its contract: the words passed have a lower parent that is inner. Assumes nothing.
+-- `wrong_parents` meets its contract: a scan for `any`. While it goes on, no word passed is wrong.
 use Prim.Native.Nat.{_-_, _≤_}
 use mathlib.Core.Path.{_≡_, sym, _∙_}
 use mathlib.Core.Bool.{false}
@@ -11,38 +11,19 @@ use Rattle.refusals.specs.Nesting.{wrongParent, wrongParents}
 use Rattle.parents.proofs.wrong_parents.Statement.{statement}
 use Rattle.parents.proofs.wrong_parents.Tie as tie
 
-abbrev Inv-loop : tie.InvT-loop
-Inv-loop d n k₀ k = (k ≤ words d) × (any (wrongParent d) k ≡ false)
-
-abbrev μ-loop : tie.MeasureT-loop
-μ-loop d n k₀ k = words d - k
-
-loop-holds : tie.Need-loop-holds Inv-loop μ-loop
-loop-holds c = (search needs, any-none _)
-
-returns : tie.Need-returns Inv-loop μ-loop
-unfolding wrongParents
-returns c = sym (any-hit _ _ _ (omega arith) (sym (c .before .wrong-parent .ensures) ∙ c .if1 .taken))
-
-loop-again : tie.Need-loop-again Inv-loop μ-loop
-loop-again c =
-    let loop = c .before .before .before .loop in
-    (omega arith, any-more _ _ (loop .inv .1) (sym (c .before .wrong-parent .ensures) ∙ c .if1 .left))
-
-returns-2 : tie.Need-returns-2 Inv-loop μ-loop
-unfolding wrongParents
-returns-2 c = sym (any-end _ _ _ (omega arith) (c .before .loop .inv .1))
-
 pub wrong-parents-spec : {M : Type 1} → statement M
+unfolding wrongParents
 wrong-parents-spec =
-    tie.close
-    (tie.spec
-    Inv-loop
-    μ-loop
-    loop-holds
+    tie.close (tie.spec
+    (λ d n k₀ k. (k ≤ words d) × (any (wrongParent d) k ≡ false))
+    (λ d n k₀ k. words d - k)
+    (λ c. (omega arith, any-none _))
     (λ c κs. search needs)
-    returns
+    -- a word that is wrong: the answer is yes
+    (λ c. sym (any-hit _ _ _ (omega arith) (sym (c .before .wrong-parent .ensures) ∙ c .if1 .taken)))
     (λ c. search needs)
     (λ c. search needs)
-    loop-again
-    returns-2)
+    -- a word that is not: none is, of one word more
+    (λ c. (omega arith, any-more _ _ (search needs) (sym (c .before .wrong-parent .ensures) ∙ c .if1 .left)))
+    -- the end: none is
+    (λ c. sym (any-end _ _ _ (omega arith) (c .before .loop .inv .1))))

@@ -1,4 +1,4 @@
--- `place` meets its contract: a walk of its code. The number is read from the struct, and a cursor is made of it. Assumes nothing.
+-- `place` meets its contract: a walk of its code. The number is read from the struct, and a cursor is made of it.
 use Prim.Native.Nat.{_<_, _^_}
 use mathlib.Core.Path.{refl}
 use mathlib.Core.List.{[], _∷_}

@@ -1,4 +1,4 @@
--- `reader_at` meets its contract: a walk of its code. A slice is Copy: what it owns is had twice, once for the exit and once for the reader. Assumes nothing.
+-- `reader_at` meets its contract: a walk of its code. A slice is Copy: what it owns is had twice, once for the exit and once for the reader.
 use Prim.Native.Nat.{ℕ, _<_, _^_}
 use mathlib.Core.Path.{refl}
 use mathlib.Core.List.{List, [], _∷_}

@@ -1,4 +1,4 @@
--- `region_words` meets its contract: the rest of the sheet, from the place where the sections end. Assumes nothing.
+-- `region_words` meets its contract: the rest of the sheet, from the place where the sections end.
 use borrow.Author.Needs.{needs}
 use Prim.Native.Nat.{ℕ, _+_, _*_}
 use mathlib.Core.Path.{_≡_, ap, _∙_}

@@ -1,4 +1,4 @@
--- `hand_to` meets its contract: the larger of what the region holds and what it is handed. Assumes nothing.
+-- `hand_to` meets its contract: the larger of what the region holds and what it is handed.
 use borrow.Author.Needs.{needs}
 use Rattle.region_turn.proofs.hand_to.Statement.{statement}
 use Rattle.region_turn.proofs.hand_to.Tie as tie

@@ -1,4 +1,4 @@
--- `without_child` meets its contract: an inner region must hold 1 at least; any other hands up. Assumes nothing.
+-- `without_child` meets its contract: an inner region must hold 1 at least; any other hands up.
 use mathlib.Core.Path.{refl, sym}
 use mathlib.Core.Bool.{true≢false}
 use borrow.Author.Needs.{needs}

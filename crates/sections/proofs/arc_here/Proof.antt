@@ -1,4 +1,4 @@
--- `arc_here` meets its contract: the tests of the two words decide. Assumes nothing.
+-- `arc_here` meets its contract: the tests of the two words decide.
 use borrow.Author.Needs.{needs}
 use borrow.Author.Tests.{eq-eqb, ne-eqb}
 use Rattle.sections.proofs.arc_here.Statement.{statement}

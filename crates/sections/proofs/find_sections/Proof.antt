@@ -1,4 +1,4 @@
--- `find_sections` meets its contract: each section begins where the one before it ends. Assumes nothing.
+-- `find_sections` meets its contract: each section begins where the one before it ends.
 use mathlib.Core.Path.{ap}
 use borrow.Author.Needs.{needs}
 use native.Mathlib.Omega.{arith}

@@ -1,4 +1,4 @@
--- `next_word` meets its contract: the word where there is one, else the end. Assumes nothing.
+-- `next_word` meets its contract: the word where there is one, else the end.
 use borrow.Author.Needs.{needs}
 use borrow.Author.Tests.{lt-ltb, le-ltb}
 use Rattle.sections.proofs.next_word.Statement.{statement}

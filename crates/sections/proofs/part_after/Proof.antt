@@ -1,4 +1,4 @@
--- `part_after` meets its contract: a part to the end of the sheet. Assumes nothing.
+-- `part_after` meets its contract: a part to the end of the sheet.
 use borrow.Author.Needs.{needs}
 use Prim.Native.Nat.{_*_}
 use Rattle.sheet.proofs.Bounds.{to-end}

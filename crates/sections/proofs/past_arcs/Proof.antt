@@ -1,4 +1,4 @@
--- `past_arcs` meets its contract: the pairs passed are all arcs. Assumes nothing.
+-- `past_arcs` meets its contract: the pairs passed are all arcs.
 use Prim.Native.Nat.{ℕ, _+_, _-_, _*_, _/_, _≤_}
 use mathlib.Core.Path.{_≡_, sym, ap, _∙_}
 use borrow.Author.Needs.{needs}

@@ -1,4 +1,4 @@
--- `past_spans` meets its contract: the words passed are all spans. Assumes nothing.
+-- `past_spans` meets its contract: the words passed are all spans.
 use Prim.Native.Nat.{ℕ, _+_, _-_, _≤_}
 use mathlib.Core.Path.{_≡_, sym, ap}
 use borrow.Author.Needs.{needs}
