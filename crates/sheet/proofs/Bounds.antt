@@ -20,23 +20,23 @@ unfolding arcsFrom
 arcs-le b i = lead-le (isArc b i) ((words b - i) / 2)
 
 -- the words of an arc are words of the sheet
-pub arc-inside : (b : List ℕ) (a : ℕ) → 2 ≤ words b → a < arcCount b → arcsAt b + 2 * a + 1 < words b
-arc-inside b a two l = omega (arith, spans-le b 2, arcs-le b (arcsAt b))
+pub arc-inside : {b : List ℕ} {at : Sections} → Located b at → (a : ℕ) → a < arcCount b → 2 + at .spans + 2 * a + 1 < words b
+arc-inside {b} found a l = omega (arith, spans-le b 2, arcs-le b (arcsAt b), found .front, found .spans-all)
 
 -- the last arc ends within the sheet
 pub regions-inside : (b : List ℕ) → 2 ≤ words b → regionsAt b ≤ words b
 regions-inside b two = omega (arith, spans-le b 2, arcs-le b (arcsAt b))
 
 -- the same of the sections that were found
-pub located-inside : (b : List ℕ) (at : Sections) → Located b at → 4 * (2 + at .spans + 2 * at .arcs) ≤ length b
-located-inside b at found = omega (arith, regions-inside b (found .front), found .spans-all, found .arcs-all)
+pub located-inside : {b : List ℕ} {at : Sections} → Located b at → 4 * (2 + at .spans + 2 * at .arcs) ≤ length b
+located-inside {b} found = omega (arith, regions-inside b (found .front), found .spans-all, found .arcs-all)
 
 -- there are as many region words as words are left
 pub region-words : (b : List ℕ) → 2 ≤ words b → words (regionWords b) ≡ words b - regionsAt b
 unfolding regionWords
 region-words b two = omega (arith, length-drop (4 * regionsAt b) b, regions-inside b two)
 
--- there are no more arcs than words, and no more region words
+-- there are no more arcs than words
 pub arcs-few : (b : List ℕ) → arcCount b ≤ words b
 arcs-few b = omega (arith, arcs-le b (arcsAt b))
 

@@ -8,9 +8,6 @@ use Rattle.arcs.specs.Fields.{fieldRefusals}
 use Rattle.arcs.proofs.arc_refusal.Statement.{statement}
 use Rattle.arcs.proofs.arc_refusal.Tie as tie
 
-field-refusal-requires : tie.Need-field-refusal-requires
-field-refusal-requires c κs = search needs
-
 returns : tie.Need-returns
 unfolding arcRefusals
 returns c = stage-stops (fieldRefusals _) _ _ (c .if1 .taken) (c .before .field-refusal .ensures)
@@ -36,4 +33,4 @@ returns-3 c =
 
 pub arc-refusal-spec : {M : Type 1} → statement M
 arc-refusal-spec =
-    tie.close (tie.spec field-refusal-requires returns crowded-nodes-requires returns-2 returns-3)
+    tie.close (tie.spec (λ c κs. search needs) returns crowded-nodes-requires returns-2 returns-3)

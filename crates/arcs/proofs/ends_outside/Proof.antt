@@ -4,18 +4,12 @@ use borrow.Author.Needs.{needs}
 use Rattle.arcs.proofs.ends_outside.Statement.{statement}
 use Rattle.arcs.proofs.ends_outside.Tie as tie
 
-end-outside-requires : tie.Need-end-outside-requires
-end-outside-requires c κs = search needs
-
 returns : tie.Need-returns
 returns c = rw (sym (c .before .end-outside .ensures) ∙ c .if1 .taken)
-
-end-outside-requires-2 : tie.Need-end-outside-requires-2
-end-outside-requires-2 c κs = search needs
 
 returns-2 : tie.Need-returns-2
 returns-2 c = rw (sym (c .before .before .end-outside .ensures) ∙ c .before .if1 .left) (c .end-outside2 .ensures)
 
 pub ends-outside-spec : {M : Type 1} → statement M
 ends-outside-spec =
-    tie.close (tie.spec end-outside-requires returns end-outside-requires-2 returns-2)
+    tie.close (tie.spec (λ c κs. search needs) returns (λ c κs. search needs) returns-2)

@@ -8,20 +8,8 @@ use Rattle.refusals.specs.Nesting.{childlessRegions, spansDiffer}
 use Rattle.division.proofs.nesting_refusal.Statement.{statement}
 use Rattle.division.proofs.nesting_refusal.Tie as tie
 
-childless-regions-requires : tie.Need-childless-regions-requires
-childless-regions-requires c κs = search needs
-
 returns : tie.Need-returns
 returns c = rw (sym (c .before .childless-regions .ensures .0) ∙ c .if1 .taken)
-
-array-read-larger : tie.Need-array-read-larger
-array-read-larger c = search needs
-
-larger-requires : tie.Need-larger-requires
-larger-requires c κs = search needs
-
-cast-if2 : tie.Need-cast-if2
-cast-if2 c = search needs
 
 -- where the pass found no childless region, the larger number is the height of region 0
 passed : (c : tie.After-larger) → let d = c .before .before .before .before .before .args .d .now in
@@ -42,4 +30,4 @@ returns-3 c = rw (passed (c .before) .0, ← passed (c .before) .1, eq-eqb _ _ (
 pub nesting-refusal-spec : {M : Type 1} → statement M
 nesting-refusal-spec =
     tie.close
-    (tie.spec childless-regions-requires returns array-read-larger larger-requires cast-if2 returns-2 returns-3)
+    (tie.spec (λ c κs. search needs) returns (λ c. search needs) (λ c κs. search needs) (λ c. search needs) returns-2 returns-3)

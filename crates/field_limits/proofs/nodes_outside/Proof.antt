@@ -5,9 +5,6 @@ use Rattle.refusals.specs.Form.{nodesOutside}
 use Rattle.field_limits.proofs.nodes_outside.Statement.{statement}
 use Rattle.field_limits.proofs.nodes_outside.Tie as tie
 
-node-count-requires : tie.Need-node-count-requires
-node-count-requires c κs = search needs
-
 returns : tie.Need-returns
 unfolding nodesOutside
 returns c = rw (← c .before .node-count .ensures, lt-ltb _ _ (c .if1 .taken))
@@ -17,4 +14,4 @@ unfolding nodesOutside
 returns-2 c = rw (← c .before .node-count .ensures, le-ltb _ _ (c .if1 .left))
 
 pub nodes-outside-spec : {M : Type 1} → statement M
-nodes-outside-spec = tie.close (tie.spec node-count-requires returns returns-2)
+nodes-outside-spec = tie.close (tie.spec (λ c κs. search needs) returns returns-2)

@@ -5,15 +5,9 @@ use Rattle.sheet.specs.Regions.{arcWord}
 use Rattle.fields.proofs.arc_word.Statement.{statement}
 use Rattle.fields.proofs.arc_word.Tie as tie
 
-payload-at-requires : tie.Need-payload-at-requires
-payload-at-requires c κs = search needs
-
-cast-t5 : tie.Need-cast-t5
-cast-t5 c = search needs
-
 returns : tie.Need-returns
 unfolding arcWord
 returns c = omega (arith, c .payload-at .ensures)
 
 pub arc-word-spec : {M : Type 1} → statement M
-arc-word-spec = tie.close (tie.spec payload-at-requires cast-t5 returns)
+arc-word-spec = tie.close (tie.spec (λ c κs. search needs) (λ c. search needs) returns)

@@ -4,12 +4,9 @@ use Rattle.sheet.specs.Regions.{leafWord}
 use Rattle.fields.proofs.leaf_word.Statement.{statement}
 use Rattle.fields.proofs.leaf_word.Tie as tie
 
-kind-at-requires : tie.Need-kind-at-requires
-kind-at-requires c κs = search needs
-
 returns : tie.Need-returns
 unfolding leafWord
 returns c = rw (← c .kind-at .ensures)
 
 pub leaf-word-spec : {M : Type 1} → statement M
-leaf-word-spec = tie.close (tie.spec kind-at-requires returns)
+leaf-word-spec = tie.close (tie.spec (λ c κs. search needs) returns)

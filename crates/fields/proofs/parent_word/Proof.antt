@@ -5,12 +5,6 @@ use Rattle.sheet.specs.Regions.{parentWord}
 use Rattle.fields.proofs.parent_word.Statement.{statement}
 use Rattle.fields.proofs.parent_word.Tie as tie
 
-payload-at-requires : tie.Need-payload-at-requires
-payload-at-requires c κs = search needs
-
-leaf-word-requires : tie.Need-leaf-word-requires
-leaf-word-requires c κs = search needs
-
 returns : tie.Need-returns
 unfolding parentWord
 returns c = rw (sym (c .before .leaf-word .ensures) ∙ c .if1 .taken, ← c .before .before .payload-at .ensures)
@@ -20,4 +14,4 @@ unfolding parentWord
 returns-2 c = rw (sym (c .before .leaf-word .ensures) ∙ c .if1 .left, ← c .before .before .payload-at .ensures)
 
 pub parent-word-spec : {M : Type 1} → statement M
-parent-word-spec = tie.close (tie.spec payload-at-requires leaf-word-requires returns returns-2)
+parent-word-spec = tie.close (tie.spec (λ c κs. search needs) (λ c κs. search needs) returns returns-2)

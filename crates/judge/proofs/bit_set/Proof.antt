@@ -14,12 +14,6 @@ returns : tie.Need-returns
 unfolding bitSet
 returns c = rw (sym (c .before .bit-set .ensures) ∙ c .if1 .taken)
 
-region-words-requires : tie.Need-region-words-requires
-region-words-requires c κs = search needs
-
-bit-set-requires-2 : tie.Need-bit-set-requires-2
-bit-set-requires-2 c κs = search needs
-
 returns-2 : tie.Need-returns-2
 unfolding bitSet
 returns-2 c =
@@ -27,4 +21,4 @@ returns-2 c =
     rw (sym (bit-set .ensures) ∙ c .before .before .if1 .left, ← c .before .region-words .ensures) (c .bit-set2 .ensures)
 
 pub bit-set-spec : {M : Type 1} → statement M
-bit-set-spec = tie.close (tie.spec bit-set-requires returns region-words-requires bit-set-requires-2 returns-2)
+bit-set-spec = tie.close (tie.spec bit-set-requires returns (λ c κs. search needs) (λ c κs. search needs) returns-2)

@@ -30,9 +30,6 @@ Start = tie.Start Inv-loop μ-loop
 loop-holds : tie.Need-loop-holds Inv-loop μ-loop
 loop-holds c = (search needs, refl, tally-none _ mostRegionWords 2048)
 
-cast-seen : tie.Need-cast-seen Inv-loop μ-loop
-cast-seen c = tt
-
 add-seen : tie.Need-add-seen Inv-loop μ-loop
 add-seen c =
     let at-loop : At-loop = search needs in
@@ -72,7 +69,7 @@ count-leaves-spec =
     (λ c. omega arith)
     (λ c. omega arith)
     (λ c κs. omega arith)
-    cast-seen
+    (λ c. tt)
     add-seen
     (λ c. omega arith)
     (λ c. omega arith)

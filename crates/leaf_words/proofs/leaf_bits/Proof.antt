@@ -5,17 +5,11 @@ use borrow.Author.Tests.{le-leb, lt-leb}
 use Rattle.leaf_words.proofs.leaf_bits.Statement.{statement}
 use Rattle.leaf_words.proofs.leaf_bits.Tie as tie
 
-payload-at-requires : tie.Need-payload-at-requires
-payload-at-requires c κs = search needs
-
 returns : tie.Need-returns
 returns c = rw (← c .before .payload-at .ensures, lt-leb _ _ (c .if1 .taken), and-false)
-
-leaf-word-requires : tie.Need-leaf-word-requires
-leaf-word-requires c κs = search needs
 
 returns-2 : tie.Need-returns-2
 returns-2 c = rw (← c .before .before .payload-at .ensures, le-leb _ _ (c .before .if1 .left), and-true) (c .leaf-word .ensures)
 
 pub leaf-bits-spec : {M : Type 1} → statement M
-leaf-bits-spec = tie.close (tie.spec payload-at-requires returns leaf-word-requires returns-2)
+leaf-bits-spec = tie.close (tie.spec (λ c κs. search needs) returns (λ c κs. search needs) returns-2)

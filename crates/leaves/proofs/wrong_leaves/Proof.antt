@@ -26,9 +26,6 @@ count-leaves-requires c κs = c .before .pre .0
 loop-holds : tie.Need-loop-holds Inv-loop μ-loop
 loop-holds c = (omega arith, any-none _)
 
-cast-if1 : tie.Need-cast-if1 Inv-loop μ-loop
-cast-if1 c = tt
-
 returns : tie.Need-returns Inv-loop μ-loop
 returns c =
     let after-count-leaves : After-count-leaves = search needs in
@@ -59,7 +56,7 @@ wrong-leaves-spec =
     (λ c. omega arith)
     (λ c. omega arith)
     (λ c. omega arith)
-    cast-if1
+    (λ c. tt)
     returns
     (λ c. omega arith)
     (λ c. omega arith)

@@ -23,9 +23,6 @@ returns-2 c =
     let pre = start .pre in
     rw (le-ltb 15 (spanCount (args .s .now)) (omega (arith, pre .spans-all)), lt-ltb 2048 (arcCount (args .s .now)) (omega (arith, pre .arcs-all)))
 
-region-words-requires : tie.Need-region-words-requires
-region-words-requires c κs = search needs
-
 returns-3 : tie.Need-returns-3
 unfolding tooMany
 returns-3 c =
@@ -39,4 +36,4 @@ returns-3 c =
     )
 
 pub too-many-spec : {M : Type 1} → statement M
-too-many-spec = tie.close (tie.spec returns returns-2 region-words-requires returns-3)
+too-many-spec = tie.close (tie.spec returns returns-2 (λ c κs. search needs) returns-3)

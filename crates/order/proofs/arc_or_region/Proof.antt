@@ -9,12 +9,9 @@ returns : tie.Need-returns
 unfolding arcOrRegion
 returns c = rw (eq-eqb _ _ (c .if1 .taken))
 
-region-kind-requires : tie.Need-region-kind-requires
-region-kind-requires c κs = search needs
-
 returns-2 : tie.Need-returns-2
 unfolding arcOrRegion
 returns-2 c = rw (ne-eqb _ _ (c .before .if1 .left)) (c .region-kind .ensures)
 
 pub arc-or-region-spec : {M : Type 1} → statement M
-arc-or-region-spec = tie.close (tie.spec returns region-kind-requires returns-2)
+arc-or-region-spec = tie.close (tie.spec returns (λ c κs. search needs) returns-2)

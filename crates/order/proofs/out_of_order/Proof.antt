@@ -32,9 +32,6 @@ After-word-after = tie.After-word-after Inv-loop μ-loop
 loop-holds : tie.Need-loop-holds Inv-loop μ-loop
 loop-holds c = pass-start _
 
-enum-told : tie.Need-enum-told Inv-loop μ-loop
-enum-told c = search needs
-
 returns : tie.Need-returns Inv-loop μ-loop
 returns c =
     let start : Start = search needs in
@@ -97,7 +94,7 @@ out-of-order-spec =
     loop-holds
     (λ c κs. search needs)
     (λ c. search needs)
-    enum-told
+    (λ c. search needs)
     (λ c κs. search needs)
     returns
     (λ c κs. search needs)

@@ -8,15 +8,6 @@ use Rattle.refusals.proofs.Parents.{parent-le}
 use Rattle.parents.proofs.parent_of.Statement.{statement}
 use Rattle.parents.proofs.parent_of.Tie as tie
 
-cast-i : tie.Need-cast-i
-cast-i c = search needs
-
-sub-parent-word : tie.Need-sub-parent-word
-sub-parent-word c = search needs
-
-parent-word-requires : tie.Need-parent-word-requires
-parent-word-requires c κs = search needs
-
 cast-t6 : tie.Need-cast-t6
 cast-t6 c =
     let args = c .before .before .before .args in
@@ -33,4 +24,4 @@ returns c =
     )
 
 pub parent-of-spec : {M : Type 1} → statement M
-parent-of-spec = tie.close (tie.spec cast-i sub-parent-word parent-word-requires cast-t6 returns)
+parent-of-spec = tie.close (tie.spec (λ c. search needs) (λ c. search needs) (λ c κs. search needs) cast-t6 returns)

@@ -5,25 +5,10 @@ use native.Mathlib.Omega.{arith}
 use Rattle.parents.proofs.wrong_parent.Statement.{statement}
 use Rattle.parents.proofs.wrong_parent.Tie as tie
 
-parent-word-requires : tie.Need-parent-word-requires
-parent-word-requires c κs = search needs
-
-cast-p : tie.Need-cast-p
-cast-p c = search needs
-
-add-r : tie.Need-add-r
-add-r c = search needs
-
 returns : tie.Need-returns
 returns c =
     let args = c .before .before .before .args in
     rw (← c .before .parent-word .ensures, lt-ltb (args .k) (c .before .parent-word .result) (omega (arith, c .if1 .taken)))
-
-cast-t7 : tie.Need-cast-t7
-cast-t7 c = search needs
-
-is-leaf-requires : tie.Need-is-leaf-requires
-is-leaf-requires c κs = search needs
 
 returns-2 : tie.Need-returns-2
 returns-2 c =
@@ -35,4 +20,4 @@ returns-2 c =
 pub wrong-parent-spec : {M : Type 1} → statement M
 wrong-parent-spec =
     tie.close
-    (tie.spec parent-word-requires cast-p add-r returns cast-t7 is-leaf-requires returns-2)
+    (tie.spec (λ c κs. search needs) (λ c. search needs) (λ c. search needs) returns (λ c. search needs) (λ c κs. search needs) returns-2)

@@ -24,7 +24,7 @@ use Rattle.reader.proofs.next as next
 use Rattle.reader.proofs.next.Statement as stated
 use Rattle.reader.proofs.next.Code as code
 
--- its contract is the promise `wordAfter`, over a reader
+-- to be read, and cited by nothing, since the two compute alike: its contract is the promise `wordAfter`, over a reader
 promised : {M : Type 1} (𝓤 : URA M) (H : Heap 𝓤) (A : Atoms 𝓤) (mem : Memory → SProp 𝓤) (run : Routine → Fun 𝓤)
     → next.clauses 𝓤 H A mem run ≡ overReader 𝓤 step (wordAfter 𝓤)
 promised 𝓤 H A mem run = refl

@@ -23,7 +23,7 @@ use Rattle.reader.proofs.rest as rest
 use Rattle.reader.proofs.rest.Statement as stated
 use Rattle.reader.proofs.rest.Code as code
 
--- its contract is the promise `restAfter`, over a reader
+-- to be read, and cited by nothing, since the two compute alike: its contract is the promise `restAfter`, over a reader
 promised : {M : Type 1} (𝓤 : URA M) (H : Heap 𝓤) (A : Atoms 𝓤) (mem : Memory → SProp 𝓤) (run : Routine → Fun 𝓤)
     → rest.clauses 𝓤 H A mem run ≡ overReader 𝓤 slice (restAfter 𝓤)
 promised 𝓤 H A mem run = refl

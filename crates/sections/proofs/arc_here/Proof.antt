@@ -4,21 +4,12 @@ use borrow.Author.Tests.{eq-eqb, ne-eqb}
 use Rattle.sections.proofs.arc_here.Statement.{statement}
 use Rattle.sections.proofs.arc_here.Tie as tie
 
-kind-at-requires : tie.Need-kind-at-requires
-kind-at-requires c κs = search needs
-
 returns : tie.Need-returns
 returns c = rw (← c .before .kind-at .ensures, ne-eqb _ _ (c .if1 .taken))
-
-add-kind-at : tie.Need-add-kind-at
-add-kind-at c = search needs
-
-kind-at-requires-2 : tie.Need-kind-at-requires-2
-kind-at-requires-2 c κs = search needs
 
 returns-2 : tie.Need-returns-2
 returns-2 c = rw (← c .before .before .kind-at .ensures, eq-eqb _ _ (c .before .if1 .left), ← c .kind-at2 .ensures)
 
 pub arc-here-spec : {M : Type 1} → statement M
 arc-here-spec =
-    tie.close (tie.spec kind-at-requires returns add-kind-at kind-at-requires-2 returns-2)
+    tie.close (tie.spec (λ c κs. search needs) returns (λ c. search needs) (λ c κs. search needs) returns-2)
