@@ -3,13 +3,13 @@
 use Prim.Native.Nat.{ℕ, zero, suc, _+_, _-_, _*_, _/_, _<_, _≤_}
 use mathlib.Core.Bool.{Bool, true, false, not, _&&_, _||_}
 use mathlib.Core.List.{List}
-use mathlib.Core.Logic.{_≢_, _⊎_, inl, inr, ⊎-elim}
+use mathlib.Core.Logic.{_⊎_, inl, inr, ⊎-elim}
 use mathlib.Core.Path.{_≡_, refl, sym, ap, _∙_}
 use borrow.Author.Tests.{eqb-true, ne-eqb, lt-ltb, le-ltb}
 use native.Mathlib.Omega.{arith}
 use lib.Dec.{eqb}
 use Rattle.indices.specs.Tests.{any, lead}
-use Rattle.indices.proofs.Steps.{eq-or-ne}
+use Rattle.indices.proofs.Steps.{by-equal}
 use Rattle.indices.proofs.Tests.{any-ext, any-front, lead-ext, and-left, and-right}
 use Rattle.sheet.specs.Words.{words, kind}
 use Rattle.sheet.specs.Sections.{isSpan, spansFrom, spanCount, isArc, arcsFrom, arcsAt, arcCount, regionWords}
@@ -37,8 +37,7 @@ region-ends before e = ⊎-elim (λ (h : before ≡ 6). rw h) (λ (h : before �
 -- a kind that is 6 or 7
 pub region-before : (before : ℕ) → 4 ≤ before → before < 8 → (before ≡ 4 → ⊥) → (before ≡ 5 → ⊥) → regionKind before ≡ true
 unfolding regionKind
-region-before before low high four five = ⊎-elim (λ (h : before ≡ 6). rw h) (λ (h : before ≢ 6). let seven : before ≡ 7 = omega arith in rw seven)
-    (eq-or-ne before 6)
+region-before before low high four five = by-equal before 6 (λ six. rw six) (λ other. let seven : before ≡ 7 = omega arith in rw seven)
 
 -- a kind that no sheet has
 pub none-follows : (before k : ℕ) → 8 ≤ before → mayFollow before k ≡ false
@@ -49,8 +48,7 @@ none-follows before k l = rw (
   other 2 (omega arith),
   other 3 (omega arith),
   other 4 (omega arith),
-  other 5
-      (omega arith),
+  other 5 (omega arith),
   other 6 (omega arith),
   other 7 (omega arith),
 )
@@ -206,7 +204,7 @@ span-follows before k e = at (eqb before 2) refl
 
 -- a kind that is 2 or 3
 pub span-before : (before : ℕ) → before < 4 → (before ≡ 0 → ⊥) → (before ≡ 1 → ⊥) → eqb before 2 || eqb before 3 ≡ true
-span-before before high zero′ one = ⊎-elim (λ (h : before ≡ 2). rw h) (λ (h : before ≢ 2). let three : before ≡ 3 = omega arith in rw three) (eq-or-ne before 2)
+span-before before high zero′ one = by-equal before 2 (λ two. rw two) (λ other. let three : before ≡ 3 = omega arith in rw three)
 
 span-ends : (before : ℕ) → eqb before 2 || eqb before 3 ≡ true → mayEnd before ≡ true
 unfolding mayEnd
@@ -255,7 +253,7 @@ after-span before kinds (suc n) e =
 -- a sheet may not end at its front or after kind 1, and after a kind above that it may, but for kind 4
 pub front-ends-not : (before : ℕ) → before < 2 → mayEnd before ≡ false
 unfolding mayEnd
-front-ends-not before l = ⊎-elim (λ (h : before ≡ 0). rw h) (λ (h : before ≢ 0). let one : before ≡ 1 = omega arith in rw one) (eq-or-ne before 0)
+front-ends-not before l = by-equal before 0 (λ front. rw front) (λ other. let one : before ≡ 1 = omega arith in rw one)
 
 pub later-ends : (before : ℕ) → 2 ≤ before → (before ≡ 4 → ⊥) → mayEnd before ≡ true
 unfolding mayEnd

@@ -31,9 +31,9 @@ step-word b c w next e = go (ltb (c .at) (words b)) refl e
     go false h e = let z : _≡_ {A = ℕ} 0 1 = cc in absurd (omega arith)
 
 -- the kind that was read
-pub step-kind : (b : List ℕ) (c : Cursor) (w k : ℕ) (next : Cursor) → Stepped b c w next → k ≡ kindOf w → k ≡ kind b (c .at)
+pub step-kind : {b : List ℕ} {c next : Cursor} {w k : ℕ} → Stepped b c w next → k ≡ kindOf w → k ≡ kind b (c .at)
 unfolding kind
-step-kind b c w k next st e = e ∙ ap kindOf (st .read)
+step-kind st e = e ∙ ap kindOf (st .read)
 
 pub step-end : (b : List ℕ) (c : Cursor) → stepAt b c ≡ End → words b ≤ c .at
 step-end b c e = go (ltb (c .at) (words b)) refl e
@@ -84,26 +84,27 @@ step-rest b before at l = go (words b - (at + 1)) refl
         (ap (λ (r : Bool). mayFollow before (kind b at) && r)
         (follow-ext (kind b at) (λ i. kind b (at + suc i)) (λ i. kind b (at + 1 + i)) m (λ i. ap (kind b) (omega arith))))
 
--- a word that may follow
-pub pass-on : (b : List ℕ) (before at : ℕ) → at < words b → mayFollow before (kind b at) ≡ true → Passing b before at → Passing b (kind b at) (at + 1)
-pass-on b before at l ok p = record {
-  inside = omega arith;
-  same = sym (step-rest b before at l ∙ ap (λ (t : Bool). t && rest b (kind b at) (at + 1)) ok) ∙ p .same;
-}
+module _ {b : List ℕ} {before at : ℕ} (p : Passing b before at) where
+  -- a word that may follow
+  pub pass-on : at < words b → mayFollow before (kind b at) ≡ true → Passing b (kind b at) (at + 1)
+  pass-on l ok = record {
+    inside = omega arith;
+    same = sym (step-rest b before at l ∙ ap (λ (t : Bool). t && rest b (kind b at) (at + 1)) ok) ∙ p .same;
+  }
 
--- a word that may not
-pub pass-stop : (b : List ℕ) (before at : ℕ) → at < words b → mayFollow before (kind b at) ≡ false → Passing b before at → outOfOrder b ≡ true
-pass-stop b before at l bad p =
-    not-false (outOfOrder b) (sym (p .same) ∙ step-rest b before at l ∙ ap (λ (t : Bool). t && rest b (kind b at) (at + 1)) bad)
+  -- a word that may not
+  pub pass-stop : at < words b → mayFollow before (kind b at) ≡ false → outOfOrder b ≡ true
+  pass-stop l bad =
+      not-false (outOfOrder b) (sym (p .same) ∙ step-rest b before at l ∙ ap (λ (t : Bool). t && rest b (kind b at) (at + 1)) bad)
 
--- the end
-pub pass-end : (b : List ℕ) (before at : ℕ) → words b ≤ at → Passing b before at → not (mayEnd before) ≡ outOfOrder b
-unfolding rest followOn
-pass-end b before at l p =
-    let none : words b - at ≡ 0 = omega arith in
-    let same : mayEnd before ≡ not (outOfOrder b) = rw none at (p .same) in
-    rw same (twice (outOfOrder b))
-  where
-    twice : (t : Bool) → not (not t) ≡ t
-    twice true = refl
-    twice false = refl
+  -- the end
+  pub pass-end : words b ≤ at → not (mayEnd before) ≡ outOfOrder b
+  unfolding rest followOn
+  pass-end l =
+      let none : words b - at ≡ 0 = omega arith in
+      let same : mayEnd before ≡ not (outOfOrder b) = rw none at (p .same) in
+      rw same (twice (outOfOrder b))
+    where
+      twice : (t : Bool) → not (not t) ≡ t
+      twice true = refl
+      twice false = refl

@@ -1,18 +1,24 @@
 -- `may_follow` meets its contract: by the kind before.
-use mathlib.Core.Path.{sym}
+use mathlib.Core.Bool.{true, _||_}
+use mathlib.Core.Path.{_≡_, sym}
 use borrow.Author.Needs.{needs}
 use borrow.Author.Tests.{eq-eqb, ne-eqb}
-use Rattle.order.specs.Kinds.{mayFollow}
+use lib.Dec.{eqb}
+use Rattle.order.specs.Kinds.{regionKind, mayFollow}
 use Rattle.order.proofs.Order.{region-follows, region-before, none-follows, span-follows, span-before}
 use Rattle.order.proofs.may_follow.Statement.{statement}
 use Rattle.order.proofs.may_follow.Tie as tie
 
+-- the kind before is 2 or 3
+span : (c : tie.Then1) → let before = c .before .before .args .before in eqb before 2 || eqb before 3 ≡ true
+span c = span-before _ (c .if1 .taken) (search needs) (search needs)
+
+-- it is 6 or 7
+region : (c : tie.Then3) → regionKind (c .before .before .before .args .before) ≡ true
+region c = region-before _ (c .before .if1 .left) (c .if3 .taken) (search needs) (search needs)
+
 returns : tie.Need-returns
-returns c = rw (
-  span-follows _ _ (span-before _ (c .before .if1 .taken) (c .before .before .match .rest .0 .0 .0 .1)
-      (c .before .before .match .rest .0 .0 .1)),
-  eq-eqb _ _ (c .if2 .taken),
-)
+returns c = rw (span-follows _ _ (span (c .before)), eq-eqb _ _ (c .if2 .taken))
 
 returns-2 : tie.Need-returns-2
 unfolding mayFollow
@@ -31,24 +37,17 @@ unfolding mayFollow
 returns-5 c = rw (c .before .match .keys4) (c .arc-or-region .ensures)
 
 returns-6 : tie.Need-returns-6
-returns-6 c =
-    let match = c .before .before .before .match in
-    rw (span-follows _ _ (span-before _ (c .before .before .if1 .taken) (match .rest .0 .0 .0 .1) (match .rest .0 .0 .1)), ne-eqb _ _ (c .before .if2 .left))
-    (c .arc-or-region2 .ensures)
+returns-6 c = rw (span-follows _ _ (span (c .before .before)), ne-eqb _ _ (c .before .if2 .left)) (c .arc-or-region2 .ensures)
 
 returns-7 : tie.Need-returns-7
-returns-7 c =
-    let match = c .before .before .before .match in
-    rw (region-follows _ _ (region-before _ (c .before .before .if1 .left) (c .before .if3 .taken) (match .rest .0 .1) (match .rest .1)))
-    (c .region-kind .ensures)
+returns-7 c = rw (region-follows _ _ (region (c .before))) (c .region-kind .ensures)
 
 returns-8 : tie.Need-returns-8
 returns-8 c = sym (none-follows _ _ (c .if3 .left))
 
 pub may-follow-spec : {M : Type 1} → statement M
 may-follow-spec =
-    tie.close
-    (tie.spec
+    tie.close (tie.spec
     (λ c κs. search needs)
     returns
     (λ c κs. search needs)
