@@ -5,9 +5,6 @@ use Rattle.sheet.proofs.Bounds.{spans-le}
 use Rattle.field_limits.proofs.span_outside.Statement.{statement}
 use Rattle.field_limits.proofs.span_outside.Tie as tie
 
-span-at-requires : tie.Need-span-at-requires
-span-at-requires c κs = omega (arith, spans-le (c .before .args .s .now) 2)
-
 returns : tie.Need-returns
 returns c = rw (← c .before .span-at .ensures, lt-ltb _ _ (c .if1 .taken))
 
@@ -15,4 +12,4 @@ returns-2 : tie.Need-returns-2
 returns-2 c = rw (← c .before .span-at .ensures, le-ltb _ _ (c .if1 .left))
 
 pub span-outside-spec : {M : Type 1} → statement M
-span-outside-spec = tie.close (tie.spec span-at-requires returns returns-2)
+span-outside-spec = tie.close (tie.spec (λ c κs. omega (arith, spans-le (c .before .args .s .now) 2)) returns returns-2)
