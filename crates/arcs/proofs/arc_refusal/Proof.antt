@@ -1,36 +1,36 @@
 -- `arc_refusal` meets its contract: each stage where none before it refuses.
-use mathlib.Core.Path.{sym, ap, _∙_}
+use Prim.Native.Nat.{ℕ}
+use mathlib.Core.Bool.{false}
+use mathlib.Core.List.{List}
+use mathlib.Core.Path.{_≡_, sym, ap, _∙_}
 use borrow.Author.Needs.{needs}
-use Rattle.sheet.specs.Answer.{numbered}
+use Rattle.sheet.specs.Answer.{numbered, accepted, lowest}
 use Rattle.sheet.proofs.Lowest.{clear-at, stage-stops}
+use Rattle.refusals.specs.Fields.{endsOutside, lengthsOutside}
 use Rattle.refusals.specs.Judgement.{arcRefusals}
 use Rattle.arcs.specs.Fields.{fieldRefusals}
 use Rattle.arcs.proofs.arc_refusal.Statement.{statement}
 use Rattle.arcs.proofs.arc_refusal.Tie as tie
 
-returns : tie.Need-returns
-unfolding arcRefusals
-returns c = stage-stops (fieldRefusals _) _ _ (c .if1 .taken) (c .before .field-refusal .ensures)
+abbrev sheet : tie.Else1 → List ℕ
+sheet c = c .before .before .before .args .s .now
 
-crowded-nodes-requires : tie.Need-crowded-nodes-requires
-crowded-nodes-requires c κs =
-    let pre = c .before .before .before .pre in
-    (pre .0, pre .1, pre .2, clear-at (fieldRefusals _) (sym (c .before .field-refusal .ensures) ∙ ap numbered (c .if1 .left)) 0)
+-- where the first stage refuses nothing, neither 8 nor 9 applies
+clear : (c : tie.Else1) → lowest (fieldRefusals (sheet c)) accepted ≡ accepted
+clear c = sym (c .before .field-refusal .ensures) ∙ ap numbered (c .if1 .left)
 
-returns-2 : tie.Need-returns-2
-unfolding arcRefusals
-returns-2 c =
-    let field = c .before .before .before .field-refusal in
-    let clear = clear-at (fieldRefusals _) (sym (field .ensures) ∙ ap numbered (c .before .before .if1 .left)) in
-    rw (clear 0, clear 1, sym (c .before .crowded-nodes .ensures) ∙ c .if2 .taken)
+ends-in : (c : tie.Else1) → endsOutside (sheet c) ≡ false
+ends-in c = clear-at (fieldRefusals _) (clear c) 0
 
-returns-3 : tie.Need-returns-3
-unfolding arcRefusals
-returns-3 c =
-    let field = c .before .before .before .field-refusal in
-    let clear = clear-at (fieldRefusals _) (sym (field .ensures) ∙ ap numbered (c .before .before .if1 .left)) in
-    rw (clear 0, clear 1, sym (c .before .crowded-nodes .ensures) ∙ c .if2 .left)
+lengths-in : (c : tie.Else1) → lengthsOutside (sheet c) ≡ false
+lengths-in c = clear-at (fieldRefusals _) (clear c) 1
 
 pub arc-refusal-spec : {M : Type 1} → statement M
+unfolding arcRefusals
 arc-refusal-spec =
-    tie.close (tie.spec (λ c κs. search needs) returns crowded-nodes-requires returns-2 returns-3)
+    tie.close (tie.spec
+    (λ c κs. search needs)
+    (λ c. stage-stops (fieldRefusals _) _ _ (c .if1 .taken) (c .before .field-refusal .ensures))
+    (λ c κs. let ends = ends-in c in search needs)
+    (λ c. rw (ends-in (search needs), lengths-in (search needs), sym (c .before .crowded-nodes .ensures) ∙ c .if2 .taken))
+    (λ c. rw (ends-in (search needs), lengths-in (search needs), sym (c .before .crowded-nodes .ensures) ∙ c .if2 .left)))

@@ -1,8 +1,9 @@
 -- `field_refusal` meets its contract: the two flags say what was found among the arcs passed.
-use borrow.Author.Needs.{needs}
-use Prim.Native.Nat.{_-_, _≤_}
+use Prim.Native.Nat.{ℕ, _+_, _-_, _≤_}
+use mathlib.Core.List.{List}
 use mathlib.Core.Logic.{⊎-elim}
 use mathlib.Core.Path.{_≡_, sym, ap, _∙_}
+use borrow.Author.Needs.{needs}
 use borrow.Author.Tests.{lt-ltb, le-ltb}
 use native.Mathlib.Omega.{arith}
 use lib.Dec.{ltb}
@@ -21,81 +22,61 @@ Inv-loop s at arcs outside₀ long₀ a₀ outside long a = (a ≤ arcCount s) �
 abbrev μ-loop : tie.MeasureT-loop
 μ-loop s at arcs outside₀ long₀ a₀ outside long a = arcCount s - a
 
--- the places of the function that answers look back to
-abbrev Start : Type 0
-Start = tie.Start Inv-loop μ-loop
+-- THE PLACES: a turn of the loop, and where each of its tests has set a flag or not
+abbrev Turn : Type 0
+Turn = tie.At-loop Inv-loop μ-loop
 
-abbrev At-loop : Type 0
-At-loop = tie.At-loop Inv-loop μ-loop
+abbrev sheet : Turn → List ℕ
+sheet c = c .before .before .before .args .s .now
 
-loop-holds : tie.Need-loop-holds Inv-loop μ-loop
-loop-holds c = (omega arith, sym (any-none _), sym (any-none _))
+abbrev Ends : Type 0
+Ends = tie.Joined1 Inv-loop μ-loop
 
-ends-outside-requires : tie.Need-ends-outside-requires Inv-loop μ-loop
-ends-outside-requires c κs =
-    let start : Start = search needs in
-    let pre = start .pre in
-    (pre .0, omega arith)
+abbrev turn : Ends → Turn
+turn c = c .before .before .before
 
-length-at-requires : tie.Need-length-at-requires Inv-loop μ-loop
-length-at-requires c κs =
-    let start : Start = search needs in
-    (start .pre .0, omega arith)
+-- each flag tells of one arc more
+ends-told : (c : Ends) → c .if1 .outside ≡ any (endOutside (sheet (turn c))) (turn c .loop .a + 1)
+ends-told c =
+    let loop = turn c .loop in
+    let seen = sym (c .before .ends-outside .ensures) in
+    ⊎-elim (λ w. flag-set _ (loop .a) _ (w .1) (seen ∙ w .0 .taken))
+    (λ w. flag-kept _ (loop .a) _ (w .1 ∙ loop .inv .1) (seen ∙ w .0 .left)) (c .if1 .came)
 
-loop-again : tie.Need-loop-again Inv-loop μ-loop
-loop-again c =
-    let at-loop : At-loop = search needs in
-    let ends-outside = c .before .before .before .ends-outside .ensures in
-    let length = ap (ltb mostLength) (sym (c .before .length-at .ensures)) in
-    let loop = at-loop .loop in (
-      omega arith,
-      ⊎-elim
-          (λ w. flag-set _ (loop .a) _ (w .1) (sym ends-outside ∙ w .0 .taken))
-          (λ w. flag-kept _ (loop .a) _ (w .1 ∙ loop .inv .1) (sym ends-outside ∙ w .0 .left))
-          (c .before .before .if1 .came),
-      ⊎-elim
-          (λ w. flag-set _ (loop .a) _ (w .1) (length ∙ lt-ltb _ _ (w .0 .taken)))
-          (λ w. flag-kept _ (loop .a) _ (w .1 ∙ loop .inv .2) (length ∙ le-ltb _ _ (w .0 .left)))
-          (c .if2 .came),
-    )
+length-told : (c : tie.Joined2 Inv-loop μ-loop) → let here = turn (c .before .before) in c .if2 .long ≡ any (tooLong (sheet here)) (here .loop .a + 1)
+length-told c =
+    let loop = turn (c .before .before) .loop in
+    let seen = ap (ltb mostLength) (sym (c .before .length-at .ensures)) in
+    ⊎-elim (λ w. flag-set _ (loop .a) _ (w .1) (seen ∙ lt-ltb _ _ (w .0 .taken)))
+    (λ w. flag-kept _ (loop .a) _ (w .1 ∙ loop .inv .2) (seen ∙ le-ltb _ _ (w .0 .left))) (c .if2 .came)
 
--- after the last arc
-ends-found : (c : tie.After-loop Inv-loop μ-loop) → endsOutside (c .before .before .before .before .args .s .now) ≡ c .before .loop .outside
+-- after the last arc they tell of all
+abbrev Done : Type 0
+Done = tie.After-loop Inv-loop μ-loop
+
+all-passed : (c : Done) → c .before .loop .a ≡ arcCount (sheet (c .before))
+all-passed c = let start : tie.Start Inv-loop μ-loop = search needs in omega (arith, start .pre .0 .arcs-all)
+
+ends-found : (c : Done) → endsOutside (sheet (c .before)) ≡ c .before .loop .outside
 unfolding endsOutside
-ends-found c =
-    let start = c .before .before .before .before in
-    let done : c .before .loop .a ≡ arcCount (start .args .s .now) = omega (arith, start .pre .0 .arcs-all) in
-    sym (rw done at (c .before .loop .inv .1))
+ends-found c = sym (rw (all-passed c) at (c .before .loop .inv .1))
 
-lengths-found : (c : tie.After-loop Inv-loop μ-loop) → lengthsOutside (c .before .before .before .before .args .s .now) ≡ c .before .loop .long
+lengths-found : (c : Done) → lengthsOutside (sheet (c .before)) ≡ c .before .loop .long
 unfolding lengthsOutside
-lengths-found c =
-    let start = c .before .before .before .before in
-    let done : c .before .loop .a ≡ arcCount (start .args .s .now) = omega (arith, start .pre .0 .arcs-all) in
-    sym (rw done at (c .before .loop .inv .2))
-
-returns : tie.Need-returns Inv-loop μ-loop
-returns c = rw (ends-found (c .before) ∙ c .if3 .taken)
-
-returns-2 : tie.Need-returns-2 Inv-loop μ-loop
-returns-2 c = rw (ends-found (c .before .before) ∙ c .before .if3 .left, lengths-found (c .before .before) ∙ c .if4 .taken)
-
-returns-3 : tie.Need-returns-3 Inv-loop μ-loop
-returns-3 c = rw (ends-found (c .before .before) ∙ c .before .if3 .left, lengths-found (c .before .before) ∙ c .if4 .left)
+lengths-found c = sym (rw (all-passed c) at (c .before .loop .inv .2))
 
 pub field-refusal-spec : {M : Type 1} → statement M
 field-refusal-spec =
-    tie.close
-    (tie.spec
+    tie.close (tie.spec
     Inv-loop
     μ-loop
     (λ c. omega arith)
-    loop-holds
-    ends-outside-requires
-    length-at-requires
+    (λ c. (omega arith, sym (any-none _), sym (any-none _)))
+    (λ c κs. search needs)
+    (λ c κs. search needs)
     (λ c. omega arith)
     (λ c. omega arith)
-    loop-again
-    returns
-    returns-2
-    returns-3)
+    (λ c. (omega arith, ends-told (c .before .before), length-told c))
+    (λ c. rw (ends-found (c .before) ∙ c .if3 .taken))
+    (λ c. rw (ends-found (c .before .before) ∙ c .before .if3 .left, lengths-found (c .before .before) ∙ c .if4 .taken))
+    (λ c. rw (ends-found (c .before .before) ∙ c .before .if3 .left, lengths-found (c .before .before) ∙ c .if4 .left)))
