@@ -9,6 +9,7 @@ use native.Mathlib.Omega.{arith}
 use mir.Val.{boolByte}
 use lib.ListN.{length, getD, set}
 use Rattle.indices.specs.Tally.{Tally}
+use Rattle.indices.proofs.Tests.{count-le}
 use Rattle.indices.proofs.Tally.{tally-in, tally-out}
 use Rattle.sheet.specs.Regions.{leafWord, arcWord}
 use Rattle.refusals.specs.Nesting.{leafOfArc}
@@ -34,10 +35,14 @@ module _ (d : List ℕ) where
   counts-for-none : (k v : ℕ) → leafWord d k ≡ false → leafOfArc d v k ≡ false
   counts-for-none k v inner = rw inner
 
-  -- word k adds 1 to the counter of its arc's number if it is a leaf, and else 0
-  pub word-counted : (top : ℕ) (seen : List ℕ) (k i : ℕ) (leaf : Bool) → i ≡ arcWord d k → leaf ≡ leafWord d k → i < length seen → getD seen i 0 < top
-      → Tally (leafOfArc d) top seen k → Tally (leafOfArc d) top (set seen i (getD seen i 0 + boolByte leaf)) (k + 1)
-  word-counted top seen k i true e el inside room t =
-      tally-in (leafOfArc d) top seen k t i inside (leaf-counts k i (sym el) e) (λ v. counts-for-one k i v e) room
-  word-counted top seen k i false e el inside room t =
-      rw (set-kept seen i (getD seen i 0 + 0) inside (omega arith)) (tally-out (leafOfArc d) top seen k t (λ v. counts-for-none k v (sym el)))
+  -- the counters tell of the words before word k, which are fewer than top
+  module _ {top : ℕ} {seen : List ℕ} {k : ℕ} (t : Tally (leafOfArc d) top seen k) (few : k < top) (i : ℕ) (inside : i < length seen) where
+    -- so that a counter has room
+    pub room : getD seen i 0 < top
+    room = omega (arith, t .counts i inside, count-le (leafOfArc d i) k)
+
+    -- word k adds 1 to the counter of its arc's number if it is a leaf, and else 0
+    pub word-counted : (leaf : Bool) → leaf ≡ leafWord d k → i ≡ arcWord d k → Tally (leafOfArc d) top (set seen i (getD seen i 0 + boolByte leaf)) (k + 1)
+    word-counted true el e = tally-in (leafOfArc d) top seen k t i inside (leaf-counts k i (sym el) e) (λ v. counts-for-one k i v e) room
+    word-counted false el e =
+        rw (set-kept seen i (getD seen i 0 + 0) inside (omega arith)) (tally-out (leafOfArc d) top seen k t (λ v. counts-for-none k v (sym el)))

@@ -2,14 +2,13 @@
 use Prim.Native.Nat.{ℕ, _<_, _≤_}
 use mathlib.Core.Bool.{Bool, true, false, not, _&&_, or-true}
 use mathlib.Core.List.{List}
-use mathlib.Core.Logic.{⊎-elim}
 use mathlib.Core.Path.{_≡_, refl, sym, _∙_}
 use borrow.Author.Tests.{eqb-true, eq-eqb, ne-eqb, lt-ltb, le-ltb, le-leb, lt-leb, not-false}
 use native.Mathlib.Omega.{arith}
 use mir.Val.{boolByte}
 use lib.Dec.{ltb, leb, eqb}
 use Rattle.indices.specs.Tests.{any, count}
-use Rattle.indices.proofs.Steps.{lt-or-le}
+use Rattle.indices.proofs.Steps.{by-order}
 use Rattle.indices.proofs.Tests.{and-left, and-right, any-at, any-hit, any-false, count-hit, count-some}
 use Rattle.sheet.specs.Words.{words}
 use Rattle.sheet.specs.Regions.{leafWord, arcWord}
@@ -50,14 +49,13 @@ module _ (d : List ℕ) where
     pub one-wrong : (a : ℕ) → (count (leafOfArc d a) (words d) ≡ wanted a → ⊥) → wrongLeaves d arcs ≡ true
     unfolding wrongLeaves
     one-wrong a ne =
-        ⊎-elim
-        (λ (l : a < arcs).
+        by-order a arcs
+        (λ l.
         let wrong : notOneLeaf d a ≡ true = rw (ne-eqb (count (leafOfArc d a) (words d)) 1 (λ e. ne (e ∙ sym (one-wanted a l)))) in
         rw (any-hit (notOneLeaf d) a arcs l wrong, or-true))
-        (λ (l : arcs ≤ a).
+        (λ l.
         let some : (k : ℕ) × (k < words d) × (leafOfArc d a k ≡ true) = count-some (leafOfArc d a) (words d) (not-zero (λ e. ne (e ∙ sym (none-wanted a l)))) in
         rw (any-hit (noSuchArc d arcs) (some .0) (words d) (some .1) (beyond (some .0) a l (some .2))))
-        (lt-or-le a arcs)
       where
         not-zero : (count (leafOfArc d a) (words d) ≡ 0 → ⊥) → 0 < count (leafOfArc d a) (words d)
         not-zero ne = omega arith
@@ -78,12 +76,11 @@ module _ (d : List ℕ) where
           where
             at : (b : Bool) → leafWord d k ≡ b → b && leb arcs (arcWord d k) ≡ false
             at true leaf =
-                ⊎-elim (λ (lt : arcWord d k < arcs). lt-leb arcs (arcWord d k) lt)
-                (λ (le : arcs ≤ arcWord d k). absurd (omega (
+                by-order (arcWord d k) arcs (λ lt. lt-leb arcs (arcWord d k) lt)
+                (λ le. absurd (omega (
                   arith,
                   count-hit (leafOfArc d (arcWord d k)) k (words d) l (leaf-counts d k (arcWord d k) leaf refl),
                   right (arcWord d k) (arc-below k),
                   none-wanted (arcWord d k) le,
                 )))
-                (lt-or-le (arcWord d k) arcs)
             at false inner = refl

@@ -31,6 +31,6 @@ arc-refusal-spec =
     tie.close (tie.spec
     (λ c κs. search needs)
     (λ c. stage-stops (fieldRefusals _) _ _ (c .if1 .taken) (c .before .field-refusal .ensures))
-    (λ c κs. let ends = ends-in c in search needs)
+    (λ c κs. search (needs, ends-in))
     (λ c. rw (ends-in (search needs), lengths-in (search needs), sym (c .before .crowded-nodes .ensures) ∙ c .if2 .taken))
     (λ c. rw (ends-in (search needs), lengths-in (search needs), sym (c .before .crowded-nodes .ensures) ∙ c .if2 .left)))
