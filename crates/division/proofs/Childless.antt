@@ -2,14 +2,13 @@
 use Prim.Native.Nat.{ℕ, zero, suc, max, _-_, _<_, _≤_}
 use mathlib.Core.Bool.{Bool, true, false, not, _&&_, true≢false}
 use mathlib.Core.List.{List}
-use mathlib.Core.Logic.{_≢_, ⊎-elim}
 use mathlib.Core.Path.{_≡_, refl, sym, ap, _∙_}
 use borrow.Author.Tests.{eqb-true, eqb-false, eq-eqb, ne-eqb}
 use native.Mathlib.Omega.{arith}
-use lib.ListN.{length, getD, replicate}
+use lib.ListN.{length, getD, replicate, length-set, length-replicate}
 use lib.Dec.{eqb}
 use Rattle.indices.specs.Tests.{count}
-use Rattle.indices.proofs.Steps.{eq-or-ne}
+use Rattle.indices.proofs.Steps.{by-equal}
 use Rattle.indices.proofs.Tests.{any-hit, any-false, count-hit, count-out-all}
 use Rattle.sheet.specs.Limits.{mostRegionWords}
 use Rattle.sheet.specs.Words.{words}
@@ -37,12 +36,16 @@ aboveOf d = above (isLeaf d) (parent d) (regionCount d)
 
 -- after the turns of the regions above r: what each region holds, and that each of those is a leaf or has a child
 pub record Passed (d best : List ℕ) (r : ℕ) : Type 0 where
+  pub inside : r ≤ words d
+  pub long : length best ≡ 4096
   pub handed : Handed (parent d) (aboveOf d) (regionCount d) best r
   pub with-child : (k : ℕ) → r ≤ k → k < words d → childless d k ≡ false
 
-pub passed-start : (d : List ℕ) (size r : ℕ) → r ≡ words d → Passed d (replicate size 0) r
-passed-start d size r e = record {
-  handed = handed-start (parent d) (aboveOf d) (regionCount d) size r (omega arith);
+pub passed-start : (d : List ℕ) (r : ℕ) → r ≡ words d → Passed d (replicate 4096 0) r
+passed-start d r e = record {
+  inside = omega arith;
+  long = simp length-replicate;
+  handed = handed-start (parent d) (aboveOf d) (regionCount d) 4096 r (omega arith);
   with-child = λ k l m. absurd (omega arith);
 }
 
@@ -73,11 +76,10 @@ module _ (d : List ℕ) (ok : wrongParents d ≡ false) (few : words d ≤ mostR
       each (suc j) lc = no-child j (omega arith) (childOf d (suc k) j) refl
 
   -- an inner region that holds 0 when its turn comes
-  pub found-childless : (best : List ℕ) (r : ℕ) → 0 < r → r ≤ words d → r < length best → Passed d best r → holdsNone d best r ≡ true
-      → childlessRegions d ≡ true
+  pub found-childless : {best : List ℕ} {r : ℕ} → Passed d best r → 0 < r → holdsNone d best r ≡ true → childlessRegions d ≡ true
   unfolding childlessRegions
-  found-childless best zero pos l lr t none = absurd (omega arith)
-  found-childless best (suc k) pos l lr t none =
+  found-childless {best} {r = zero} t pos none = absurd (omega arith)
+  found-childless {best} {r = suc k} t pos none =
       any-hit (childless d) k (words d) (omega arith)
       (rw (held .1, eq-eqb (count (childOf d (suc k)) (words d)) 0 (count-out-all (childOf d (suc k)) (words d) (λ j lj. at j lj (childOf d (suc k) j) refl))))
     where
@@ -85,7 +87,7 @@ module _ (d : List ℕ) (ok : wrongParents d ≡ false) (few : words d ≤ mostR
       held = inner-none (getD best (suc k) 0) (leafWord d k) none
 
       at : (j : ℕ) → j < words d → (b : Bool) → childOf d (suc k) j ≡ b → childOf d (suc k) j ≡ false
-      at j lj true e = absurd (omega (arith, held .0, child-hands k j (omega arith) lj e, t .handed .entry (suc k) lr))
+      at j lj true e = absurd (omega (arith, held .0, child-hands k j (omega arith) lj e, t .handed .entry (suc k) (omega arith)))
       at j lj false e = e
 
   -- a region that is a leaf if it holds 0 is not childless
@@ -97,29 +99,30 @@ module _ (d : List ℕ) (ok : wrongParents d ≡ false) (few : words d ≤ mostR
       at false inner = ne-eqb (count (childOf d (suc k)) (words d)) 0 (λ e. true≢false (sym (settled (none-hands k l e)) ∙ inner))
 
   -- what a region holds is a height at most
-  pub passed-le : (best : List ℕ) (r : ℕ) → r < length best → Passed d best r → getD best r 0 ≤ suc (regionCount d)
-  passed-le best r lr t = omega (arith, t .handed .entry r lr, held-le (isLeaf d) (parent d) (regionCount d) r)
+  pub passed-le : {best : List ℕ} {r : ℕ} → Passed d best r → getD best r 0 ≤ suc (regionCount d)
+  passed-le {best} {r} t = omega (arith, t .handed .entry r (omega arith), held-le (isLeaf d) (parent d) (regionCount d) r)
 
   -- region r hands up to its parent
-  pub passed-turn : (best : List ℕ) (r : ℕ) → 0 < r → r ≤ words d → r < length best → holdsNone d best r ≡ false → Passed d best r
-      → Passed d (handedUp d best r) (r - 1)
-  passed-turn best zero pos l lr some t = absurd (omega arith)
-  passed-turn best (suc k) pos l lr some t = record {
+  pub passed-turn : {best : List ℕ} {r : ℕ} → Passed d best r → 0 < r → holdsNone d best r ≡ false → Passed d (handedUp d best r) (r - 1)
+  passed-turn {best} {r = zero} t pos some = absurd (omega arith)
+  passed-turn {best} {r = suc k} t pos some = record {
+    inside = omega arith;
+    long = simp length-set (t .long);
     handed =
-        held-turn (isLeaf d) (parent d) (regionCount d) nests best (suc k) (parent d (suc k)) _ pos (omega arith) lr
+        held-turn (isLeaf d) (parent d) (regionCount d) nests best (suc k) (parent d (suc k)) _ pos (omega arith) (omega arith)
         (omega (arith, nests .lower (suc k) pos (omega arith))) refl settled refl (t .handed);
-    with-child = λ j lj mj. ⊎-elim (λ (e : j ≡ k). rw e (has-child k (omega arith) (λ z. settled (t .handed .entry (suc k) lr ∙ z))))
-        (λ (ne : j ≢ k). t .with-child j (omega arith) mj) (eq-or-ne j k);
+    with-child = λ j lj mj. by-equal j k (λ e. rw e (has-child k (omega arith) (λ z. settled (t .handed .entry (suc k) (omega arith) ∙ z))))
+        (λ ne. t .with-child j (omega arith) mj);
   }
     where
       settled : getD best (suc k) 0 ≡ 0 → leafWord d k ≡ true
       settled = none-leaf (getD best (suc k) 0) (leafWord d k) some
 
   -- after the last turn: refusal 13 does not apply, and what region 0 holds is its height, or 0 where it has no child
-  pub all-passed : (best : List ℕ) → Passed d best 0 → childlessRegions d ≡ false
+  pub all-passed : {best : List ℕ} → Passed d best 0 → childlessRegions d ≡ false
   unfolding childlessRegions
-  all-passed best t = any-false (childless d) (words d) (λ k l. t .with-child k (omega arith) l)
+  all-passed t = any-false (childless d) (words d) (λ k l. t .with-child k (omega arith) l)
 
-  pub root-height : (best : List ℕ) → 0 < length best → Passed d best 0 → max 1 (getD best 0 0) ≡ height d 0
-  root-height best l t =
-      ap (max 1) (t .handed .entry 0 l) ∙ sym (inner-high (isLeaf d) (parent d) (regionCount d) nests 0 (omega arith) refl)
+  pub root-height : {best : List ℕ} → Passed d best 0 → max 1 (getD best 0 0) ≡ height d 0
+  root-height t =
+      ap (max 1) (t .handed .entry 0 (omega (arith, t .long))) ∙ sym (inner-high (isLeaf d) (parent d) (regionCount d) nests 0 (omega arith) refl)

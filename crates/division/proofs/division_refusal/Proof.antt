@@ -1,41 +1,29 @@
 -- `division_refusal` meets its contract: the tests in turn, each where none before it applies.
-use mathlib.Core.Path.{sym, _∙_}
+use mathlib.Core.Bool.{false}
+use mathlib.Core.Path.{_≡_, sym, _∙_}
 use borrow.Author.Needs.{needs}
+use Rattle.refusals.specs.Nesting.{wrongParents, wrongLeaves}
 use Rattle.refusals.specs.Judgement.{divisionRefusals}
 use Rattle.division.proofs.division_refusal.Statement.{statement}
 use Rattle.division.proofs.division_refusal.Tie as tie
 
-returns : tie.Need-returns
-unfolding divisionRefusals
-returns c = rw (sym (c .before .wrong-parents .ensures) ∙ c .if1 .taken)
+abbrev begin : tie.Else1 → tie.Start
+begin c = c .before .before .before
 
-returns-2 : tie.Need-returns-2
-unfolding divisionRefusals
-returns-2 c =
-    let wrong-parents = c .before .before .before .wrong-parents in
-    rw (sym (wrong-parents .ensures) ∙ c .before .before .if1 .left, sym (c .before .wrong-leaves .ensures) ∙ c .if2 .taken)
+-- 11 and 12 do not apply, where each was looked for
+parents-right : (c : tie.Else1) → wrongParents (begin c .args .d .now) ≡ false
+parents-right c = sym (c .before .wrong-parents .ensures) ∙ c .if1 .left
 
-nesting-refusal-requires : tie.Need-nesting-refusal-requires
-nesting-refusal-requires c κs =
-    let start : tie.Start = search needs in
-    let wrong-parents = c .before .before .before .wrong-parents in
-    (start .pre .0, sym (wrong-parents .ensures) ∙ c .before .before .if1 .left)
-
-returns-3 : tie.Need-returns-3
-unfolding divisionRefusals
-returns-3 c =
-    let after-wrong-parents : tie.After-wrong-parents = search needs in
-    let if1 = c .before .before .before .if1 in
-    rw (sym (after-wrong-parents .wrong-parents .ensures) ∙ if1 .left, sym (c .before .before .wrong-leaves .ensures) ∙ c .before .if2 .left)
-    (c .nesting-refusal .ensures)
+leaves-right : (c : tie.Else2) → let args = begin (c .before .before) .args in wrongLeaves (args .d .now) (args .arcs) ≡ false
+leaves-right c = sym (c .before .wrong-leaves .ensures) ∙ c .if2 .left
 
 pub division-refusal-spec : {M : Type 1} → statement M
+unfolding divisionRefusals
 division-refusal-spec =
-    tie.close
-    (tie.spec
+    tie.close (tie.spec
     (λ c κs. search needs)
-    returns
+    (λ c. rw (sym (c .before .wrong-parents .ensures) ∙ c .if1 .taken))
     (λ c κs. search needs)
-    returns-2
-    nesting-refusal-requires
-    returns-3)
+    (λ c. rw (parents-right (search needs), sym (c .before .wrong-leaves .ensures) ∙ c .if2 .taken))
+    (λ c κs. search (needs, parents-right))
+    (λ c. rw (parents-right (search needs), leaves-right (search needs)) (c .nesting-refusal .ensures)))

@@ -8,26 +8,22 @@ use Rattle.refusals.specs.Nesting.{childlessRegions, spansDiffer}
 use Rattle.division.proofs.nesting_refusal.Statement.{statement}
 use Rattle.division.proofs.nesting_refusal.Tie as tie
 
-returns : tie.Need-returns
-returns c = rw (sym (c .before .childless-regions .ensures .0) ∙ c .if1 .taken)
-
 -- where the pass found no childless region, the larger number is the height of region 0
-passed : (c : tie.After-larger) → let d = c .before .before .before .before .before .args .d .now in
+passed : (c : tie.After-larger) → let pass = c .before .before in let d = pass .before .before .before .args .d .now in
     (childlessRegions d ≡ false) × (c .larger .result ≡ height d 0)
 passed c =
     let pass = c .before .before .childless-regions .ensures in
     let left = c .before .if1 .left in
     (sym (pass .0) ∙ left, c .larger .ensures ∙ pass .1 left)
 
-returns-2 : tie.Need-returns-2
-unfolding spansDiffer
-returns-2 c = rw (passed (c .before) .0, ← passed (c .before) .1, ne-eqb _ _ (c .if2 .taken))
-
-returns-3 : tie.Need-returns-3
-unfolding spansDiffer
-returns-3 c = rw (passed (c .before) .0, ← passed (c .before) .1, eq-eqb _ _ (c .if2 .left))
-
 pub nesting-refusal-spec : {M : Type 1} → statement M
+unfolding spansDiffer
 nesting-refusal-spec =
-    tie.close
-    (tie.spec (λ c κs. search needs) returns (λ c. search needs) (λ c κs. search needs) (λ c. search needs) returns-2 returns-3)
+    tie.close (tie.spec
+    (λ c κs. search needs)
+    (λ c. rw (sym (c .before .childless-regions .ensures .0) ∙ c .if1 .taken))
+    (λ c. search needs)
+    (λ c κs. search needs)
+    (λ c. search needs)
+    (λ c. rw (passed (c .before) .0, ← passed (c .before) .1, ne-eqb _ _ (c .if2 .taken)))
+    (λ c. rw (passed (c .before) .0, ← passed (c .before) .1, eq-eqb _ _ (c .if2 .left))))

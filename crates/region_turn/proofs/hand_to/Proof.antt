@@ -3,17 +3,13 @@ use borrow.Author.Needs.{needs}
 use Rattle.region_turn.proofs.hand_to.Statement.{statement}
 use Rattle.region_turn.proofs.hand_to.Tie as tie
 
-returns : tie.Need-returns
-returns c = rw (c .larger .ensures)
-
 pub hand-to-spec : {M : Type 1} → statement M
 hand-to-spec =
-    tie.close
-    (tie.spec
+    tie.close (tie.spec
     (λ c. search needs)
     (λ c. search needs)
     (λ c. search needs)
     (λ c κs. search needs)
     (λ c. search needs)
     (λ c. search needs)
-    returns)
+    (λ c. rw (c .larger .ensures)))

@@ -1,41 +1,35 @@
 -- `without_child` meets its contract: an inner region must hold 1 at least; any other hands up.
-use mathlib.Core.Path.{refl, sym}
-use mathlib.Core.Bool.{true≢false}
+use mathlib.Core.Bool.{Bool, true, false, true≢false}
+use mathlib.Core.Path.{_≡_, refl, sym}
 use borrow.Author.Needs.{needs}
-use lib.ListN.{getD}
+use Rattle.region_turn.specs.Turn.{holdsNone}
 use Rattle.region_turn.proofs.Held.{holds-none, holds-one}
 use Rattle.region_turn.proofs.without_child.Statement.{statement}
 use Rattle.region_turn.proofs.without_child.Tie as tie
 
-returns : tie.Need-returns
-returns c =
-    let start : tie.Start = search needs in
-    let own = getD (start .args .best .now) (start .args .r .0) 0 in
-    let is-leaf = c .before .is-leaf in
-    (sym (rw (← is-leaf .ensures) (holds-none own (is-leaf .result) (c .if1 .taken))), λ e. absurd (true≢false e), λ _. refl)
+-- whether the region is inner and holds 0, as the test tells
+abbrev begin : tie.After-is-leaf → tie.Start
+begin c = let read = c .before in read .before .before .before
 
-returns-2 : tie.Need-returns-2
-returns-2 c =
-    let start : tie.Start = search needs in
-    let after-is-leaf : tie.After-is-leaf = search needs in
-    let own = getD (start .args .best .now) (start .args .r .0) 0 in
-    let is-leaf = after-is-leaf .is-leaf in (
-      sym (rw (← is-leaf .ensures) (holds-one own (is-leaf .result) (c .before .before .before .if1 .left))),
-      λ _. rw (← c .before .parent-of .ensures .0) (c .hand-to .ensures),
-      λ e. absurd (true≢false (sym e)),
-    )
+abbrev none-held : tie.After-is-leaf → Bool
+none-held c = let args = begin c .args in holdsNone (args .d .now) (args .best .now) (args .r .0)
+
+none : (c : tie.Then1) → none-held (c .before) ≡ true
+none c = rw (← c .before .is-leaf .ensures) (holds-none _ (c .before .is-leaf .result) (c .if1 .taken))
+
+some : (c : tie.Else1) → none-held (c .before) ≡ false
+some c = rw (← c .before .is-leaf .ensures) (holds-one _ (c .before .is-leaf .result) (c .if1 .left))
 
 pub without-child-spec : {M : Type 1} → statement M
 without-child-spec =
-    tie.close
-    (tie.spec
+    tie.close (tie.spec
     (λ c. search needs)
     (λ c. search needs)
     (λ c. search needs)
     (λ c κs. search needs)
     (λ c. search needs)
-    returns
+    (λ c. (sym (none c), λ e. absurd (true≢false e), λ _. refl))
     (λ c κs. search needs)
     (λ c. search needs)
     (λ c κs. search needs)
-    returns-2)
+    (λ c. (sym (some (search needs)), λ _. rw (← c .before .parent-of .ensures .0) (c .hand-to .ensures), λ e. absurd (true≢false (sym e)))))
