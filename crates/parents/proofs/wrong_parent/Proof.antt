@@ -7,15 +7,14 @@ use Rattle.parents.proofs.wrong_parent.Tie as tie
 
 returns : tie.Need-returns
 returns c =
-    let args = c .before .before .before .args in
-    rw (← c .before .parent-word .ensures, lt-ltb (args .k) (c .before .parent-word .result) (omega (arith, c .if1 .taken)))
+    let word = c .before .parent-word in
+    rw (← word .ensures, lt-ltb (c .before .before .before .args .k) (word .result) (omega arith))
 
 returns-2 : tie.Need-returns-2
 returns-2 c =
     let start : tie.Start = search needs in
-    let args = start .args in
-    rw (← c .before .before .parent-word .ensures, le-ltb (args .k) (c .before .before .parent-word .result) (omega (arith, c .before .if1 .left)))
-    (c .is-leaf .ensures)
+    let word = c .before .before .parent-word in
+    rw (← word .ensures, le-ltb (start .args .k) (word .result) (omega arith)) (c .is-leaf .ensures)
 
 pub wrong-parent-spec : {M : Type 1} → statement M
 wrong-parent-spec =
