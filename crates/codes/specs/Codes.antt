@@ -1,4 +1,4 @@
--- The number by which the library for C and Rust gives an answer. Definitions; assumes nothing.
+-- The number by which the library for C and Rust gives an answer. Definitions.
 use Prim.Native.Nat.{ℕ, _+_, _-_}
 use lib.Dec.{ltb, eqb}
 use Rattle.indices.specs.Steps.{if_then_else_}

@@ -1,4 +1,4 @@
--- What the search for a route answers and leaves in the buffer: no route, a buffer that is too short, or the route. Assumes nothing.
+-- What the search for a route answers and leaves in the buffer: no route, a buffer that is too short, or the route.
 use Prim.Native.Nat.{ℕ, _≤_, _<_}
 use mathlib.Core.Path.{_≡_, refl, sym, ap, _∙_}
 use mathlib.Core.Logic.{_≢_}

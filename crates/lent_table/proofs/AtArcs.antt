@@ -1,4 +1,4 @@
--- What the tests read at an arc and at the source: ends, labels, lengths and predecessors are as the columns have them. Assumes nothing.
+-- What the tests read at an arc and at the source: ends, labels, lengths and predecessors are as the columns have them.
 use Prim.Native.Nat.{ℕ, _<_}
 use mathlib.Core.Path.{_≡_, sym, ap, _∙_}
 use mathlib.Core.List.{List}

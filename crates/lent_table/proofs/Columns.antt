@@ -1,4 +1,4 @@
--- What the code reads at a node or an arc is what the columns of the sheet's graph and of the table have there. Assumes nothing.
+-- What the code reads at a node or an arc is what the columns of the sheet's graph and of the table have there.
 use Prim.Native.Nat.{ℕ, _<_}
 use mathlib.Core.Path.{_≡_, sym, ap, _∙_}
 use mathlib.Core.List.{List}

@@ -1,4 +1,4 @@
--- A table that is not of the wrong length fits its accepted sheet. Assumes nothing.
+-- A table that is not of the wrong length fits its accepted sheet.
 use Prim.Native.Nat.{ℕ}
 use mathlib.Core.Bool.{false}
 use mathlib.Core.Path.{_≡_}

@@ -1,4 +1,4 @@
--- What the functions over a sheet and a table ask of the two, and the table's columns for the sheet. Definitions; assumes nothing.
+-- What the functions over a sheet and a table ask of the two, and the table's columns for the sheet. Definitions.
 use Prim.Native.Nat.{ℕ}
 use mathlib.Core.Path.{_≡_}
 use mathlib.Core.List.{List}

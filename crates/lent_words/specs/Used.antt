@@ -1,4 +1,4 @@
--- The words that the test program lends to a call, and how many of them the call has used. Definitions; assumes nothing.
+-- The words that the test program lends to a call, and how many of them the call has used. Definitions.
 use Prim.Native.Nat.{ℕ, zero, suc}
 use mathlib.Core.List.{List}
 use lib.ListN.{length}

@@ -1,4 +1,4 @@
--- What a buffer has room for: the listing, and the line of a refusal. Assumes nothing.
+-- What a buffer has room for: the listing, and the line of a refusal.
 use Prim.Native.Nat.{ℕ, _+_, _*_, _≤_, _<_}
 use mathlib.Core.List.{List}
 use native.Mathlib.Omega.{arith}

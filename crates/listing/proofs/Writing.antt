@@ -1,4 +1,4 @@
--- Laws of a buffer with a text at its front. Assumes nothing.
+-- Laws of a buffer with a text at its front.
 use Prim.Native.Nat.{ℕ, _+_, _≤_}
 use mathlib.Core.Path.{_≡_, ap, _∙_}
 use mathlib.Core.List.{List, _++_}

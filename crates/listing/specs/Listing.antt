@@ -1,4 +1,4 @@
--- What `marks` prints, as bytes: the listing of an answer table, and a refusal. Definitions; assumes nothing.
+-- What `marks` prints, as bytes: the listing of an answer table, and a refusal. Definitions.
 use Prim.Native.Nat.{ℕ}
 use mathlib.Core.List.{List, _++_}
 use Rattle.text.specs.Text.{ascii, decimal}

@@ -1,4 +1,4 @@
--- What a lent buffer holds after a whole text is written to its front. Definitions; assumes nothing.
+-- What a lent buffer holds after a whole text is written to its front. Definitions.
 use Prim.Native.Nat.{ℕ}
 use mathlib.Core.Path.{_≡_}
 use mathlib.Core.List.{List, _++_}

@@ -1,4 +1,4 @@
--- Laws of the lines of the nodes: one line more, how long they may be, and what has room. Assumes nothing.
+-- Laws of the lines of the nodes: one line more, how long they may be, and what has room.
 use Prim.Native.Nat.{ℕ, zero, suc, _+_, _*_, _≤_, _<_}
 use mathlib.Core.Path.{_≡_}
 use mathlib.Core.List.{List, _++_}

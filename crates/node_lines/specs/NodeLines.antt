@@ -1,4 +1,4 @@
--- The line of a node, as bytes. Definitions; assumes nothing.
+-- The line of a node, as bytes. Definitions.
 use Prim.Native.Nat.{ℕ, zero, suc}
 use mathlib.Core.List.{List, [], _++_}
 use Rattle.answers.specs.Tables.{labelIn, predecessorIn}

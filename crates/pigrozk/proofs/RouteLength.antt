@@ -1,4 +1,4 @@
--- A route that is answered has few arcs: no more than there are nodes, and a payload says how many nodes there are. Assumes nothing.
+-- A route that is answered has few arcs: no more than there are nodes, and a payload says how many nodes there are.
 use Prim.Native.Nat.{ℕ, zero, suc, _≤_, _<_}
 use native.Mathlib.Omega.{arith}
 use mathlib.Core.Bool.{Bool, true, false, cond}

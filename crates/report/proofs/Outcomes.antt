@@ -1,4 +1,4 @@
--- What is printed of a sheet and left in the table, case by case: a refused sheet and an accepted one. Assumes nothing.
+-- What is printed of a sheet and left in the table, case by case: a refused sheet and an accepted one.
 use Prim.Native.Nat.{ℕ}
 use mathlib.Core.Path.{_≡_, sym, ap, _∙_}
 use mathlib.Core.List.{List, _++_}

@@ -1,4 +1,4 @@
--- The stages of the answer for an accepted sheet: a refusal that applies stops it, and where none does the search for the route decides. Assumes nothing.
+-- The stages of the answer for an accepted sheet: a refusal that applies stops it, and where none does the search for the route decides.
 use Prim.Native.Nat.{ℕ, zero, suc, _<_}
 use mathlib.Core.Bool.{true, false}
 use mathlib.Core.Path.{_≡_, refl, sym, ap, _∙_}

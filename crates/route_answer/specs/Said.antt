@@ -1,4 +1,4 @@
--- What each case of the route reader's answer says, by the paper's words and numbers. Definitions; assumes nothing.
+-- What each case of the route reader's answer says, by the paper's words and numbers. Definitions.
 use Rattle.sheet.specs.Answer.{Answer, route, noRoute, refused, refusalOf}
 use Rattle.route_answer.specs.declared.Routed.{Routed}
 use Rattle.route_answer.specs.declared.Routed.the-variants.{Route, NoRoute, Refused}

@@ -1,4 +1,4 @@
--- Predecessors followed back in a table that passed: at each step the route is one arc shorter, and the source has none. Assumes nothing.
+-- Predecessors followed back in a table that passed: at each step the route is one arc shorter, and the source has none.
 use Prim.Native.Nat.{ℕ, suc, _+_, _-_, _≤_, _<_}
 use native.Mathlib.Omega.{arith}
 use mathlib.Core.Path.{_≡_, sym, ap, _∙_}

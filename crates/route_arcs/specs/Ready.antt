@@ -1,4 +1,4 @@
--- What the functions that follow predecessors ask of a sheet, a table and a node. Definitions; assumes nothing.
+-- What the functions that follow predecessors ask of a sheet, a table and a node. Definitions.
 use Prim.Native.Nat.{ℕ, _<_}
 use mathlib.Core.Bool.{false}
 use mathlib.Core.Path.{_≡_}

@@ -1,4 +1,4 @@
--- Laws of the first line: the two forms of a status, and how long the line may be. Assumes nothing.
+-- Laws of the first line: the two forms of a status, and how long the line may be.
 use Prim.Native.Nat.{ℕ, _+_, _≤_}
 use Prim.Native.String.{String}
 use mathlib.Core.Path.{_≡_, ap}

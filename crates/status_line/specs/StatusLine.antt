@@ -1,4 +1,4 @@
--- The first line of a listing, as bytes. Definitions; assumes nothing.
+-- The first line of a listing, as bytes. Definitions.
 use Prim.Native.Nat.{ℕ}
 use Prim.Native.String.{String}
 use mathlib.Core.List.{List, _++_}

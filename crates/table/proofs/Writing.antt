@@ -1,4 +1,4 @@
--- Words written one after the other: the words of the nodes passed so far, and header and nodes together. Assumes nothing.
+-- Words written one after the other: the words of the nodes passed so far, and header and nodes together.
 use Prim.Native.Nat.{ℕ, suc, _+_, _*_, _<_, _≤_}
 use mathlib.Core.Bool.{Bool}
 use mathlib.Core.Path.{_≡_, sym, ap, _∙_}

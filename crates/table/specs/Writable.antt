@@ -1,5 +1,5 @@
 -- What is asked of counts, labels and predecessors that are written into a table: that each fits its 28 bits or two times 28 bits, and that the
--- table has room for just them. Definitions; assumes nothing.
+-- table has room for just them. Definitions.
 use Prim.Native.Nat.{ℕ, _<_}
 use mathlib.Core.Path.{_≡_}
 use mathlib.Core.List.{List}

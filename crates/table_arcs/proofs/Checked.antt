@@ -1,4 +1,4 @@
--- The tests of the source and of an arc, by the cases in which the code decides them. Assumes nothing.
+-- The tests of the source and of an arc, by the cases in which the code decides them.
 use Prim.Native.Nat.{ℕ, _+_, _<_}
 use mathlib.Core.Bool.{true, false}
 use mathlib.Core.Path.{_≡_, sym, _∙_}

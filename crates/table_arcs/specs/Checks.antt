@@ -1,4 +1,4 @@
--- The tests of a table at the source and at an arc, for the graph of a sheet. Definitions; assumes nothing.
+-- The tests of a table at the source and at an arc, for the graph of a sheet. Definitions.
 use Prim.Native.Nat.{ℕ}
 use mathlib.Core.Bool.{Bool}
 use mathlib.Core.List.{List}

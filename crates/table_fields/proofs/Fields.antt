@@ -1,4 +1,4 @@
--- Laws of a field: its two forms, and how long it may be. Assumes nothing.
+-- Laws of a field: its two forms, and how long it may be.
 use Prim.Native.Nat.{ℕ, _≤_, _<_}
 use mathlib.Core.Path.{_≡_, ap}
 use mathlib.Core.Logic.{⊎-elim}

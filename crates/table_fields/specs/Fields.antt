@@ -1,4 +1,4 @@
--- The fields of an answer table as bytes. Definitions; assumes nothing.
+-- The fields of an answer table as bytes. Definitions.
 use Prim.Native.Nat.{ℕ}
 use mathlib.Core.List.{List, _++_}
 use lib.Dec.{eqb}

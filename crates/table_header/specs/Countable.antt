@@ -1,4 +1,4 @@
--- The counts that are written into a table, each of which fits two times 28 bits. Definitions; assumes nothing.
+-- The counts that are written into a table, each of which fits two times 28 bits. Definitions.
 use Prim.Native.Nat.{ℕ, _^_, _<_}
 use mathlib.Core.List.{List, [], _∷_}
 use Rattle.counts.specs.declared.Counts.{Counts}

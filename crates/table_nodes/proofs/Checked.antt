@@ -1,4 +1,4 @@
--- The tests of a node, by the cases in which the code decides them. Assumes nothing.
+-- The tests of a node, by the cases in which the code decides them.
 use Prim.Native.Nat.{ℕ, _+_, _≤_, _<_}
 use native.Mathlib.Omega.{arith}
 use mathlib.Core.Bool.{true, false, and-true}

@@ -1,4 +1,4 @@
--- The tests of a table at a node, for the graph of a sheet. Definitions; assumes nothing.
+-- The tests of a table at a node, for the graph of a sheet. Definitions.
 use Prim.Native.Nat.{ℕ, _+_}
 use mathlib.Core.Bool.{Bool, not, _&&_}
 use mathlib.Core.List.{List}

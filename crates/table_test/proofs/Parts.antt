@@ -1,4 +1,4 @@
--- The test of a table, part by part: it fails where a part fails, and passes where all do. Assumes nothing.
+-- The test of a table, part by part: it fails where a part fails, and passes where all do.
 use Prim.Native.Nat.{ℕ, zero, suc}
 use mathlib.Core.Bool.{Bool, true, false, not, _&&_}
 use mathlib.Core.Path.{_≡_, refl, ap, _∙_}

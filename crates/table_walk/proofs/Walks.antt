@@ -1,5 +1,5 @@
 -- A walk back along predecessors: each node that it passed is deeper than the one it is at, so that none of them has a depth if it meets itself, and
--- all of them lead back if it meets a node that does. Assumes nothing.
+-- all of them lead back if it meets a node that does.
 use Prim.Native.Nat.{ℕ, suc, pred, _+_, _≤_, _<_}
 use native.Mathlib.Omega.{arith}
 use mathlib.Core.Bool.{true, false, not, true≢false}

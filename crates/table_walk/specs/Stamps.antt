@@ -1,4 +1,4 @@
--- Stamps: a number at each node that a walk back along predecessors has passed. Definitions; assumes nothing.
+-- Stamps: a number at each node that a walk back along predecessors has passed. Definitions.
 use Prim.Native.Nat.{ℕ, pred, _+_, _≤_, _<_}
 use mathlib.Core.Bool.{Bool, true}
 use mathlib.Core.Path.{_≡_}

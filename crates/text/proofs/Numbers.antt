@@ -1,5 +1,4 @@
 -- Laws of `decimal`: a number below ten is its digit; any other has the digits of its tenth, then its last. So k digits hold what is below 10 ^ k.
--- Assumes nothing.
 use Prim.Native.Nat.{ℕ, zero, suc, _/_, _%_, _^_, _≤_, _<_}
 use mathlib.Core.Path.{_≡_, sym, ap, _∙_}
 use mathlib.Core.Logic.{⊎-elim}

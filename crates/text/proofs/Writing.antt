@@ -1,4 +1,4 @@
--- Laws of writing into a buffer: a text written after another makes the two written as one, where both have room. Assumes nothing.
+-- Laws of writing into a buffer: a text written after another makes the two written as one, where both have room.
 use Prim.Native.Nat.{ℕ, suc, _+_, _≤_, _<_}
 use mathlib.Core.Path.{_≡_, refl, sym, ap, _∙_}
 use mathlib.Core.List.{List, [], _∷_, _++_}

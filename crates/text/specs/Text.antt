@@ -1,4 +1,4 @@
--- Text as bytes, and numbers as text. Definitions; assumes nothing.
+-- Text as bytes, and numbers as text. Definitions.
 use Prim.Native.Nat.{ℕ, zero, suc, _+_, _/_, _%_}
 use Prim.Native.Char.{code}
 use Prim.Native.String.{String, [] as empty, _∷_ as _then_}

@@ -1,4 +1,4 @@
--- What a writing function leaves in a lent buffer. Definitions; assumes nothing.
+-- What a writing function leaves in a lent buffer. Definitions.
 use Prim.Native.Nat.{ℕ, _+_, _≤_}
 use mathlib.Core.Path.{_≡_}
 use mathlib.Core.List.{List}

@@ -1,4 +1,4 @@
--- `print_words` is safe and ends: the words left fall. Assumes nothing.
+-- `print_words` is safe and ends: the words left fall.
 use Prim.Native.Nat.{_-_}
 use borrow.Author.Needs.{needs}
 use lib.ListN.{length}

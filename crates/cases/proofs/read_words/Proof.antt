@@ -1,4 +1,4 @@
--- `read_words` meets its contract: the words taken have room in the table, and the words left fall. Assumes nothing.
+-- `read_words` meets its contract: the words taken have room in the table, and the words left fall.
 use Prim.Native.Nat.{_≤_, _-_}
 use mathlib.Core.Path.{_≡_, sym}
 use borrow.Author.Needs.{needs}

@@ -1,4 +1,4 @@
--- `take_block` is safe and ends: the bytes left fall. Assumes nothing.
+-- `take_block` is safe and ends: the bytes left fall.
 use Prim.Native.Nat.{_-_}
 use borrow.Author.Needs.{needs}
 use lib.ListN.{length}

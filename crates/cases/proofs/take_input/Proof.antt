@@ -1,4 +1,4 @@
--- `take_input` is safe and ends: the block keeps its length, and the turns left fall. Assumes nothing.
+-- `take_input` is safe and ends: the block keeps its length, and the turns left fall.
 use mathlib.Core.Path.{_≡_}
 use borrow.Author.Needs.{needs}
 use lib.ListN.{length}

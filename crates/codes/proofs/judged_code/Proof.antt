@@ -1,4 +1,4 @@
--- `judged_code` meets its contract, case by case. Assumes nothing.
+-- `judged_code` meets its contract, case by case.
 use borrow.Author.Needs.{needs}
 use Rattle.codes.proofs.judged_code.Statement.{statement}
 use Rattle.codes.proofs.judged_code.Tie as tie

@@ -1,4 +1,4 @@
--- `number_of` meets its contract: the number that the fault holds. Assumes nothing.
+-- `number_of` meets its contract: the number that the fault holds.
 use borrow.Author.Needs.{needs}
 use Rattle.codes.proofs.number_of.Statement.{statement}
 use Rattle.codes.proofs.number_of.Tie as tie

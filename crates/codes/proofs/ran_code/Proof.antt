@@ -1,4 +1,4 @@
--- `ran_code` meets its contract, case by case. Assumes nothing.
+-- `ran_code` meets its contract, case by case.
 use borrow.Author.Needs.{needs}
 use Rattle.codes.proofs.ran_code.Statement.{statement}
 use Rattle.codes.proofs.ran_code.Tie as tie

@@ -1,4 +1,4 @@
--- `routed_code` meets its contract: a route's count fits behind 65,536. Assumes nothing.
+-- `routed_code` meets its contract: a route's count fits behind 65,536.
 use native.Mathlib.Omega.{arith}
 use borrow.Author.Needs.{needs}
 use Rattle.codes.proofs.routed_code.Statement.{statement}

@@ -1,4 +1,4 @@
--- `find_route` meets its contract: unreached, too long for the buffer, or written. Assumes nothing.
+-- `find_route` meets its contract: unreached, too long for the buffer, or written.
 use mathlib.Core.Path.{_∙_}
 use Rattle.sheet.specs.Words.{top}
 use Rattle.route_arcs.proofs.Following.{node-reached}

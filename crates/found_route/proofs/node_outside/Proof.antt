@@ -1,4 +1,4 @@
--- `node_outside` meets its contract: the node count is compared. Assumes nothing.
+-- `node_outside` meets its contract: the node count is compared.
 use Rattle.answers.specs.Routes.{nodeOutside}
 use borrow.Author.Needs.{needs}
 use Rattle.found_route.proofs.node_outside.Statement.{statement}

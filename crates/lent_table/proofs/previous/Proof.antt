@@ -1,4 +1,4 @@
--- `previous` meets its contract: the tail of the predecessor, an arc of the sheet. Assumes nothing.
+-- `previous` meets its contract: the tail of the predecessor, an arc of the sheet.
 use borrow.Author.Needs.{needs}
 use mathlib.Core.Path.{_∙_}
 use Rattle.refusals.proofs.Accepted.{few-arcs}

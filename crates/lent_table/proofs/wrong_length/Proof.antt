@@ -1,4 +1,4 @@
--- `wrong_length` meets its contract: the lengths are compared. Assumes nothing.
+-- `wrong_length` meets its contract: the lengths are compared.
 use Rattle.answers.specs.Tables.{wrongLength}
 use borrow.Author.Needs.{needs}
 use Rattle.lent_table.proofs.wrong_length.Statement.{statement}

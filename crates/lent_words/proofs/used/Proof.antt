@@ -1,4 +1,4 @@
--- `used` meets its contract: the words passed, from the last on, hold the filling. Assumes nothing.
+-- `used` meets its contract: the words passed, from the last on, hold the filling.
 use Prim.Native.Nat.{ℕ, _+_, _≤_}
 use mathlib.Core.List.{List}
 use mathlib.Core.Path.{_≡_, refl, sym, _∙_}

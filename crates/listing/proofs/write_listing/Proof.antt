@@ -1,4 +1,4 @@
--- `write_listing` meets its contract: the first line, then the lines of the nodes, have room and are written from the front on. Assumes nothing.
+-- `write_listing` meets its contract: the first line, then the lines of the nodes, have room and are written from the front on.
 use mathlib.Core.Path.{refl}
 use native.Mathlib.Omega.{arith}
 use Rattle.listing.specs.Listing.{listingOf}

@@ -1,4 +1,4 @@
--- `write_refused` meets its contract: the word, the number and the line end have room and are written one after another. Assumes nothing.
+-- `write_refused` meets its contract: the word, the number and the line end have room and are written one after another.
 use mathlib.Core.Path.{refl}
 use Rattle.listing.specs.Listing.{refusedLine}
 use Rattle.text.proofs.Writing.{wrote-then, room-before, room-after, byte-room}

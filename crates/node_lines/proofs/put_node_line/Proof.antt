@@ -1,4 +1,4 @@
--- `put_node_line` meets its contract: each part is written after the parts before it. Assumes nothing.
+-- `put_node_line` meets its contract: each part is written after the parts before it.
 use native.Mathlib.Omega.{arith}
 use Rattle.node_lines.specs.NodeLines.{nodeLine}
 use Rattle.text.proofs.Writing.{wrote-then, room-before, room-after, byte-room}

@@ -1,4 +1,4 @@
--- `put_node_lines` meets its contract: the lines of the nodes below v are written. Assumes nothing.
+-- `put_node_lines` meets its contract: the lines of the nodes below v are written.
 use borrow.Author.Needs.{needs}
 use Prim.Native.Nat.{_-_, _≤_}
 use native.Mathlib.Omega.{arith}

@@ -1,4 +1,4 @@
--- `pigrozk_judge` meets its contract: the code of the judge's answer. Assumes nothing.
+-- `pigrozk_judge` meets its contract: the code of the judge's answer.
 use borrow.Author.Needs.{needs}
 use Rattle.pigrozk.proofs.Told.{same-code}
 use Rattle.pigrozk.proofs.pigrozk_judge.Statement.{statement}

@@ -1,4 +1,4 @@
--- `pigrozk_route` meets its contract: the code of the route reader's answer. Assumes nothing.
+-- `pigrozk_route` meets its contract: the code of the route reader's answer.
 use borrow.Author.Needs.{needs}
 use Rattle.answers.proofs.Routes.{table-known}
 use Rattle.pigrozk.proofs.RouteLength.{few-arcs}

@@ -1,4 +1,4 @@
--- `report` meets its contract: the judge's refusal, or the run of the accepted sheet. Assumes nothing.
+-- `report` meets its contract: the judge's refusal, or the run of the accepted sheet.
 use mathlib.Core.Path.{sym, ap, _∙_}
 use Rattle.io.proofs.Counting.{counts}
 use Rattle.judge_answer.specs.Said.{said}

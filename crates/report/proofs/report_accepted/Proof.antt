@@ -1,4 +1,4 @@
--- `report_accepted` meets its contract: the part of the table that the nodes need is lent to the run. Assumes nothing.
+-- `report_accepted` meets its contract: the part of the table that the nodes need is lent to the run.
 use Prim.Native.Nat.{_≤_}
 use mathlib.Core.Path.{sym, _∙_}
 use native.Mathlib.Omega.{arith}

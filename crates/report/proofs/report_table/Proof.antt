@@ -1,4 +1,4 @@
--- `report_table` meets its contract: the run leaves the table of its end, whose listing is written. Assumes nothing.
+-- `report_table` meets its contract: the run leaves the table of its end, whose listing is written.
 use Rattle.report.proofs.Outcomes.{run-leaves}
 use borrow.Author.Needs.{needs}
 use Rattle.report.proofs.report_table.Statement.{statement}

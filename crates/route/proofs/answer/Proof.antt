@@ -1,4 +1,4 @@
--- `answer` meets its contract: the stages in turn, each where none before it applies. Assumes nothing.
+-- `answer` meets its contract: the stages in turn, each where none before it applies.
 use mathlib.Core.Bool.{false}
 use mathlib.Core.Path.{_≡_, sym, ap, _∙_}
 use borrow.Author.Needs.{needs}

@@ -1,4 +1,4 @@
--- `route` meets its contract: the sheet's refusal, or the answer for an accepted sheet. Assumes nothing.
+-- `route` meets its contract: the sheet's refusal, or the answer for an accepted sheet.
 use mathlib.Core.Path.{sym, ap, _∙_}
 use Rattle.judge_answer.specs.Said.{said as saidByJudge}
 use Rattle.answers.proofs.Routes.{sheet-stops}

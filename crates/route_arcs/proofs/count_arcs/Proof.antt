@@ -1,4 +1,4 @@
--- `count_arcs` meets its contract: the arcs passed and those still to pass are the route's. Assumes nothing.
+-- `count_arcs` meets its contract: the arcs passed and those still to pass are the route's.
 use mathlib.Core.Path.{_∙_}
 use lib.ListN.{length}
 use native.Mathlib.Nat.{zero-add}

@@ -1,4 +1,4 @@
--- `write_arcs` meets its contract: what is written and what is to come make the route. Assumes nothing.
+-- `write_arcs` meets its contract: what is written and what is to come make the route.
 use borrow.Author.Needs.{needs}
 use mathlib.Core.Path.{refl}
 use native.Mathlib.Nat.{le-refl}

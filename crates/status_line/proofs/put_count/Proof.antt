@@ -1,4 +1,4 @@
--- `put_count` meets its contract: the name, then the number. Assumes nothing.
+-- `put_count` meets its contract: the name, then the number.
 use Rattle.text.proofs.Writing.{wrote-then, room-before, room-after}
 use borrow.Author.Needs.{needs}
 use Rattle.status_line.proofs.put_count.Statement.{statement}

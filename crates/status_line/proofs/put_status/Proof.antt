@@ -1,4 +1,4 @@
--- `put_status` meets its contract: the form of a status that the test chose. Assumes nothing.
+-- `put_status` meets its contract: the form of a status that the test chose.
 use mathlib.Core.Path.{sym, _∙_}
 use Rattle.status_line.proofs.StatusLine.{status-ended, status-paused}
 use borrow.Author.Needs.{needs}

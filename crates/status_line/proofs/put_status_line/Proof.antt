@@ -1,4 +1,4 @@
--- `put_status_line` meets its contract: each part is written after the parts before it. Assumes nothing.
+-- `put_status_line` meets its contract: each part is written after the parts before it.
 use Prim.Native.Nat.{ℕ}
 use mathlib.Core.List.{List, _++_}
 use native.Mathlib.Omega.{arith}

@@ -1,4 +1,4 @@
--- `arc_relaxed` meets its contract: the labels at its ends and its length. Assumes nothing.
+-- `arc_relaxed` meets its contract: the labels at its ends and its length.
 use Rattle.sheet.specs.Words.{top}
 use Rattle.refusals.proofs.Accepted.{tail-in, head-in, length-short}
 use Rattle.table_arcs.proofs.Checked.{relaxed-unreached, relaxed-compared}

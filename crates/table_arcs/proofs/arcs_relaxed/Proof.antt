@@ -1,4 +1,4 @@
--- `arcs_relaxed` meets its contract: the arcs passed are relaxed. Assumes nothing.
+-- `arcs_relaxed` meets its contract: the arcs passed are relaxed.
 use borrow.Author.Needs.{needs}
 use Prim.Native.Nat.{_-_, _≤_}
 use borrow.Author.Tests.{not-true, not-false}

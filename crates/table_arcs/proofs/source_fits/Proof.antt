@@ -1,4 +1,4 @@
--- `source_fits` meets its contract: the source's label, and then its predecessor. Assumes nothing.
+-- `source_fits` meets its contract: the source's label, and then its predecessor.
 use Rattle.sheet.specs.Words.{top}
 use Rattle.refusals.proofs.Accepted.{few-nodes, source-in}
 use Rattle.table_arcs.proofs.Checked.{source-not-zero, source-zero}

@@ -1,4 +1,4 @@
--- `put_field` meets its contract: the form of a field that the test chose. Assumes nothing.
+-- `put_field` meets its contract: the form of a field that the test chose.
 use Rattle.text.proofs.Writing.{byte-room}
 use Rattle.table_fields.proofs.Fields.{field-none, field-number}
 use borrow.Author.Needs.{needs}

@@ -1,4 +1,4 @@
--- `put_payload` meets its contract: the space, then the field. Assumes nothing.
+-- `put_payload` meets its contract: the space, then the field.
 use Rattle.table_fields.specs.Fields.{spaced}
 use Rattle.text.proofs.Writing.{wrote-then, room-before, room-after, byte-room}
 use borrow.Author.Needs.{needs}

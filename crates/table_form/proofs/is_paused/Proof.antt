@@ -1,4 +1,4 @@
--- `is_paused` meets its contract: the status is compared. Assumes nothing.
+-- `is_paused` meets its contract: the status is compared.
 use Rattle.answers.specs.Routes.{isPaused}
 use borrow.Author.Needs.{needs}
 use Rattle.table_form.proofs.is_paused.Statement.{statement}

@@ -1,4 +1,4 @@
--- `malformed` meets its contract: the header's words, and then the nodes'. Assumes nothing.
+-- `malformed` meets its contract: the header's words, and then the nodes'.
 use mathlib.Core.Path.{sym, _∙_}
 use borrow.Author.Tests.{lt-ltb, le-ltb}
 use Rattle.refusals.proofs.Accepted.{few-nodes, few-arcs}

@@ -1,4 +1,4 @@
--- `wrong_counts` meets its contract: the words passed are of their kind. Assumes nothing.
+-- `wrong_counts` meets its contract: the words passed are of their kind.
 use Prim.Native.Nat.{_-_, _≤_}
 use mathlib.Core.Path.{_≡_, sym, _∙_}
 use mathlib.Core.Bool.{false}

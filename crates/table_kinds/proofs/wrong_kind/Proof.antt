@@ -1,4 +1,4 @@
--- `wrong_kind` meets its contract: the word's kind is compared. Assumes nothing.
+-- `wrong_kind` meets its contract: the word's kind is compared.
 use borrow.Author.Needs.{needs}
 use Rattle.table_kinds.proofs.wrong_kind.Statement.{statement}
 use Rattle.table_kinds.proofs.wrong_kind.Tie as tie

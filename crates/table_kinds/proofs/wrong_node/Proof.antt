@@ -1,4 +1,4 @@
--- `wrong_node` meets its contract: the two kinds, and then the predecessor. Assumes nothing.
+-- `wrong_node` meets its contract: the two kinds, and then the predecessor.
 use mathlib.Core.Path.{sym, _∙_}
 use borrow.Author.Tests.{lt-ltb, le-ltb}
 use Rattle.sheet.specs.Words.{top}

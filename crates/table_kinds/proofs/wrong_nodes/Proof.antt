@@ -1,4 +1,4 @@
--- `wrong_nodes` meets its contract: the words of the nodes passed are right. Assumes nothing.
+-- `wrong_nodes` meets its contract: the words of the nodes passed are right.
 use Prim.Native.Nat.{_-_, _≤_}
 use mathlib.Core.Path.{_≡_, sym, _∙_}
 use mathlib.Core.Bool.{false}

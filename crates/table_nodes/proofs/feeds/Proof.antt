@@ -1,4 +1,4 @@
--- `feeds` meets its contract: the head, the tail's label, and then the sum. Assumes nothing.
+-- `feeds` meets its contract: the head, the tail's label, and then the sum.
 use Rattle.sheet.specs.Words.{top}
 use Rattle.refusals.proofs.Accepted.{tail-in, length-short}
 use Rattle.table_nodes.proofs.Checked.{feeds-elsewhere, feeds-unreached, feeds-compared}

@@ -1,4 +1,4 @@
--- `node_fits` meets its contract: unreached, the source, no arc, or an arc that is tried. Assumes nothing.
+-- `node_fits` meets its contract: unreached, the source, no arc, or an arc that is tried.
 use mathlib.Core.Path.{_∙_}
 use Rattle.sheet.specs.Words.{top}
 use Rattle.refusals.proofs.Accepted.{few-arcs}

@@ -1,4 +1,4 @@
--- `nodes_fit` meets its contract: the nodes passed fit. Assumes nothing.
+-- `nodes_fit` meets its contract: the nodes passed fit.
 use borrow.Author.Needs.{needs}
 use Prim.Native.Nat.{_-_, _≤_}
 use borrow.Author.Tests.{not-true, not-false}

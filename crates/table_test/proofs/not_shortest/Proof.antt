@@ -1,4 +1,4 @@
--- `not_shortest` meets its contract: the parts of the test in turn. Assumes nothing.
+-- `not_shortest` meets its contract: the parts of the test in turn.
 use mathlib.Core.Path.{sym, ap, _∙_}
 use mathlib.Core.Bool.{not}
 use borrow.Author.Tests.{not-true, not-false}

@@ -1,4 +1,4 @@
--- `all_led` meets its contract: the walks from the nodes passed lead back. Assumes nothing.
+-- `all_led` meets its contract: the walks from the nodes passed lead back.
 use borrow.Author.Needs.{needs}
 use Prim.Native.Nat.{_-_, _≤_}
 use borrow.Author.Tests.{not-true, not-false}

@@ -1,19 +1,13 @@
--- `status_word` meets its contract. Assumes nothing.
+-- `status_word` meets its contract: a word of kind 8 with the payload that the test chose.
 use borrow.Author.Needs.{needs}
 use Rattle.table_words.proofs.status_word.Statement.{statement}
 use Rattle.table_words.proofs.status_word.Tie as tie
 
-word-requires : tie.Need-word-requires
-word-requires c κs = search needs
-
-returns : tie.Need-returns
-returns c = rw (c .before .if1 .taken) (c .word .ensures)
-
-word-requires-2 : tie.Need-word-requires-2
-word-requires-2 c κs = search needs
-
-returns-2 : tie.Need-returns-2
-returns-2 c = rw (c .before .if1 .left) (c .word2 .ensures)
-
 pub status-word-spec : {M : Type 1} → statement M
-status-word-spec = tie.close (tie.spec word-requires returns word-requires-2 returns-2)
+status-word-spec =
+    tie.close
+    (tie.spec
+    (λ c κs. search needs)
+    (λ c. rw (c .before .if1 .taken) (c .word .ensures))
+    (λ c κs. search needs)
+    (λ c. rw (c .before .if1 .left) (c .word2 .ensures)))

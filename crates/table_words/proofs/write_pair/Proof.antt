@@ -1,11 +1,8 @@
--- `write_pair` meets its contract. Assumes nothing.
+-- `write_pair` meets its contract: the second word stands right after the first.
 use borrow.Author.Needs.{needs}
 use native.Mathlib.Numerals.{add-one}
 use Rattle.table_words.proofs.write_pair.Statement.{statement}
 use Rattle.table_words.proofs.write_pair.Tie as tie
-
-returns : tie.Need-returns
-returns c = rw add-one
 
 pub write-pair-spec : {M : Type 1} → statement M
 write-pair-spec =
@@ -17,4 +14,4 @@ write-pair-spec =
     (λ c. search needs)
     (λ c. search needs)
     (λ c. search needs)
-    returns)
+    (λ c. rw add-one))

@@ -1,4 +1,4 @@
--- `put_number` meets its contract, by the measure of the number: the digits of its tenth, then its last. Assumes nothing.
+-- `put_number` meets its contract, by the measure of the number: the digits of its tenth, then its last.
 use native.Mathlib.Omega.{arith}
 use mathlib.Core.Path.{_∙_}
 use Rattle.text.proofs.Numbers.{digit-room, wrote-digit, tenth-room, last-room, wrote-last}

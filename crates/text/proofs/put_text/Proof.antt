@@ -1,4 +1,4 @@
--- `put_text` meets its contract: so many bytes of the text are stored. Assumes nothing.
+-- `put_text` meets its contract: so many bytes of the text are stored.
 use Prim.Native.Nat.{zero-le, _+_, _-_, _≤_}
 use native.Mathlib.Omega.{arith}
 use lib.ListN.{length, take}
