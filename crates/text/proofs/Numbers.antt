@@ -1,13 +1,12 @@
 -- Laws of `decimal`: a number below ten is its digit; any other has the digits of its tenth, then its last. So k digits hold what is below 10 ^ k.
 use Prim.Native.Nat.{ℕ, zero, suc, _/_, _%_, _^_, _≤_, _<_}
 use mathlib.Core.Path.{_≡_, sym, ap, _∙_}
-use mathlib.Core.Logic.{⊎-elim}
 use mathlib.Core.List.{List, [], _∷_, _++_}
 use native.Mathlib.Nat.{not-suc-le-zero, pow-suc}
 use native.Mathlib.Omega.{arith}
 use borrow.Author.Tests.{lt-ltb, le-ltb}
 use lib.ListN.{length, length-append}
-use Rattle.indices.proofs.Steps.{lt-or-le}
+use Rattle.indices.proofs.Steps.{by-order}
 use Rattle.text.specs.Text.{digit, lastDigits, decimal}
 use Rattle.text.specs.Written.{Room, Wrote}
 use Rattle.text.proofs.Writing.{wrote-then, room-before, room-after, byte-room}
@@ -25,12 +24,10 @@ same-digits : (most more n : ℕ) → n < most → n < more → lastDigits most 
 same-digits zero more n a b = absurd (not-suc-le-zero a)
 same-digits (suc most) zero n a b = absurd (not-suc-le-zero b)
 same-digits (suc most) (suc more) n a b =
-    ⊎-elim (λ (small : n < 10). one-digit most n small ∙ sym (one-digit more n small))
-    (λ (large : 10 ≤ n).
+    by-order n 10 (λ small. one-digit most n small ∙ sym (one-digit more n small)) (λ large.
     more-digits most n large
     ∙ ap (λ (l : List ℕ). l ++ (digit (n % 10) ∷ [])) (same-digits most more (n / 10) (omega arith) (omega arith))
     ∙ sym (more-digits more n large))
-    (lt-or-le n 10)
 
 pub decimal-one : (n : ℕ) → n < 10 → decimal n ≡ digit n ∷ []
 unfolding decimal
@@ -45,12 +42,10 @@ decimal-more n large =
 pub decimal-within : (k n : ℕ) → n < 10 ^ suc k → length (decimal n) ≤ suc k
 decimal-within zero n below = omega (arith, ap length (decimal-one n (omega arith)))
 decimal-within (suc k) n below =
-    ⊎-elim (λ (small : n < 10). omega (arith, ap length (decimal-one n small)))
-    (λ (large : 10 ≤ n).
+    by-order n 10 (λ small. omega (arith, ap length (decimal-one n small))) (λ large.
     let tenth : n / 10 < 10 ^ suc k = omega (arith, pow-suc 10 (suc k)) in
     omega
     (arith, ap length (decimal-more n large), length-append (decimal (n / 10)) (digit (n % 10) ∷ []), decimal-within k (n / 10) tenth))
-    (lt-or-le n 10)
 
 -- writing a number of one digit
 module _ (n : ℕ) (small : n < 10) where
