@@ -2,12 +2,11 @@
 use Prim.Native.Nat.{ℕ, _+_, _≤_}
 use Prim.Native.String.{String}
 use mathlib.Core.Path.{_≡_, ap}
-use mathlib.Core.Logic.{⊎-elim}
 use mathlib.Core.List.{List}
 use native.Mathlib.Omega.{arith}
 use borrow.Author.Tests.{eq-eqb, ne-eqb}
 use lib.ListN.{length, length-append}
-use Rattle.indices.proofs.Steps.{eq-or-ne}
+use Rattle.indices.proofs.Steps.{by-equal}
 use Rattle.answers.specs.Tables.{statusIn, countIn}
 use Rattle.text.specs.Text.{ascii, decimal}
 use Rattle.status_line.specs.StatusLine.{status, counted, statusLine}
@@ -24,8 +23,7 @@ status-paused table n = rw (ne-eqb (statusIn table) 1 n)
 module _ (table : List ℕ) where
   status-within : length (status table) ≤ 6
   status-within =
-      ⊎-elim (λ e. omega (arith, ap length (status-ended table e))) (λ n. omega (arith, ap length (status-paused table n)))
-      (eq-or-ne (statusIn table) 1)
+      by-equal (statusIn table) 1 (λ e. omega (arith, ap length (status-ended table e))) (λ n. omega (arith, ap length (status-paused table n)))
 
   counted-within : (name : String) (i : ℕ) → length (counted table name i) ≤ length (ascii name) + 17
   unfolding counted

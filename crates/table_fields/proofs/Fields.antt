@@ -1,11 +1,10 @@
 -- Laws of a field: its two forms, and how long it may be.
 use Prim.Native.Nat.{ℕ, _≤_, _<_}
 use mathlib.Core.Path.{_≡_, ap}
-use mathlib.Core.Logic.{⊎-elim}
 use native.Mathlib.Omega.{arith}
 use borrow.Author.Tests.{eq-eqb, ne-eqb}
 use lib.ListN.{length, length-append}
-use Rattle.indices.proofs.Steps.{eq-or-ne}
+use Rattle.indices.proofs.Steps.{by-equal}
 use Rattle.sheet.specs.Words.{top}
 use Rattle.text.specs.Text.{ascii, decimal}
 use Rattle.table_fields.specs.Fields.{field, spaced}
@@ -21,8 +20,8 @@ field-number payload n = rw (ne-eqb payload 268435455 n)
 
 field-within : (payload : ℕ) → payload < 268435456 → length (field payload) ≤ 9
 field-within payload small =
-    ⊎-elim (λ e. omega (arith, ap length (field-none payload e)))
-    (λ n. omega (arith, ap length (field-number payload n), decimal-within 8 payload (omega arith))) (eq-or-ne payload 268435455)
+    by-equal payload 268435455 (λ e. omega (arith, ap length (field-none payload e)))
+    (λ n. omega (arith, ap length (field-number payload n), decimal-within 8 payload (omega arith)))
 
 pub spaced-within : (payload : ℕ) → payload < 268435456 → length (spaced payload) ≤ 10
 unfolding spaced
