@@ -7,14 +7,11 @@ use borrow.Author.Needs.{needs}
 use Rattle.status_line.proofs.put_status.Statement.{statement}
 use Rattle.status_line.proofs.put_status.Tie as tie
 
-abbrev entry : tie.After-payload-at → tie.Start
-entry c = search needs
-
 -- the status is the text of the branch taken
-ended : (c : tie.Then1) → status (entry (c .before) .args .table .now) ≡ ascii "ended"
+ended : (c : tie.Then1) → let start : tie.Start = search needs in status (start .args .table .now) ≡ ascii "ended"
 ended c = status-ended _ (sym (c .before .payload-at .ensures) ∙ c .if1 .taken)
 
-paused : (c : tie.Else1) → status (entry (c .before) .args .table .now) ≡ ascii "paused"
+paused : (c : tie.Else1) → let start : tie.Start = search needs in status (start .args .table .now) ≡ ascii "paused"
 paused c = status-paused _ (λ e. c .if1 .left (c .before .payload-at .ensures ∙ e))
 
 pub put-status-spec : {M : Type 1} → statement M

@@ -6,11 +6,8 @@ use lib.ListN.{length, length-set}
 use Rattle.table_header.proofs.write_header.Statement.{statement}
 use Rattle.table_header.proofs.write_header.Tie as tie
 
-abbrev entry : tie.After-write-count → tie.Start
-entry c = search needs
-
 -- status and rounds leave the table as long as it was lent; the other counts keep that length
-as-lent : (c : tie.After-write-count) → length (c .write-count .last .0) ≡ length (entry c .args .table .now)
+as-lent : (c : tie.After-write-count) → let start : tie.Start = search needs in length (c .write-count .last .0) ≡ length (start .args .table .now)
 as-lent c = simp length-set at (c .write-count .kept .0)
 
 pub write-header-spec : {M : Type 1} → statement M
