@@ -1,73 +1,44 @@
--- `put_node_line` meets its contract: each part is written after the parts before it.
-use native.Mathlib.Omega.{arith}
-use Rattle.node_lines.specs.NodeLines.{nodeLine}
-use Rattle.text.proofs.Writing.{wrote-then, room-before, room-after, byte-room}
+-- `put_node_line` meets its contract: each part is written behind the parts before it, and what is left of the line has room there.
+use Prim.Native.Nat.{ℕ}
+use mathlib.Core.List.{List, _++_}
 use borrow.Author.Needs.{needs}
+use Rattle.answers.specs.Tables.{labelIn, predecessorIn}
+use Rattle.text.specs.Text.{decimal}
+use Rattle.text.specs.Written.{Wrote}
+use Rattle.text.proofs.Writing.{wrote-then, room-before, room-after, byte-room}
+use Rattle.table_fields.specs.Fields.{spaced}
+use Rattle.node_lines.specs.NodeLines.{nodeLine}
 use Rattle.node_lines.proofs.put_node_line.Statement.{statement}
 use Rattle.node_lines.proofs.put_node_line.Tie as tie
 
-put-number-requires : tie.Need-put-number-requires
-unfolding nodeLine
-put-number-requires c κs =
-    let pre = c .before .before .before .pre in
-    room-before _ (room-before _ (room-before _ (pre .1)))
+-- THE LINE so far: to the distance, and to the feeding arc
+module _ (table : List ℕ) (v : ℕ) where
+  abbrev toDistance : List ℕ
+  toDistance = decimal v ++ spaced (labelIn table v)
 
-put-payload-requires : tie.Need-put-payload-requires
-unfolding nodeLine
-put-payload-requires c κs =
-    let start : tie.Start = search needs in
-    let put-number = c .before .before .before .put-number in
-    let pre = start .pre in
-    (omega (arith, pre .0), room-after (put-number .ensures) (room-before _ (room-before _ (pre .1))))
+  abbrev toArc : List ℕ
+  toArc = toDistance ++ spaced (predecessorIn table v)
 
-put-payload-requires-2 : tie.Need-put-payload-requires-2
-unfolding nodeLine
-put-payload-requires-2 c κs =
-    let after-put-number : tie.After-put-number = search needs in
-    let start : tie.Start = search needs in
-    let put-payload = c .before .before .before .put-payload in
-    let put-number = after-put-number .put-number in
-    let pre = start .pre in
-    let distance = wrote-then (put-number .ensures) (put-payload .ensures) in
-    (omega (arith, pre .0), room-after distance (room-before _ (pre .1)))
+abbrev Written : tie.Start → (List ℕ → ℕ → List ℕ) → List ℕ → ℕ → Type 0
+Written c text out end = Wrote (c .args .out .now) (c .args .at) (text (c .args .table .now) (c .args .v)) out end
 
-put-byte-requires : tie.Need-put-byte-requires
-unfolding nodeLine
-put-byte-requires c κs =
-    let after-put-payload : tie.After-put-payload = search needs in
-    let after-put-number : tie.After-put-number = search needs in
-    let start : tie.Start = search needs in
-    let put-payload2 = c .before .before .before .put-payload2 in
-    let put-payload = after-put-payload .put-payload in
-    let put-number = after-put-number .put-number in
-    let pre = start .pre in
-    let distance = wrote-then (put-number .ensures) (put-payload .ensures) in
-    let arc = wrote-then distance (put-payload2 .ensures) in
-    byte-room (room-after arc (pre .1))
+distance : (c : tie.After-put-payload) → let start : tie.Start = search needs in Written start toDistance (c .put-payload .last .1 .1 .0) (c .put-payload .result)
+distance c = search (needs, wrote-then)
 
-returns : tie.Need-returns
-unfolding nodeLine
-returns c =
-    let after-put-payload2 : tie.After-put-payload2 = search needs in
-    let after-put-payload : tie.After-put-payload = search needs in
-    let after-put-number : tie.After-put-number = search needs in
-    let put-payload2 = after-put-payload2 .put-payload2 in
-    let put-payload = after-put-payload .put-payload in
-    let put-number = after-put-number .put-number in
-    let distance = wrote-then (put-number .ensures) (put-payload .ensures) in
-    let arc = wrote-then distance (put-payload2 .ensures) in
-    wrote-then arc (c .before .before .put-byte .ensures)
+arc : (c : tie.After-put-payload2) → let start : tie.Start = search needs in Written start toArc (c .put-payload2 .last .1 .1 .0) (c .put-payload2 .result)
+arc c = wrote-then (distance (search needs)) (c .put-payload2 .ensures)
 
 pub put-node-line-spec : {M : Type 1} → statement M
+unfolding nodeLine
 put-node-line-spec =
     tie.close
     (tie.spec
     (λ c. search needs)
     (λ c. search needs)
-    put-number-requires
-    put-payload-requires
+    (λ c κs. search (needs, room-before))
+    (λ c κs. search (needs, room-before, room-after))
     (λ c. search needs)
-    put-payload-requires-2
-    put-byte-requires
+    (λ c κs. (search needs, room-after (distance (search needs)) (search (needs, room-before))))
+    (λ c κs. let start : tie.Start = search needs in byte-room (room-after (arc (search needs)) (start .pre .1)))
     (λ c. search needs)
-    returns)
+    (λ c. wrote-then (arc (search needs)) (c .before .before .put-byte .ensures)))
