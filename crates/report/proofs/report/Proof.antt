@@ -1,4 +1,4 @@
--- `report` meets its contract: the judge's refusal, or the run of the accepted sheet.
+-- `report` meets its contract: the line of the judge's refusal, or what is printed of the accepted sheet.
 use mathlib.Core.Path.{sym, ap, _∙_}
 use Rattle.io.proofs.Counting.{counts}
 use Rattle.judge_answer.specs.Said.{said}
@@ -8,34 +8,20 @@ use borrow.Author.Needs.{needs}
 use Rattle.report.proofs.report.Statement.{statement}
 use Rattle.report.proofs.report.Tie as tie
 
-enum-told : tie.Need-enum-told
-enum-told c = search needs
-
 report-accepted-requires : tie.Need-report-accepted-requires
 report-accepted-requires c κs =
-    let after-judge : tie.After-judge = search needs in
-    let start : tie.Start = search needs in
-    let judge = after-judge .judge in
-    let pre = start .pre in
-    (sym (judge .ensures) ∙ ap said (c .before .before .enum-told .given .1), pre .0, pre .1)
+    let heard : tie.After-judge = search needs in
+    (sym (heard .judge .ensures) ∙ ap said (c .before .before .enum-told .given .1), search needs, search needs)
 
 returns : tie.Need-returns
 returns c =
-    let after-number-of : tie.After-number-of = search needs in
-    let after-judged : tie.After-judged = search needs in
-    let after-judge : tie.After-judge = search needs in
-    let number-of = after-number-of .number-of in
-    let judged = after-judged .judged in
-    let judge = after-judge .judge in (
-      reported-refusal _ _ (sym (judge .ensures) ∙ ap said (judged .given .1)) (rw (number-of .ensures) at (c .before .before .write-refused .ensures)),
-      counts _ _ (filled-within (c .before .before .write-refused .ensures)),
+    let heard : tie.After-judge = search needs in
+    let fault : tie.After-judged = search needs in
+    let numbered : tie.After-number-of = search needs in
+    let line = c .before .before .write-refused .ensures in (
+      reported-refusal _ _ (sym (heard .judge .ensures) ∙ ap said (fault .judged .given .1)) (rw (numbered .number-of .ensures) at line),
+      counts _ _ (filled-within line),
     )
-
-returns-2 : tie.Need-returns-2
-returns-2 c =
-    let after-report-accepted : tie.After-report-accepted = search needs in
-    let report-accepted = after-report-accepted .report-accepted in
-    (report-accepted .ensures, counts _ _ (filled-within (report-accepted .ensures .text)))
 
 pub report-spec : {M : Type 1} → statement M
 report-spec =
@@ -45,10 +31,10 @@ report-spec =
     (λ c. search needs)
     (λ c κs. search needs)
     (λ c κs. search needs)
-    enum-told
+    (λ c. search needs)
     report-accepted-requires
     (λ c. search needs)
     returns
     (λ c. search needs)
     (λ c. search needs)
-    returns-2)
+    (λ c. (search needs, search (needs, counts, filled-within))))

@@ -1,31 +1,21 @@
 -- `report_table` meets its contract: the run leaves the table of its end, whose listing is written.
-use Rattle.report.proofs.Outcomes.{run-leaves}
+use mathlib.Core.Path.{_≡_}
 use borrow.Author.Needs.{needs}
+use Rattle.report.specs.Report.{endTable}
+use Rattle.report.proofs.Outcomes.{run-leaves}
 use Rattle.report.proofs.report_table.Statement.{statement}
 use Rattle.report.proofs.report_table.Tie as tie
 
-run-requires : tie.Need-run-requires
-run-requires c κs = search needs
-
-write-listing-requires : tie.Need-write-listing-requires
-write-listing-requires c κs = search needs
-
-same-length : tie.Need-same-length
-same-length c = search needs
-
-same-length-2 : tie.Need-same-length-2
-same-length-2 c = search needs
-
-returns : tie.Need-returns
-returns c =
-    let after-run : tie.After-run = search needs in
-    let start : tie.Start = search needs in
-    let run = after-run .run in
-    let args = start .args in
-    let pre = start .pre in
-    let ended = run-leaves _ (args .table .now) (pre .0) (pre .1) (pre .2) (run .ensures .1) in
-    (ended, rw ended at (c .before .before .write-listing .ensures))
+-- the run leaves the table of its end
+ended : (c : tie.After-run) → let start : tie.Start = search needs in c .run .last .1 .0 ≡ endTable (start .args .sheet .now)
+ended c = search (needs, run-leaves)
 
 pub report-table-spec : {M : Type 1} → statement M
 report-table-spec =
-    tie.close (tie.spec run-requires write-listing-requires same-length same-length-2 returns)
+    tie.close
+    (tie.spec
+    (λ c κs. search needs)
+    (λ c κs. search needs)
+    (λ c. search needs)
+    (λ c. search needs)
+    (λ c. (ended (search needs), rw (ended (search needs)) at (c .before .before .write-listing .ensures))))
