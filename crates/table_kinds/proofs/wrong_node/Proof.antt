@@ -1,48 +1,23 @@
 -- `wrong_node` meets its contract: the two kinds, and then the predecessor.
-use mathlib.Core.Path.{sym, _∙_}
+use Prim.Native.Nat.{_+_, _*_}
+use mathlib.Core.Bool.{false}
+use mathlib.Core.Path.{_≡_, sym, _∙_}
+use borrow.Author.Needs.{needs}
 use borrow.Author.Tests.{lt-ltb, le-ltb}
 use Rattle.sheet.specs.Words.{top}
-use Rattle.answers.specs.Routes.{wrongNode}
-use borrow.Author.Needs.{needs}
+use Rattle.answers.specs.Routes.{wrongKind, wrongNode}
 use Rattle.table_kinds.proofs.wrong_node.Statement.{statement}
 use Rattle.table_kinds.proofs.wrong_node.Tie as tie
 
-returns : tie.Need-returns
-unfolding wrongNode
-returns c = rw (sym (c .before .wrong-kind .ensures) ∙ c .if1 .taken)
+-- the label is of its kind, and then the predecessor
+label-right : (c : tie.Else1) → let start : tie.Start = search needs in wrongKind (start .args .table .now) (9 + 2 * start .args .v .0) 9 ≡ false
+label-right c = sym (c .before .wrong-kind .ensures) ∙ c .if1 .left
 
-returns-2 : tie.Need-returns-2
-unfolding wrongNode
-returns-2 c =
-    let wrong-kind = c .before .before .before .wrong-kind in
-    let label = sym (wrong-kind .ensures) ∙ c .before .before .if1 .left in
-    rw (label, sym (c .before .wrong-kind2 .ensures) ∙ c .if2 .taken)
-
-returns-3 : tie.Need-returns-3
-unfolding wrongNode
-returns-3 c =
-    let after-wrong-kind : tie.After-wrong-kind = search needs in
-    let else1 : tie.Else1 = search needs in
-    let wrong-kind = after-wrong-kind .wrong-kind in
-    let if1 = else1 .if1 in
-    let wrong-kind2 = c .before .before .before .wrong-kind2 in
-    let label = sym (wrong-kind .ensures) ∙ if1 .left in
-    let arc = sym (wrong-kind2 .ensures) ∙ c .before .before .if2 .left in
-    rw (label, arc, ← c .before .predecessor-of .ensures, lt-ltb _ _ (c .if3 .taken))
-
-returns-4 : tie.Need-returns-4
-unfolding wrongNode top
-returns-4 c =
-    let after-wrong-kind : tie.After-wrong-kind = search needs in
-    let else1 : tie.Else1 = search needs in
-    let wrong-kind = after-wrong-kind .wrong-kind in
-    let if1 = else1 .if1 in
-    let wrong-kind2 = c .before .before .before .wrong-kind2 in
-    let label = sym (wrong-kind .ensures) ∙ if1 .left in
-    let arc = sym (wrong-kind2 .ensures) ∙ c .before .before .if2 .left in
-    rw (label, arc, ← c .before .predecessor-of .ensures, le-ltb _ _ (c .if3 .left))
+arc-right : (c : tie.Else2) → let start : tie.Start = search needs in wrongKind (start .args .table .now) (9 + 2 * start .args .v .0 + 1) 10 ≡ false
+arc-right c = sym (c .before .wrong-kind2 .ensures) ∙ c .if2 .left
 
 pub wrong-node-spec : {M : Type 1} → statement M
+unfolding wrongNode top
 wrong-node-spec =
     tie.close
     (tie.spec
@@ -50,10 +25,10 @@ wrong-node-spec =
     (λ c. search needs)
     (λ c. search needs)
     (λ c κs. search needs)
-    returns
+    (λ c. rw (sym (c .before .wrong-kind .ensures) ∙ c .if1 .taken))
     (λ c. search needs)
     (λ c κs. search needs)
-    returns-2
+    (λ c. rw (label-right (search needs), sym (c .before .wrong-kind2 .ensures) ∙ c .if2 .taken))
     (λ c κs. search needs)
-    returns-3
-    returns-4)
+    (λ c. rw (label-right (search needs), arc-right (search needs), ← c .before .predecessor-of .ensures, lt-ltb _ _ (c .if3 .taken)))
+    (λ c. rw (label-right (search needs), arc-right (search needs), ← c .before .predecessor-of .ensures, le-ltb _ _ (c .if3 .left))))
