@@ -4,7 +4,7 @@ use Prim.Native.Nat.{ℕ, suc, pred, _+_, _≤_, _<_}
 use native.Mathlib.Omega.{arith}
 use mathlib.Core.Bool.{true, false, not, true≢false}
 use mathlib.Core.Path.{_≡_, refl, sym, ap, _∙_}
-use mathlib.Core.Logic.{_≢_, ⊎-elim}
+use mathlib.Core.Logic.{_≢_}
 use mathlib.Core.List.{List}
 use lib.ListN.{length, set, length-set, length-replicate, getD-replicate}
 use lib.Seq.{getD-set-same}
@@ -12,7 +12,7 @@ use lib.Dec.{eqb}
 use borrow.Author.Tests.{eq-eqb, ne-eqb}
 use Rattle.indices.specs.Columns.{at}
 use Rattle.indices.specs.Tests.{count}
-use Rattle.indices.proofs.Steps.{eq-or-ne, set-elim, true-or-false}
+use Rattle.indices.proofs.Steps.{by-equal, by-truth, set-elim}
 use Rattle.indices.proofs.Tests.{and-right, all-at}
 use Rattle.indices.proofs.Tally.{blank}
 use Rattle.indices.proofs.Totals.{count-one}
@@ -202,9 +202,8 @@ module _ {b table : List ℕ} where
           long = W .long;
           home = W .home;
           low = λ w l. omega (arith, W .low w l);
-          led = λ w l s. ⊎-elim (λ (e : at stamps w ≡ v + 2).
-              let q = W .own w l e (u-leads .0) (u-leads .1) in
-              depth-led (q .0, q .2)) (λ (n : at stamps w ≢ v + 2). W .led w l s n) (eq-or-ne (at stamps w) (v + 2));
+          led = λ w l s. by-equal (at stamps w) (v + 2)
+              (λ e. let q = W .own w l e (u-leads .0) (u-leads .1) in depth-led (q .0, q .2)) (λ n. W .led w l s n);
         }
 
       -- where the walk ends, the stamp that is met decides
@@ -212,10 +211,10 @@ module _ {b table : List ℕ} where
           → (not (eqb (at stamps u) (v + 2)) ≡ nodeLed b table v) × (not (eqb (at stamps u) (v + 2)) ≡ true → Stamped b table stamps (v + 1))
       walk-end l ex rx met =
           let r : at (labels b table) v ≢ top = λ e. rx (ex ∙ label-there b table v l ∙ e) in
-          ⊎-elim (λ (e : at stamps u ≡ v + 2).
+          by-equal (at stamps u) (v + 2)
+          (λ e.
           rw (eq-eqb (at stamps u) (v + 2) e) (
-            sym (led-reached v r ∙ ⊎-elim (λ (t : leads b table v ≡ true). absurd (walk-ring e t l r)) (λ (f : leads b table v ≡ false). f)
-                (true-or-false (leads b table v))),
+            sym (led-reached v r ∙ by-truth (leads b table v) (λ t. absurd (walk-ring e t l r)) (λ f. f)),
             λ f. absurd (true≢false (sym f)),
-          )) (λ (n : at stamps u ≢ v + 2).
-          rw (ne-eqb (at stamps u) (v + 2) n) (sym (led-reached v r ∙ walk-led met n), λ _. walk-stamped met n)) (eq-or-ne (at stamps u) (v + 2))
+          ))
+          (λ n. rw (ne-eqb (at stamps u) (v + 2) n) (sym (led-reached v r ∙ walk-led met n), λ _. walk-stamped met n))
