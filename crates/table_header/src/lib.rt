@@ -13,7 +13,7 @@ pub fn write_header(table: &mut [u32], ended: bool, counts: Counts)
     requires { ⌜ (9 ≤ length (now table)) × Countable counts ⌝ }
     ensures { λ _. ⌜ now (table .exit) ≡ sets (now (table .entry)) 0 (statusWord ended ∷ countWords (countsOf counts)) ⌝ }
 {
-    table[0] = table_words::status_word(ended);
+    table_words::write_word(table, 0, table_words::status_word(ended));
     table_words::write_count(table, 1, counts.rounds);
     table_words::write_count(table, 3, counts.leaves);
     table_words::write_count(table, 5, counts.inner);

@@ -2,7 +2,7 @@
 ghost use mathlib.Core.Path.{_≡_};
 ghost use mathlib.Core.List.{[], _∷_};
 ghost use Prim.Native.Nat.{_+_, _^_, _<_};
-ghost use lib.ListN.{length};
+ghost use lib.ListN.{length, set};
 ghost use lib.Seq.{sets};
 ghost use Rattle.procedure.specs.Table.{tableWord, statusWord, countWords};
 
@@ -49,13 +49,21 @@ pub fn predecessor_word(predecessor: u32) -> u32
     word(PREDECESSOR, predecessor)
 }
 
+// Writes a word at place i.
+pub fn write_word(table: &mut [u32], i: usize, w: u32)
+    requires { ⌜ i < length (now table) ⌝ }
+    ensures { λ _. ⌜ now (table .exit) ≡ set (now (table .entry)) i w ⌝ }
+{
+    table[i] = w;
+}
+
 // Writes two words from place i on.
 pub fn write_pair(table: &mut [u32], i: usize, first: u32, second: u32)
     requires { ⌜ i + 1 < length (now table) ⌝ }
     ensures { λ _. ⌜ now (table .exit) ≡ sets (now (table .entry)) i (first ∷ second ∷ []) ⌝ }
 {
-    table[i] = first;
-    table[i + 1] = second;
+    write_word(table, i, first);
+    write_word(table, i + 1, second);
 }
 
 // Writes the two words of a count, high 28 bits before low 28, from place i on.
