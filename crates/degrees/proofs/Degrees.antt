@@ -32,7 +32,8 @@ module _ (b : List ℕ) where
   one-way false e = rw e
 
   -- v is the end of arc a, and the counters tell of the arcs before it
-  module _ (heads : Bool) {seen : List ℕ} {a v : ℕ} (t : Tally (endsAt heads b) mostArcsEachWay seen a) (e : v ≡ endOf heads b a) (inside : v < length seen) where
+  module _ (heads : Bool) {seen : List ℕ} {a v : ℕ} (t : Tally (endsAt heads b) mostArcsEachWay seen a) (e : v ≡ endOf heads b a)
+      (inside : v < length seen) where
     -- arc a is one more than v may have
     pub one-too-many : endsOutside b ≡ false → a < arcCount b → mostArcsEachWay ≤ getD seen v 0 → tooManyAtNode b ≡ true
     unfolding crowdedNodes

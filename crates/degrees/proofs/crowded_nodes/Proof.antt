@@ -75,7 +75,13 @@ crowded-nodes-spec =
     Inv-loop
     μ-loop
     (λ c. omega arith)
-    (λ c. record { passed = omega arith; tails-long = refl; heads-long = refl; out = tally-none _ mostArcsEachWay 1024; into = tally-none _ mostArcsEachWay 1024 })
+    (λ c. record {
+      passed = omega arith;
+      tails-long = refl;
+      heads-long = refl;
+      out = tally-none _ mostArcsEachWay 1024;
+      into = tally-none _ mostArcsEachWay 1024;
+    })
     (λ c κs. search needs)
     (λ c κs. search needs)
     (λ c. omega arith)
