@@ -1,12 +1,13 @@
--- What is laid out in the fronts of slices is laid out in the slices, but that the rows of the arcs and the spans are their fronts; the graph's part and the
--- division's are the whole. Assumes nothing.
+-- The fronts of the slices lent are as long as what is laid in them asks. What is laid out in the fronts is laid out in the slices, but that the rows of the arcs
+-- and the spans are their fronts; the graph's part and the division's are the whole.
 use Prim.Native.Nat.{ℕ, _+_, _*_, _≤_, _<_}
 use mathlib.Core.Path.{_≡_, ap, _∙_}
 use mathlib.Core.List.{List, _++_}
 use native.Mathlib.Omega.{arith}
 use lib.ListN.{length, take, length-append, List·getD-append}
-use lib.Seq.{take-at}
+use lib.Seq.{take-at, length-take-le}
 use Rattle.indices.specs.Columns.{at}
+use Rattle.sheet.specs.declared.Sections.{Sections}
 use Rattle.refusals.specs.Judgement.{Accepted}
 use Rattle.procedure.specs.Graph.{Graph}
 use Rattle.procedure.specs.Division.{Division}
@@ -17,7 +18,29 @@ use Rattle.tree_places.specs.Trees.{Planned}
 use Rattle.slices.specs.Tables.{ArcLinks, RegionRows, tablesOf}
 use Rattle.sizes.specs.declared.Sizes.{Sizes}
 use Rattle.sizes.specs.InUse.{InUse}
+use Rattle.layout.specs.Layout.{GraphLent, DivisionLent, ArcsLent, RegionsLent}
 use Rattle.layout.specs.Layout.{Laid, ArcsLaid, RegionsLaid, GraphLaid, DivisionLaid}
+
+-- THE FRONTS IN USE
+module _ {b : List ℕ} {at : Sections} {z : Sizes} where
+  pub arcs-lent : {arcRows firsts lengths : List ℕ} → GraphLent b at z arcRows firsts lengths
+      → ArcsLent b at (take (4 * z .arcs) arcRows) (take (z .nodes) firsts)
+  arcs-lent G = record {
+    accepted = G .accepted;
+    located = G .located;
+    each-arc = length-take-le _ _ (G .arc-room) ∙ ap (λ n. 4 * n) (G .in-use .arcs-all);
+    each-node = length-take-le _ _ (G .node-room) ∙ G .in-use .nodes-all;
+  }
+
+  pub regions-lent : {rows spans regionRows : List ℕ} (parents : List ℕ) → DivisionLent b at z rows spans regionRows → z .regions ≤ length parents
+      → RegionsLent b at (take (z .regions) parents) (take (4 * z .regions) rows) (take (2 * z .regions) regionRows)
+  regions-lent parents D l = record {
+    accepted = D .accepted;
+    located = D .located;
+    each-parent = length-take-le _ _ l ∙ D .in-use .regions-all;
+    each-row = length-take-le _ _ (D .row-room) ∙ ap (λ n. 4 * n) (D .in-use .regions-all);
+    each-region = length-take-le _ _ (D .region-room) ∙ ap (λ n. 2 * n) (D .in-use .regions-all);
+  }
 
 -- ROWS, AND MORE AFTER THEM
 module _ (xs more : List ℕ) where

@@ -1,5 +1,6 @@
--- The slices that are laid out represent the graph and the division of an accepted sheet. Assumes nothing.
+-- The slices that are laid out represent the graph and the division of an accepted sheet.
 use Prim.Native.Nat.{ℕ, _*_, _<_}
+use mathlib.Core.Bool.{true}
 use mathlib.Core.Path.{_≡_, refl, sym, ap, _∙_}
 use mathlib.Core.List.{List}
 use native.Mathlib.Omega.{arith}
@@ -9,7 +10,8 @@ use lib.ListN.{length}
 use Rattle.indices.proofs.Tests.{and-both, count-once}
 use Rattle.sheet.specs.Words.{words, top}
 use Rattle.sheet.specs.Sections.{nodeCount, source, arcCount, regionWords}
-use Rattle.sheet.specs.Regions.{regionCount, leafWord, arcWord}
+use Rattle.sheet.specs.Arcs.{tail, head}
+use Rattle.sheet.specs.Regions.{regionCount, leafWord, arcWord, isLeaf, leafArc}
 use Rattle.refusals.specs.Judgement.{Accepted}
 use Rattle.refusals.specs.Nesting.{leafOfArc}
 use Rattle.refusals.proofs.Accepted.{few-arcs, few-nodes, source-in, tail-in, few-region-words, nesting, leaf-arc, one-leaf}
@@ -19,7 +21,7 @@ use Rattle.procedure.specs.OfSheet.{graphOf, divisionOf}
 use Rattle.procedure.proofs.OfSheet.{graph-nodes, graph-arcs, graph-tail, graph-head}
 use Rattle.procedure.proofs.OfSheet.{division-regions, division-parent, division-arc, division-leaf, division-height}
 use Rattle.procedure.proofs.WellFormed.{accepted-well-formed}
-use Rattle.rows.specs.Rows.{rowCount, rowTail, rowLeaf}
+use Rattle.rows.specs.Rows.{rowCount, rowTail, rowHead, rowLeaf}
 use Rattle.tree_places.specs.Trees.{ParentsOf}
 use Rattle.rows.specs.Links.{Linkable, Linked}
 use Rattle.planning.proofs.Planning.{division-parents}
@@ -30,11 +32,28 @@ use Rattle.region_entries.specs.Regions.{Nested, ParentsEntered, HeightsEntered
 use Rattle.layout.specs.Layout.{ArcsLaid}
 use Rattle.region_entries.proofs.Rows.{leaf-row, inner-row}
 
+-- the rows of the arcs before they are linked: the ends of each arc and its leaf
+pub record ArcsFilled (b arcRows : List ℕ) : Type 0 where
+  pub all : length arcRows ≡ 4 * arcCount b
+  pub tails : (a : ℕ) → a < arcCount b → rowTail arcRows a ≡ tail b a
+  pub heads : (a : ℕ) → a < arcCount b → rowHead arcRows a ≡ head b a
+  pub leaves : (r : ℕ) → r < regionCount (regionWords b) → isLeaf (regionWords b) r ≡ true → rowLeaf arcRows (leafArc (regionWords b) r) ≡ r
+
+-- ends, then the leaves of the words d
+pub arcs-filled : {b d ended entered : List ℕ} → EndsEntered b ended → d ≡ regionWords b → LeavesEntered d ended entered → length entered ≡ 4 * arcCount b
+    → ArcsFilled b entered
+arcs-filled E e L all = record {
+  all = all;
+  tails = λ a l. L .kept a 0 (omega arith) ∙ E .tails a l;
+  heads = λ a l. L .kept a 1 (omega arith) ∙ E .heads a l;
+  leaves = (rw e at L) .leaves;
+}
+
 module _ (b : List ℕ) (ok : Accepted b) where
   -- THE ARCS
 
-  pub leaves-apart : (m : ℕ) → m ≡ arcCount b → LeavesApart (regionWords b) m
-  leaves-apart m all = record {
+  pub leaves-apart : {d : List ℕ} {m : ℕ} → d ≡ regionWords b → m ≡ arcCount b → LeavesApart d m
+  leaves-apart e all = rw e (record {
     few = few-region-words b ok;
     below = λ k l leaf. omega (arith, leaf-arc b ok k l leaf);
     apart =
@@ -43,17 +62,17 @@ module _ (b : List ℕ) (ok : Accepted b) where
         let a = arcWord d k in
         count-once (leafOfArc d a) (words d) (one-leaf b ok a (leaf-arc b ok k lk leaf-k)) j k lj lk
         (and-both (leafWord d j) (eqb (arcWord d j) a) leaf-j (eq-eqb (arcWord d j) a e)) (and-both (leafWord d k) (eqb a a) leaf-k (eq-eqb a a refl));
-  }
+  })
 
-  -- ends, then leaves, then links
-  module _ {ended entered : List ℕ} (E : EndsEntered b ended) (L : LeavesEntered (regionWords b) ended entered) (long : length entered ≡ 4 * arcCount b) where
+  -- ends and leaves are entered: the rows can be linked, and once they are linked the arcs are laid
+  module _ {entered : List ℕ} (F : ArcsFilled b entered) where
     pub linkable : (firsts : List ℕ) → length firsts ≡ nodeCount b → Linkable entered firsts
     linkable firsts e = record {
-      short = omega (arith, long, few-arcs b ok);
+      short = omega (arith, F .all, few-arcs b ok);
       below =
           λ a l.
-          let inside : a < arcCount b = omega (arith, long) in
-          omega (arith, L .kept a 0 (omega arith), E .tails a inside, tail-in b ok a inside, e);
+          let inside : a < arcCount b = omega (arith, F .all) in
+          omega (arith, F .tails a inside, tail-in b ok a inside, e);
     }
 
     -- the leaf of an arc is in its row
@@ -65,7 +84,7 @@ module _ (b : List ℕ) (ok : Accepted b) where
         let inside : r < regionCount (regionWords b) = omega (arith, there .0, division-regions b) in
         let below : arcOf (divisionOf b) r < top = omega (arith, there .1, graph-arcs b, few-arcs b ok) in
         let leaf = sym (division-leaf b r inside) ∙ lt-ltb (arcOf (divisionOf b) r) top below in
-        ap (rowLeaf entered) (sym (sym (division-arc b r inside) ∙ there .1)) ∙ L .leaves r inside leaf
+        ap (rowLeaf entered) (sym (sym (division-arc b r inside) ∙ there .1)) ∙ F .leaves r inside leaf
 
     module _ {linked firsts : List ℕ} (K : Linked entered linked firsts) (all : length linked ≡ 4 * arcCount b) (wide : length firsts ≡ nodeCount b) where
       is-arc : (a : ℕ) → a < arcs (graphOf b) → a < arcCount b
@@ -74,22 +93,22 @@ module _ (b : List ℕ) (ok : Accepted b) where
       arc-rows : ArcRows (graphOf b) (divisionOf b) linked
       arc-rows = record {
         all = omega (arith, all, graph-arcs b);
-        tails = λ a l. K .tails a ∙ L .kept a 0 (omega arith) ∙ E .tails a (is-arc a l) ∙ sym (graph-tail b a (is-arc a l));
-        heads = λ a l. K .heads a ∙ L .kept a 1 (omega arith) ∙ E .heads a (is-arc a l) ∙ sym (graph-head b a (is-arc a l));
+        tails = λ a l. K .tails a ∙ F .tails a (is-arc a l) ∙ sym (graph-tail b a (is-arc a l));
+        heads = λ a l. K .heads a ∙ F .heads a (is-arc a l) ∙ sym (graph-head b a (is-arc a l));
         leaves = λ a l. K .leaves a ∙ leaf-entered a l;
       }
 
       pub arcs-laid : ArcsLaid (graphOf b) (divisionOf b) linked firsts
       arcs-laid =
-          let count : rowCount entered ≡ arcs (graphOf b) = omega (arith, long, graph-arcs b) in
+          let count : rowCount entered ≡ arcs (graphOf b) = omega (arith, F .all, graph-arcs b) in
           let nodes : length firsts ≡ graphOf b .nodes = wide ∙ sym (graph-nodes b) in
           let links = links-same (rowTail entered) (rowTail linked) (λ a l. K .tails a) (K .links) in
           record { arc-rows = arc-rows; links = record { all = omega (arith, nodes); linked = rw (count, nodes) at links } }
 
   -- THE REGIONS
 
-  pub nested : Nested (regionWords b)
-  nested = record { few = few-region-words b ok; nesting = nesting b ok }
+  pub nested : {d : List ℕ} → d ≡ regionWords b → Nested d
+  nested e = rw e (record { few = few-region-words b ok; nesting = nesting b ok })
 
   pub parents-of : {d parents : List ℕ} → d ≡ regionWords b → ParentsEntered d parents → ParentsOf (divisionOf b) parents
   parents-of {d} {parents} e entered =

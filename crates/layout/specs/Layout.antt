@@ -1,8 +1,15 @@
--- The slices of a run, laid out from an accepted sheet b. Definitions; assumes nothing.
-use Prim.Native.Nat.{ℕ, _<_}
+-- The slices of a run, laid out from an accepted sheet b: what is lent, and what is laid in it. Definitions.
+use Prim.Native.Nat.{ℕ, _*_, _≤_, _<_}
 use mathlib.Core.Path.{_≡_}
 use mathlib.Core.List.{List}
+use lib.ListN.{length}
 use Rattle.indices.specs.Columns.{at}
+use Rattle.sheet.specs.declared.Sections.{Sections}
+use Rattle.sheet.specs.Sections.{Located, nodeCount, arcCount, regionWords}
+use Rattle.sheet.specs.Regions.{regionCount}
+use Rattle.refusals.specs.Judgement.{Accepted}
+use Rattle.sizes.specs.declared.Sizes.{Sizes}
+use Rattle.sizes.specs.InUse.{InUse}
 use Rattle.procedure.specs.Graph.{Graph, arcs, len}
 use Rattle.procedure.specs.Division.{Division}
 use Rattle.procedure.specs.OfSheet.{graphOf, divisionOf, spansOf}
@@ -34,3 +41,38 @@ pub record GraphLaid (b arcRows firsts lengths : List ℕ) : Type 0 where
 pub record DivisionLaid (b rows spans regionRows : List ℕ) : Type 0 where
   pub regions-laid : RegionsLaid (divisionOf b) rows regionRows
   pub each-span : spans ≡ spansOf b
+
+-- WHAT IS LENT, with an accepted sheet and the places of its sections
+
+-- slices with room for the sheet's graph
+pub record GraphLent (b : List ℕ) (at : Sections) (z : Sizes) (arcRows firsts lengths : List ℕ) : Type 0 where
+  pub accepted : Accepted b
+  pub located : Located b at
+  pub in-use : InUse b z
+  pub arc-room : 4 * z .arcs ≤ length arcRows
+  pub node-room : z .nodes ≤ length firsts
+  pub length-room : z .arcs ≤ length lengths
+
+-- slices with room for its division
+pub record DivisionLent (b : List ℕ) (at : Sections) (z : Sizes) (rows spans regionRows : List ℕ) : Type 0 where
+  pub accepted : Accepted b
+  pub located : Located b at
+  pub in-use : InUse b z
+  pub row-room : 4 * z .regions ≤ length rows
+  pub span-room : z .spans ≤ length spans
+  pub region-room : 2 * z .regions ≤ length regionRows
+
+-- a row for each arc, and a first arc for each node
+pub record ArcsLent (b : List ℕ) (at : Sections) (arcRows firsts : List ℕ) : Type 0 where
+  pub accepted : Accepted b
+  pub located : Located b at
+  pub each-arc : length arcRows ≡ 4 * arcCount b
+  pub each-node : length firsts ≡ nodeCount b
+
+-- a parent and the rows of each region
+pub record RegionsLent (b : List ℕ) (at : Sections) (parents rows regionRows : List ℕ) : Type 0 where
+  pub accepted : Accepted b
+  pub located : Located b at
+  pub each-parent : length parents ≡ regionCount (regionWords b)
+  pub each-row : length rows ≡ 4 * regionCount (regionWords b)
+  pub each-region : length regionRows ≡ 2 * regionCount (regionWords b)

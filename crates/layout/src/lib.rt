@@ -1,12 +1,10 @@
 // From an accepted sheet to the slices of a run: arcs, lengths, spans and regions, as the engine reads them. Every pass is linear in the sheet's words.
 ghost use mathlib.Core.Path.{_≡_};
-ghost use Prim.Native.Nat.{_*_, _≤_};
-ghost use lib.ListN.{length, take};
-ghost use Rattle.sheet.specs.Sections.{Located, nodeCount, arcCount, regionWords};
-ghost use Rattle.sheet.specs.Regions.{regionCount};
+ghost use Prim.Native.Nat.{_*_};
+ghost use lib.ListN.{take};
 ghost use Rattle.refusals.specs.Judgement.{Accepted};
 ghost use Rattle.procedure.specs.OfSheet.{graphOf, divisionOf};
-ghost use Rattle.sizes.specs.InUse.{InUse};
+ghost use Rattle.layout.specs.Layout.{GraphLent, DivisionLent, ArcsLent, RegionsLent};
 ghost use Rattle.layout.specs.Layout.{ArcsLaid, RegionsLaid, GraphLaid, DivisionLaid};
 use sheet::Node;
 use sheet::Sections;
@@ -15,7 +13,7 @@ use slices::REGIONS;
 
 // The rows of the arcs, and each node's first arc.
 fn lay_arcs(s: &[u8], at: Sections, arcs: &mut [u16], firsts: &mut [u16])
-    requires { ⌜ Accepted (now s) × Located (now s) at × (length (now arcs) ≡ 4 * arcCount (now s)) × (length (now firsts) ≡ nodeCount (now s)) ⌝ }
+    requires { ⌜ ArcsLent (now s) at (now arcs) (now firsts) ⌝ }
     ensures { λ _. ⌜ ArcsLaid (graphOf (now (s .entry))) (divisionOf (now (s .entry))) (now (arcs .exit)) (now (firsts .exit)) ⌝ }
 {
     arc_entries::enter_ends(s, at, arcs);
@@ -25,8 +23,7 @@ fn lay_arcs(s: &[u8], at: Sections, arcs: &mut [u16], firsts: &mut [u16])
 
 // The rows of the regions, for the tables and for the queues. Of `parents` nothing is promised.
 fn lay_regions(s: &[u8], at: Sections, parents: &mut [u16], rows: &mut [u16], regions: &mut [u16])
-    requires { ⌜ Accepted (now s) × Located (now s) at × (length (now parents) ≡ regionCount (regionWords (now s)))
-        × (length (now rows) ≡ 4 * regionCount (regionWords (now s))) × (length (now regions) ≡ 2 * regionCount (regionWords (now s))) ⌝ }
+    requires { ⌜ RegionsLent (now s) at (now parents) (now rows) (now regions) ⌝ }
     ensures { λ _. ⌜ RegionsLaid (divisionOf (now (s .entry))) (now (rows .exit)) (now (regions .exit)) ⌝ }
 {
     let d = reader::region_words(s, at);
@@ -53,8 +50,7 @@ pub fn lay_graph(
     firsts: &mut [u16],
     lengths: &mut [u32],
 )
-    requires { ⌜ Accepted (now s) × Located (now s) at × InUse (now s) sizes × (4 * sizes .arcs ≤ length (now arcs))
-        × (sizes .nodes ≤ length (now firsts)) × (sizes .arcs ≤ length (now lengths)) ⌝ }
+    requires { ⌜ GraphLent (now s) at sizes (now arcs) (now firsts) (now lengths) ⌝ }
     ensures { λ _. ⌜ GraphLaid (now (s .entry)) (take (4 * sizes .arcs) (now (arcs .exit))) (now (firsts .exit)) (now (lengths .exit)) ⌝ }
 {
     let n = sizes.nodes;
@@ -72,8 +68,7 @@ pub fn lay_division(
     spans: &mut [u32],
     regions: &mut [u16],
 )
-    requires { ⌜ Accepted (now s) × Located (now s) at × InUse (now s) sizes × (4 * sizes .regions ≤ length (now rows))
-        × (sizes .spans ≤ length (now spans)) × (2 * sizes .regions ≤ length (now regions)) ⌝ }
+    requires { ⌜ DivisionLent (now s) at sizes (now rows) (now spans) (now regions) ⌝ }
     ensures { λ _. ⌜ DivisionLaid (now (s .entry)) (now (rows .exit)) (take (sizes .spans) (now (spans .exit))) (now (regions .exit)) ⌝ }
 {
     let k = sizes.spans;

@@ -26,7 +26,14 @@ lay-division-requires c κs =
     let known = sized (after-lay-graph) in
     let pre = entry known .pre in
     let used = known .sizes-of .ensures in
-    (pre .accepted, pre .located, used, omega (arith, used .few-regions), used .few-spans, omega (arith, used .few-regions))
+    record {
+      accepted = pre .accepted;
+      located = pre .located;
+      in-use = used;
+      row-room = omega (arith, used .few-regions);
+      span-room = used .few-spans;
+      region-room = omega (arith, used .few-regions);
+    }
 
 -- THE PARTS that are in use are as long as the run asks
 slice-aggregate-run-tables : tie.Need-slice-aggregate-run-tables

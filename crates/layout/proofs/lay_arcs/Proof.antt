@@ -1,59 +1,46 @@
--- `lay_arcs` meets its contract: ends, then leaves, then links. Assumes nothing.
+-- `lay_arcs` meets its contract: each row gets the ends of its arc, then the leaf, and rows with both can be linked.
 use borrow.Author.Needs.{needs}
 use native.Mathlib.Omega.{arith}
 use Rattle.refusals.proofs.Accepted.{few-arcs}
-use Rattle.layout.proofs.Represented.{leaves-apart, linkable, arcs-laid}
+use Rattle.layout.proofs.Represented.{leaves-apart, ArcsFilled, arcs-filled, linkable, arcs-laid}
 use Rattle.layout.proofs.lay_arcs.Statement.{statement}
 use Rattle.layout.proofs.lay_arcs.Tie as tie
 
-enter-ends-requires : tie.Need-enter-ends-requires
-enter-ends-requires c κs =
-    let start : tie.Start = search needs in
-    let pre = start .pre in
-    (pre .1, few-arcs _ (pre .0), pre .2)
+abbrev entry : tie.After-enter-leaves → tie.Start
+entry c = search needs
+
+-- the rows have ends and leaves
+filled : (c : tie.After-enter-leaves) → ArcsFilled (entry c .args .s .now) (c .enter-leaves .last .1 .0)
+filled c =
+    let ended : tie.After-enter-ends = search needs in
+    let words : tie.After-region-words = search needs in
+    arcs-filled (ended .enter-ends .ensures) (words .region-words .ensures) (c .enter-leaves .ensures)
+    (omega (arith, c .enter-leaves .kept, ended .enter-ends .kept, entry c .pre .each-arc))
 
 enter-leaves-requires : tie.Need-enter-leaves-requires
 enter-leaves-requires c κs =
     let start : tie.Start = search needs in
-    let after-enter-ends : tie.After-enter-ends = search needs in
-    let pre = start .pre in
-    let enter-ends = after-enter-ends .enter-ends in
-    rw (c .before .region-words .ensures) (leaves-apart _ (pre .0) _ (omega (arith, enter-ends .kept, pre .2)))
+    let ended : tie.After-enter-ends = search needs in
+    leaves-apart _ (start .pre .accepted) (c .before .region-words .ensures) (omega (arith, ended .enter-ends .kept, start .pre .each-arc))
 
 link-requires : tie.Need-link-requires
 link-requires c κs =
-    let start : tie.Start = search needs in
-    let after-enter-ends : tie.After-enter-ends = search needs in
-    let after-region-words : tie.After-region-words = search needs in
-    let after-enter-leaves : tie.After-enter-leaves = search needs in
-    let pre = start .pre in
-    let enter-ends = after-enter-ends .enter-ends in
-    let region-words = after-region-words .region-words in
-    let enter-leaves = after-enter-leaves .enter-leaves in
-    linkable _ (pre .0) (enter-ends .ensures) (rw (region-words .ensures) at (enter-leaves .ensures))
-    (omega (arith, enter-leaves .kept, enter-ends .kept, pre .2)) _ (pre .3)
+    let entered : tie.After-enter-leaves = search needs in
+    linkable _ (entry entered .pre .accepted) (filled entered) _ (entry entered .pre .each-node)
 
 returns : tie.Need-returns
 returns c =
-    let start : tie.Start = search needs in
-    let after-enter-ends : tie.After-enter-ends = search needs in
-    let after-region-words : tie.After-region-words = search needs in
-    let after-enter-leaves : tie.After-enter-leaves = search needs in
-    let after-link : tie.After-link = search needs in
-    let pre = start .pre in
-    let enter-ends = after-enter-ends .enter-ends in
-    let region-words = after-region-words .region-words in
-    let enter-leaves = after-enter-leaves .enter-leaves in
-    let link = after-link .link in
-    arcs-laid _ (pre .0) (enter-ends .ensures) (rw (region-words .ensures) at (enter-leaves .ensures))
-    (omega (arith, enter-leaves .kept, enter-ends .kept, pre .2)) (link .ensures) (omega (arith, link .kept, enter-leaves .kept, enter-ends .kept, pre .2))
-    (omega (arith, link .kept, pre .3))
+    let entered : tie.After-enter-leaves = search needs in
+    let linked : tie.After-link = search needs in
+    let lent = entry entered .pre in
+    arcs-laid _ (lent .accepted) (filled entered) (linked .link .ensures) (omega (arith, linked .link .kept, filled entered .all))
+    (omega (arith, linked .link .kept, lent .each-node))
 
 pub lay-arcs-spec : {M : Type 1} → statement M
 lay-arcs-spec =
     tie.close
     (tie.spec
-    enter-ends-requires
+    (λ c κs. search (needs, few-arcs))
     (λ c κs. search needs)
     enter-leaves-requires
     link-requires

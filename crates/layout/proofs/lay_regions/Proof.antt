@@ -1,69 +1,51 @@
--- `lay_regions` meets its contract: parents, arcs, heights, and the trees from the parents. Assumes nothing.
+-- `lay_regions` meets its contract: parents and arcs from the region words, heights from both, and the trees from the parents.
 use borrow.Author.Needs.{needs}
 use native.Mathlib.Omega.{arith}
 use Rattle.procedure.specs.OfSheet.{divisionOf}
 use Rattle.procedure.proofs.OfSheet.{division-regions}
+use Rattle.tree_places.specs.Trees.{ParentsOf}
+use Rattle.region_entries.specs.Regions.{Nested}
 use Rattle.layout.proofs.Represented.{nested, parents-of, region-rows}
 use Rattle.layout.proofs.lay_regions.Statement.{statement}
 use Rattle.layout.proofs.lay_regions.Tie as tie
 
--- where the function begins, and the calls before a place
 abbrev entry : tie.After-region-words → tie.Start
-entry c =
-    let known = c .before .before .before in
-    known .before .before
+entry c = search needs
 
 abbrev words : tie.After-enter-parents → tie.After-region-words
-words c = c .before .before
+words c = search needs
 
-abbrev parents : tie.After-enter-region-arcs → tie.After-enter-parents
-parents c = c .before .before .before .before
+-- the region words nest
+nested-words : (c : tie.After-region-words) → Nested (c .region-words .result .now)
+nested-words c = nested _ (entry c .pre .accepted) (c .region-words .ensures)
 
-abbrev arcs : tie.After-enter-heights-arg2 → tie.After-enter-region-arcs
-arcs c = c .before .before .before .before
-
-abbrev heights : tie.After-plan-arg2 → tie.After-enter-heights
-heights c = c .before .before .before .before
+-- the parents are those of the sheet's division
+parents : (c : tie.After-enter-parents) → ParentsOf (divisionOf (entry (words c) .args .s .now)) (c .enter-parents .last .1 .0)
+parents c = parents-of _ (entry (words c) .pre .accepted) (words c .region-words .ensures) (c .enter-parents .ensures)
 
 enter-parents-requires : tie.Need-enter-parents-requires
 enter-parents-requires c κs =
-    let pre = entry (c .before) .pre in
-    rw (c .before .region-words .ensures) (nested _ (pre .0), pre .2)
+    let words : tie.After-region-words = search needs in
+    (nested-words words, rw (words .region-words .ensures) (entry words .pre .each-parent))
 
 enter-region-arcs-requires : tie.Need-enter-region-arcs-requires
 enter-region-arcs-requires c κs =
-    let from = words (c .before .before .before) in
-    let pre = entry from .pre in
-    rw (from .region-words .ensures) (nested _ (pre .0) .few, pre .4)
-
-enter-heights-requires : tie.Need-enter-heights-requires
-enter-heights-requires c κs =
-    let up = parents (arcs c) in
-    let from = words up in
-    (rw (from .region-words .ensures) (nested _ (entry from .pre .0)), up .enter-parents .ensures, arcs c .enter-region-arcs .ensures)
+    let words : tie.After-region-words = search needs in
+    (nested-words words .few, rw (words .region-words .ensures) (entry words .pre .each-region))
 
 plan-requires : tie.Need-plan-requires
 plan-requires c κs =
-    let up = parents (arcs (heights c .before)) in
-    let from = words up in
-    let args = entry from .args in
-    let pre = entry from .pre in
-    let regions = division-regions (args .s .now) in (
-      divisionOf (args .s .now),
-      parents-of _ (pre .0) (from .region-words .ensures) (up .enter-parents .ensures),
-      omega (arith, pre .3),
-    )
+    let up : tie.After-enter-parents = search needs in
+    (_, parents up, omega (arith, entry (words up) .pre .each-row, division-regions (entry (words up) .args .s .now)))
 
 returns : tie.Need-returns
 returns c =
-    let plan = c .before .before in
-    let high = heights (plan .before) in
-    let up = parents (arcs (high .before)) in
-    let from = words up in
-    let pre = entry from .pre in
+    let up : tie.After-enter-parents = search needs in
+    let high : tie.After-enter-heights = search needs in
+    let planned : tie.After-plan = search needs in
     record {
-      region-rows = region-rows _ (pre .0) (from .region-words .ensures) (high .enter-heights .ensures);
-      planned = plan .plan .ensures _ (parents-of _ (pre .0) (from .region-words .ensures) (up .enter-parents .ensures));
+      region-rows = region-rows _ (entry (words up) .pre .accepted) (words up .region-words .ensures) (high .enter-heights .ensures);
+      planned = planned .plan .ensures _ (parents up);
     }
 
 pub lay-regions-spec : {M : Type 1} → statement M
@@ -73,7 +55,7 @@ lay-regions-spec =
     (λ c κs. search needs)
     enter-parents-requires
     enter-region-arcs-requires
-    enter-heights-requires
+    (λ c κs. search (needs, nested-words))
     plan-requires
     (λ c. search needs)
     (λ c. search needs)
