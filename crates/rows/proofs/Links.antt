@@ -1,7 +1,7 @@
--- Links: each leads to the next index with the same value, so a walk along them meets all indices with one value, in order. Assumes nothing.
+-- Links: each leads to the next index with the same value, so a walk along them meets all indices with one value, in order.
 use Prim.Native.Nat.{ℕ, zero, suc, _+_, _*_, _-_, _≤_, _<_}
 use mathlib.Core.Path.{_≡_, refl, sym, ap, _∙_}
-use mathlib.Core.Logic.{_≢_, _⊎_, inl, inr, ⊎-elim}
+use mathlib.Core.Logic.{_≢_}
 use mathlib.Core.List.{List}
 use native.Mathlib.Nat.{le-refl, le-trans}
 use native.Mathlib.Numerals.{add-one}
@@ -11,7 +11,7 @@ use lib.ListN.{length, set, replicate, length-set}
 use lib.Seq.{getD-set-other}
 use Rattle.indices.specs.Columns.{at}
 use Rattle.indices.specs.Steps.{upTo}
-use Rattle.indices.proofs.Steps.{eq-or-ne, set-elim}
+use Rattle.indices.proofs.Steps.{by-equal, set-elim}
 use Rattle.rows.specs.Rows.{field, rowCount, rowTail, rowNext}
 use Rattle.rows.specs.Links.{nextFor, nextFrom, Links, stepAt, Linkable, Linked}
 use Rattle.rows.proofs.Filled.{filled-at, filled-length}
@@ -57,13 +57,10 @@ module _ (column : ℕ → ℕ) where
 
   found : (v n a : ℕ) → Found v n a (nextFor column v n a)
   found v zero a = rw (for-none v a) (record { from = le-refl a; within = omega arith; hit = λ l. absurd (omega arith) })
-  found v (suc n) a = go (found v n (suc a)) (eq-or-ne (column a) v)
-    where
-      go : Found v n (suc a) (nextFor column v n (suc a)) → (column a ≡ v) ⊎ (column a ≢ v) → Found v (suc n) a (nextFor column v (suc n) a)
-      go F (inl e) = rw (for-hit v n a e) (record { from = le-refl a; within = omega arith; hit = λ _. e })
-      go F (inr e) =
-          rw (for-miss v n a e)
-          (record { from = omega (arith, F .from); within = omega (arith, F .within); hit = λ l. F .hit (omega arith) })
+  found v (suc n) a =
+      let F = found v n (suc a) in
+      by-equal (column a) v (λ e. rw (for-hit v n a e) (record { from = le-refl a; within = omega arith; hit = λ _. e }))
+      (λ e. rw (for-miss v n a e) (record { from = omega (arith, F .from); within = omega (arith, F .within); hit = λ l. F .hit (omega arith) }))
 
   pub next-from : (m v a : ℕ) → a ≤ nextFrom column m v a
   unfolding nextFrom
@@ -102,12 +99,8 @@ module _ (column : ℕ → ℕ) where
 
     steps-skip-for : (n a : ℕ) → stepsBelow (nextFor column v n a) ≡ stepsBelow a
     steps-skip-for zero a = rw (for-none v a)
-    steps-skip-for (suc n) a = go (steps-skip-for n (suc a)) (eq-or-ne (column a) v)
-      where
-        go : stepsBelow (nextFor column v n (suc a)) ≡ stepsBelow (suc a) → (column a ≡ v) ⊎ (column a ≢ v)
-            → stepsBelow (nextFor column v (suc n) a) ≡ stepsBelow a
-        go ih (inl e) = rw (for-hit v n a e)
-        go ih (inr e) = rw (for-miss v n a e) (ih ∙ steps-miss a e)
+    steps-skip-for (suc n) a =
+        by-equal (column a) v (λ e. rw (for-hit v n a e)) (λ e. rw (for-miss v n a e) (steps-skip-for n (suc a) ∙ steps-miss a e))
 
     -- nothing is done between an index and the next one with the value
     steps-skip : (m a : ℕ) → stepsBelow (nextFrom column m v a) ≡ stepsBelow a
@@ -120,8 +113,8 @@ module _ (column : ℕ → ℕ) where
     steps-grow f up a (suc n) =
         rw (let e : a + suc n ≡ suc (a + n) = omega arith in e)
         (le-trans (steps-grow f up a n)
-        (⊎-elim (λ (e : column (a + n) ≡ v). rw (steps-hit (a + n) e) (up (a + n) (stepsBelow (a + n))))
-        (λ (e : column (a + n) ≢ v). rw (steps-miss (a + n) e) (le-refl (f (stepsBelow (a + n))))) (eq-or-ne (column (a + n)) v)))
+        (by-equal (column (a + n)) v (λ e. rw (steps-hit (a + n) e) (up (a + n) (stepsBelow (a + n))))
+        (λ e. rw (steps-miss (a + n) e) (le-refl (f (stepsBelow (a + n)))))))
 
     -- the walk has come to index a, or to its end m, in state t
     pub record Walk (m a : ℕ) (t : S) : Type 0 where
@@ -164,12 +157,10 @@ module _ (column column′ : ℕ → ℕ) where
   for-same : (v n a : ℕ) → ((i : ℕ) → a ≤ i → i < a + n → column′ i ≡ column i) → nextFor column′ v n a ≡ nextFor column v n a
   for-same v zero a same = for-none column′ v a ∙ sym (for-none column v a)
   for-same v (suc n) a same =
-      go (for-same v n (suc a) (λ i l h. same i (omega arith) (omega arith))) (same a (le-refl a) (omega arith)) (eq-or-ne (column a) v)
-    where
-      go : nextFor column′ v n (suc a) ≡ nextFor column v n (suc a) → column′ a ≡ column a → (column a ≡ v) ⊎ (column a ≢ v)
-          → nextFor column′ v (suc n) a ≡ nextFor column v (suc n) a
-      go rest e (inl h) = for-hit column′ v n a (e ∙ h) ∙ sym (for-hit column v n a h)
-      go rest e (inr h) = for-miss column′ v n a (λ s. h (sym e ∙ s)) ∙ rest ∙ sym (for-miss column v n a h)
+      let e = same a (le-refl a) (omega arith) in
+      by-equal (column a) v (λ h. for-hit column′ v n a (e ∙ h) ∙ sym (for-hit column v n a h))
+      (λ h.
+      for-miss column′ v n a (λ s. h (sym e ∙ s)) ∙ for-same v n (suc a) (λ i l h. same i (omega arith) (omega arith)) ∙ sym (for-miss column v n a h))
 
   -- links through one column are links through a column with the same values
   pub links-same : {m n : ℕ} {first next : ℕ → ℕ} → ((a : ℕ) → a < m → column′ a ≡ column a) → Links column m n first next → Links column′ m n first next
@@ -193,9 +184,9 @@ pub record Linking (arcs₀ : List ℕ) (n : ℕ) (arcs firsts : List ℕ) (a : 
   pub first : (v : ℕ) → v < n → at firsts v ≡ nextFrom (rowTail arcs₀) (rowCount arcs₀) v a
   pub next : (i : ℕ) → a ≤ i → i < rowCount arcs₀ → rowNext arcs i ≡ nextFrom (rowTail arcs₀) (rowCount arcs₀) (rowTail arcs₀ i) (i + 1)
 
-pub linking-start : (arcs firsts₀ firsts : List ℕ) → Linkable arcs firsts₀ → firsts ≡ replicate (length firsts₀) (rowCount arcs)
+pub linking-start : {arcs firsts₀ firsts : List ℕ} → Linkable arcs firsts₀ → firsts ≡ replicate (length firsts₀) (rowCount arcs)
     → Linking arcs (length firsts) arcs firsts (rowCount arcs)
-linking-start arcs firsts₀ firsts A e =
+linking-start {arcs} {firsts₀} {firsts} A e =
     let l = filled-length firsts₀ firsts (rowCount arcs) e in
     record {
       able = λ i h. omega (arith, A .below i h);
@@ -207,10 +198,6 @@ linking-start arcs firsts₀ firsts A e =
       next = λ i m h. absurd (omega arith);
     }
 
-pub record LinkBounds (arcs firsts : List ℕ) (b : ℕ) : Type 0 where
-  pub row : b < rowCount arcs
-  pub tail-in : rowTail arcs b < length firsts
-
 module _ {arcs₀ arcs firsts : List ℕ} {n a : ℕ} (L : Linking arcs₀ n arcs firsts a) (pos : 0 < a) where
   b-in : a - 1 < rowCount arcs₀
   b-in = omega (arith, L .within)
@@ -218,12 +205,12 @@ module _ {arcs₀ arcs firsts : List ℕ} {n a : ℕ} (L : Linking arcs₀ n arc
   tail-low : rowTail arcs₀ (a - 1) < length firsts
   tail-low = omega (arith, L .able (a - 1) b-in, L .wide)
 
-  pub link-bounds : LinkBounds arcs firsts (a - 1)
-  link-bounds = record { row = omega (arith, b-in, L .long); tail-in = rw (L .kept (a - 1) 0 (omega arith)) tail-low }
+  pub linking-tail : rowTail arcs (a - 1) < length firsts
+  linking-tail = rw (L .kept (a - 1) 0 (omega arith)) tail-low
 
-  pub linking-step : (tail : ℕ) → tail ≡ rowTail arcs (a - 1)
+  pub linking-step : {tail : ℕ} → tail ≡ rowTail arcs (a - 1)
       → Linking arcs₀ n (set arcs (4 * (a - 1) + 3) (at firsts tail)) (set firsts tail (a - 1)) (a - 1)
-  linking-step tail e = rw (e ∙ L .kept (a - 1) 0 (omega arith)) (record {
+  linking-step e = rw (e ∙ L .kept (a - 1) 0 (omega arith)) (record {
     able = L .able;
     within = omega (arith, b-in);
     long = simp length-set (L .long);

@@ -1,4 +1,4 @@
--- Links: the indices below m at which a column has a value, in order, found without a search. Definitions; assumes nothing.
+-- Links: the indices below m at which a column has a value, in order, found without a search. Definitions.
 use Prim.Native.Nat.{ℕ, zero, suc, _+_, _-_, _<_}
 use mathlib.Core.Path.{_≡_}
 use mathlib.Core.List.{List}
