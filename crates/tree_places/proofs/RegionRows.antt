@@ -1,4 +1,4 @@
--- Every region of the division has a row, by the length of the rows. Assumes nothing.
+-- Every region of the division has a row, by the length of the rows.
 use Prim.Native.Nat.{ℕ, _<_}
 use mathlib.Core.List.{List}
 use native.Mathlib.Omega.{arith}

@@ -1,15 +1,15 @@
--- Where trees lie and children stand, by counting: trees do not overlap, and each place from the number of children on is one child's. Assumes nothing.
+-- Where trees lie and children stand, by counting: trees do not overlap, and each place from the number of children on is one child's.
 use Prim.Native.Nat.{ℕ, zero, suc, _+_, _*_, _-_, _≤_, _<_}
 use mathlib.Core.Bool.{Bool, true, false, cond, _&&_, and-false}
 use mathlib.Core.Path.{_≡_, refl}
-use mathlib.Core.Logic.{_≢_, ⊎-elim}
+use mathlib.Core.Logic.{_≢_}
 use native.Mathlib.Omega.{arith}
 use borrow.Author.Tests.{lt-ltb, le-ltb, eq-eqb, ne-eqb, ltb-true, eqb-true}
 use lib.Dec.{ltb, eqb}
 use Rattle.indices.specs.Tests.{count}
 use Rattle.indices.proofs.Tests.{and-left, and-right, count-in, count-out-all, count-mono, count-le, count-some, count-nth}
 use Rattle.indices.proofs.Totals.{count-sum}
-use Rattle.indices.proofs.Steps.{eq-or-ne, lt-or-le}
+use Rattle.indices.proofs.Steps.{by-order, by-equal}
 use Rattle.procedure.specs.Division.{Division, regions, parent, isChild}
 use Rattle.theory.proofs.Chosen.{Child}
 use Rattle.tree_places.specs.Trees.{childCount, lowerSiblings, underBelow, treeStart, seat}
@@ -37,11 +37,10 @@ module _ (d : Division) where
       split : (b : Bool) (p : ℕ) → cond (b && ltb p (suc r)) 1 0 ≡ cond (b && ltb p r) 1 0 + cond (b && eqb p r) 1 0
       split false p = refl
       split true p =
-          ⊎-elim (λ (l : p < r). rw (lt-ltb p (suc r) (omega arith), lt-ltb p r l, ne-eqb p r (omega arith)))
-          (λ (l : r ≤ p).
-          ⊎-elim (λ (e : p ≡ r). rw (lt-ltb p (suc r) (omega arith), le-ltb p r l, eq-eqb p r e))
-          (λ (n : p ≢ r). rw (le-ltb p (suc r) (omega arith), le-ltb p r l, ne-eqb p r n)) (eq-or-ne p r))
-          (lt-or-le p r)
+          by-order p r (λ l. rw (lt-ltb p (suc r) (omega arith), lt-ltb p r l, ne-eqb p r (omega arith)))
+          (λ l.
+          by-equal p r (λ e. rw (lt-ltb p (suc r) (omega arith), le-ltb p r l, eq-eqb p r e))
+          (λ n. rw (le-ltb p (suc r) (omega arith), le-ltb p r l, ne-eqb p r n)))
 
   -- the first tree begins at 0
   pub start-first : treeStart d 0 ≡ 0
@@ -57,8 +56,7 @@ module _ (d : Division) where
   pub trees-apart : (r q : ℕ) → r < q → treeStart d r + 2 * childCount d r ≤ treeStart d q
   trees-apart r zero l = absurd (omega arith)
   trees-apart r (suc q) l =
-      ⊎-elim (λ (e : r ≡ q). rw e (omega (arith, start-next q)))
-      (λ (n : r ≢ q). omega (arith, start-next q, trees-apart r q (omega arith))) (eq-or-ne r q)
+      by-equal r q (λ e. rw e (omega (arith, start-next q))) (λ n. omega (arith, start-next q, trees-apart r q (omega arith)))
 
   seat-is : {r c : ℕ} → Child d r c → seat d c ≡ childCount d r + count (isChild d r) c
   unfolding seat lowerSiblings
@@ -78,10 +76,8 @@ module _ (d : Division) where
   -- two children do not share a place
   pub seat-one : {r b c : ℕ} → Child d r b → Child d r c → seat d b ≡ seat d c → b ≡ c
   seat-one {r} {b} {c} h k e =
-      ⊎-elim (λ (l : b < c). absurd (omega (arith, seat-is h, seat-is k, lower-counted c h l)))
-      (λ (l : c ≤ b).
-      ⊎-elim (λ (e : b ≡ c). e) (λ (n : b ≢ c). absurd (omega (arith, seat-is h, seat-is k, lower-counted b k (omega arith)))) (eq-or-ne b c))
-      (lt-or-le b c)
+      by-order b c (λ l. absurd (omega (arith, seat-is h, seat-is k, lower-counted c h l)))
+      (λ l. by-equal b c (λ e. e) (λ n. absurd (omega (arith, seat-is h, seat-is k, lower-counted b k (omega arith)))))
 
   -- each place from the number of children on is that of a child
   pub place-child : (r p : ℕ) → childCount d r ≤ p → p < 2 * childCount d r → (c : ℕ) × Child d r c × (seat d c ≡ p)

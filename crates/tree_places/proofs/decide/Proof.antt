@@ -1,11 +1,8 @@
--- `decide` meets its contract: it stores the lower of the two places below. Assumes nothing.
+-- `decide` meets its contract: it stores the lower of the two places below.
 use mathlib.Core.Path.{refl}
 use borrow.Author.Needs.{needs}
 use Rattle.tree_places.proofs.decide.Statement.{statement}
 use Rattle.tree_places.proofs.decide.Tie as tie
-
-returns : tie.Need-returns
-returns c = rw (c .lower .ensures) refl
 
 pub decide-spec : {M : Type 1} → statement M
 decide-spec =
@@ -25,4 +22,4 @@ decide-spec =
     (λ c. search needs)
     (λ c. search needs)
     (λ c. search needs)
-    returns)
+    (λ c. rw (c .lower .ensures) refl))

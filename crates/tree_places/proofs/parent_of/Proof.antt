@@ -1,15 +1,11 @@
--- `parent_of` meets its contract: the first entry of a row is the parent. Assumes nothing.
+-- `parent_of` meets its contract: the first entry of a row is the parent.
 use mathlib.Core.Path.{_∙_}
 use native.Mathlib.Omega.{arith}
 use Rattle.tree_places.proofs.RegionRows.{row-in}
 use Rattle.tree_places.proofs.parent_of.Statement.{statement}
 use Rattle.tree_places.proofs.parent_of.Tie as tie
 
-field-requires : tie.Need-field-requires
-field-requires c κs = (omega arith, row-in _ (c .before .pre .1) (c .before .pre .3))
-
-returns : tie.Need-returns
-returns c = λ d C inside. c .field .ensures ∙ C .parents _ (c .before .before .pre .2) inside
-
 pub parent-of-spec : {M : Type 1} → statement M
-parent-of-spec = tie.close (tie.spec field-requires returns)
+parent-of-spec = tie.close (tie.spec
+    (λ c κs. (omega arith, row-in _ (c .before .pre .1) (c .before .pre .3)))
+    (λ c d C inside. c .field .ensures ∙ C .parents _ (c .before .before .pre .2) inside))
