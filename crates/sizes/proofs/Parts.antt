@@ -1,4 +1,4 @@
--- The sizes of an accepted sheet are within the limits; a part of a list that fits has its length. Assumes nothing.
+-- The sizes of an accepted sheet are within the limits; a part of a list that fits has its length.
 use Prim.Native.Nat.{ℕ, _+_, _/_, _≤_}
 use mathlib.Core.Path.{_≡_, sym, ap}
 use mathlib.Core.List.{List}

@@ -1,4 +1,4 @@
--- How much of a run's arrays a sheet uses. Definitions; assumes nothing.
+-- How much of a run's arrays a sheet uses. Definitions.
 use Prim.Native.Nat.{ℕ, suc, _≤_}
 use mathlib.Core.Path.{_≡_}
 use mathlib.Core.List.{List}
