@@ -1,7 +1,6 @@
--- `enter_spans` meets its contract: the heights passed have their spans. Assumes nothing.
+-- `enter_spans` meets its contract: the heights passed have their spans.
 use borrow.Author.Needs.{needs}
 use Prim.Native.Nat.{_-_}
-use mathlib.Core.Path.{sym, _∙_}
 use native.Mathlib.Omega.{arith}
 use Rattle.sheet.specs.Sections.{spanCount, span}
 use Rattle.sheet.proofs.Bounds.{spans-le}
@@ -16,47 +15,22 @@ Inv-loop s spans₀ n i₀ spans i = Prefix (spanCount s) (span s) spans i
 abbrev μ-loop : tie.MeasureT-loop
 μ-loop s spans₀ n i₀ spans i = spanCount s - i
 
--- the places of the function that answers look back to
-abbrev Start : Type 0
-Start = tie.Start Inv-loop μ-loop
-
-loop-holds : tie.Need-loop-holds Inv-loop μ-loop
-loop-holds c = prefix-none _ _ _ (c .before .before .pre .1)
-
 span-at-requires : tie.Need-span-at-requires Inv-loop μ-loop
-span-at-requires c κs =
-    let start : Start = search needs in
-    let args = start .args in
-    omega (arith, spans-le (args .s .now) 2)
-
-loop-again : tie.Need-loop-again Inv-loop μ-loop
-loop-again c =
-    let start : Start = search needs in
-    let pre = start .pre in
-    prefix-more _ (c .before .before .loop .inv) (omega (arith, c .before .loop-test .taken, pre .0 .spans-all)) (c .span-at .ensures)
-
-same-length : tie.Need-same-length Inv-loop μ-loop
-same-length c =
-    let start : Start = search needs in
-    let pre = start .pre in
-    c .before .loop .inv .long ∙ sym (pre .1)
-
-returns : tie.Need-returns Inv-loop μ-loop
-unfolding spansOf
-returns c = prefix-all (c .before .loop .inv) (omega arith)
+span-at-requires c κs = let start : tie.Start Inv-loop μ-loop = search needs in omega (arith, spans-le (start .args .s .now) 2)
 
 pub enter-spans-spec : {M : Type 1} → statement M
+unfolding spansOf
 enter-spans-spec =
     tie.close
     (tie.spec
     Inv-loop
     μ-loop
-    loop-holds
+    (λ c. prefix-none _ _ _ (search needs))
     span-at-requires
     (λ c. omega arith)
     (λ c. omega arith)
     (λ c. omega arith)
     (λ c. omega arith)
-    loop-again
-    same-length
-    returns)
+    (λ c. prefix-more _ (c .before .before .loop .inv) (omega arith) (c .span-at .ensures))
+    (λ c. omega arith)
+    (λ c. prefix-all (c .before .loop .inv) (omega arith)))
