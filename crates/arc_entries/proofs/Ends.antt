@@ -1,4 +1,4 @@
--- The arcs' tails and heads, stored row by row. Assumes nothing.
+-- The arcs' tails and heads, stored row by row.
 use Prim.Native.Nat.{ℕ, _+_, _-_, _*_, _≤_, _<_}
 use mathlib.Core.Path.{_≡_}
 use mathlib.Core.List.{List}
@@ -19,9 +19,9 @@ pub record EnteringEnds (b arcs : List ℕ) (a : ℕ) : Type 0 where
 pub ends-none : (b arcs : List ℕ) → length arcs ≡ 4 * arcCount b → EnteringEnds b arcs 0
 ends-none b arcs e = record { within = omega arith; all = e; tails = entered-none _ _ arcs; heads = entered-none _ _ arcs }
 
-pub ends-more : {b arcs : List ℕ} {a : ℕ} (t h : ℕ) → EnteringEnds b arcs a → a < arcCount b → t ≡ tail b a → h ≡ head b a
+pub ends-more : {b arcs : List ℕ} {a t h : ℕ} → EnteringEnds b arcs a → a < arcCount b → t ≡ tail b a → h ≡ head b a
     → EnteringEnds b (set (set arcs (4 * a + 0) t) (4 * a + 1) h) (a + 1)
-ends-more {b} {arcs} {a} t h E l et eh = record {
+ends-more {b} {arcs} {a} {t} {h} E l et eh = record {
   within = omega arith;
   all = simp length-set (E .all);
   tails = entered-kept (4 * a + 1) h (λ j k. omega arith) (entered-more t (λ j k. omega arith) (omega (arith, E .all)) et (E .tails));

@@ -1,13 +1,13 @@
--- Each leaf is entered in the row of its arc, where no two leaves are of one arc. Assumes nothing.
+-- Each leaf is entered in the row of its arc, where no two leaves are of one arc.
 use Prim.Native.Nat.{ℕ, zero, suc, _+_, _*_, _≤_, _<_}
-use mathlib.Core.Bool.{Bool, true, false, cond, true≢false}
+use mathlib.Core.Bool.{true, false, true≢false}
 use mathlib.Core.Path.{_≡_, refl, sym, ap, _∙_}
 use mathlib.Core.Logic.{_≢_}
 use mathlib.Core.List.{List}
 use native.Mathlib.Omega.{arith}
 use lib.ListN.{length, set, length-set}
 use lib.Seq.{getD-set-other}
-use Rattle.indices.proofs.Steps.{set-elim}
+use Rattle.indices.proofs.Steps.{by-truth, set-elim}
 use Rattle.sheet.specs.Words.{words}
 use Rattle.sheet.specs.Regions.{regionCount, leafWord, arcWord, isLeaf, leafArc}
 use Rattle.rows.specs.Rows.{field, rowCount, rowLeaf}
@@ -48,12 +48,8 @@ module _ {d arcs₀ arcs : List ℕ} {k : ℕ} (ok : LeavesApart d (rowCount arc
     kept = E .kept;
   }
 
-  pub leaves-more : (arcs′ : List ℕ) → arcs′ ≡ leafEntered d k arcs → EnteringLeaves d arcs₀ arcs′ (k + 1)
-  leaves-more arcs′ e = rw e (at (leafWord d k) refl)
-    where
-      at : (b : Bool) → leafWord d k ≡ b → EnteringLeaves d arcs₀ (cond b (set arcs (4 * arcWord d k + 2) (k + 1)) arcs) (k + 1)
-      at true leaf = at-leaf leaf
-      at false inner = at-inner inner
+  pub leaves-more : {arcs′ : List ℕ} → arcs′ ≡ leafEntered d k arcs → EnteringLeaves d arcs₀ arcs′ (k + 1)
+  leaves-more e = rw e (by-truth (leafWord d k) (λ leaf. rw leaf (at-leaf leaf)) (λ inner. rw inner (at-inner inner)))
 
 pub leaves-all : {d arcs₀ arcs : List ℕ} {k : ℕ} → EnteringLeaves d arcs₀ arcs k → words d ≤ k → LeavesEntered d arcs₀ arcs
 leaves-all {d} {arcs₀} {arcs} {k} E l = record { leaves = by-region; kept = E .kept }

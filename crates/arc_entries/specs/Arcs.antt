@@ -1,4 +1,4 @@
--- The arcs' rows while they are filled, from a sheet b or from its region words d. Definitions; assumes nothing.
+-- The arcs' rows while they are filled, from a sheet b or from its region words d. Definitions.
 use Prim.Native.Nat.{ℕ, _+_, _*_, _≤_, _<_}
 use mathlib.Core.Bool.{true}
 use mathlib.Core.Path.{_≡_}

@@ -1,4 +1,4 @@
--- `enter_leaves` meets its contract: the words passed are entered. Assumes nothing.
+-- `enter_leaves` meets its contract: the words passed are entered.
 use borrow.Author.Needs.{needs}
 use Prim.Native.Nat.{_-_}
 use native.Mathlib.Omega.{arith}
@@ -13,34 +13,14 @@ Inv-loop d arcs₀ n k₀ arcs k = EnteringLeaves d arcs₀ arcs k
 abbrev μ-loop : tie.MeasureT-loop
 μ-loop d arcs₀ n k₀ arcs k = words d - k
 
--- the places of the function that answers look back to
 abbrev Start : Type 0
 Start = tie.Start Inv-loop μ-loop
-
-abbrev At-loop : Type 0
-At-loop = tie.At-loop Inv-loop μ-loop
-
-abbrev In-loop : Type 0
-In-loop = tie.In-loop Inv-loop μ-loop
-
-enter-leaf-requires : tie.Need-enter-leaf-requires Inv-loop μ-loop
-enter-leaf-requires c κs =
-    let start : Start = search needs in
-    let pre = start .pre in
-    (omega arith, leaves-ask pre (c .before .before .loop .inv))
 
 loop-again : tie.Need-loop-again Inv-loop μ-loop
 loop-again c =
     let start : Start = search needs in
-    let at-loop : At-loop = search needs in
-    let in-loop : In-loop = search needs in
-    let pre = start .pre in
-    let loop = at-loop .loop in
-    let loop-test = in-loop .loop-test in
-    leaves-more pre (loop .inv) (loop-test .taken) _ (c .before .before .enter-leaf .ensures)
-
-returns : tie.Need-returns Inv-loop μ-loop
-returns c = leaves-all (c .before .loop .inv) (c .loop-test .left)
+    let pass : tie.In-loop Inv-loop μ-loop = search needs in
+    leaves-more (start .pre) (pass .before .loop .inv) (pass .loop-test .taken) (c .before .before .enter-leaf .ensures)
 
 pub enter-leaves-spec : {M : Type 1} → statement M
 enter-leaves-spec =
@@ -49,9 +29,9 @@ enter-leaves-spec =
     Inv-loop
     μ-loop
     (λ c. search needs)
-    enter-leaf-requires
+    (λ c κs. let start : Start = search needs in (omega arith, leaves-ask (start .pre) (c .before .before .loop .inv)))
     (λ c. omega arith)
     (λ c. omega arith)
     loop-again
     (λ c. search needs)
-    returns)
+    (λ c. leaves-all (c .before .loop .inv) (c .loop-test .left)))
