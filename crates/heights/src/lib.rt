@@ -5,7 +5,7 @@ ghost use Prim.Native.Nat.{suc, _+_, _*_, _≤_, _<_};
 ghost use lib.ListN.{length};
 ghost use Rattle.sheet.specs.Words.{words};
 ghost use Rattle.slices.specs.Tables.{heightEntry};
-ghost use Rattle.heights.specs.Heights.{ownHeight, settled, handedUp};
+ghost use Rattle.heights.specs.Heights.{Settled, handedUp};
 use sheet::Region;
 
 // The height of a leaf, or of a region whose highest child has the given height.
@@ -22,8 +22,7 @@ fn above(leaf: bool, highest: u16) -> u16
 // A region's height, into its row, which holds the largest height that a child has handed up.
 pub fn settle_height(d: &[u8], r: Region, regions: &mut [u16]) -> u16
     requires { ⌜ (r .0 ≤ words (now d)) × (2 * r .0 + 1 < length (now regions)) × (heightEntry (now regions) (r .0) < 65535) ⌝ }
-    ensures { λ h. ⌜ (h ≡ ownHeight (now (d .entry)) (now (regions .entry)) (r .0)) × (now (regions .exit) ≡ settled (now (d .entry))
-        (now (regions .entry)) (r .0)) ⌝ }
+    ensures { λ h. ⌜ Settled (now (d .entry)) (now (regions .entry)) (r .0) h (now (regions .exit)) ⌝ }
 {
     let i = 2 * (r.0 as usize) + 1;
     let height = above(fields::is_leaf(d, r), regions[i]);

@@ -1,4 +1,4 @@
--- The rows filled in three passes over the regions: children counted, trees laid one after the other, children seated. Assumes nothing.
+-- The rows filled in three passes over the regions: children counted, trees laid one after the other, children seated.
 use Prim.Native.Nat.{ℕ, suc, _+_, _*_, _≤_, _<_}
 use mathlib.Core.Path.{_≡_, refl, sym, ap, _∙_}
 use mathlib.Core.Logic.{_≢_}

@@ -4,6 +4,7 @@ ghost use Prim.Native.Nat.{_*_};
 ghost use lib.ListN.{length};
 ghost use Rattle.procedure.specs.Division.{Division, regions};
 ghost use Rattle.tree_places.specs.Trees.{ParentsOf, Ranked, Started, Planned};
+ghost use Rattle.planning.specs.ForDivision.{ForDivision};
 use sheet::Region;
 use tree_places::CHILDREN;
 use tree_places::PARENT;
@@ -12,7 +13,7 @@ use tree_places::START;
 
 // Fills in each region's parent, the number of its children, and how many siblings with a lower number it has.
 fn count_children(parents: &[u16], rows: &mut [u16])
-    requires { ⌜ ((d : Division) × ParentsOf d (now parents) × (length (now rows) ≡ 4 * regions d)) ⌝ }
+    requires { ⌜ ForDivision (λ d. ParentsOf d (now parents)) (now rows) ⌝ }
     ensures { λ _. ⌜ ((d : Division) → ParentsOf d (now (parents .entry)) → Ranked d (now (rows .exit))) ⌝ }
 {
     rows::fill(rows, 0);
@@ -32,7 +33,7 @@ fn count_children(parents: &[u16], rows: &mut [u16])
 
 // Lays the trees one after the other.
 fn lay_trees(rows: &mut [u16])
-    requires { ⌜ ((d : Division) × Ranked d (now rows) × (length (now rows) ≡ 4 * regions d)) ⌝ }
+    requires { ⌜ ForDivision (λ d. Ranked d (now rows)) (now rows) ⌝ }
     ensures { λ _. ⌜ ((d : Division) → Ranked d (now (rows .entry)) → length (now (rows .entry)) ≡ 4 * regions d → Started d (now (rows .exit))) ⌝ }
 {
     let n = (rows.len() / 4) as u16;
@@ -47,7 +48,7 @@ fn lay_trees(rows: &mut [u16])
 
 // Seats each region in its parent's tree: at the number of the parent's children plus that of its siblings with a lower number.
 fn seat_children(rows: &mut [u16])
-    requires { ⌜ ((d : Division) × Started d (now rows) × (length (now rows) ≡ 4 * regions d)) ⌝ }
+    requires { ⌜ ForDivision (λ d. Started d (now rows)) (now rows) ⌝ }
     ensures { λ _. ⌜ ((d : Division) → Started d (now (rows .entry)) → length (now (rows .entry)) ≡ 4 * regions d → Planned d (now (rows .exit))) ⌝ }
 {
     let n = (rows.len() / 4) as u16;
@@ -62,7 +63,7 @@ fn seat_children(rows: &mut [u16])
 
 // Fills the rows of the regions whose parents are given; that of region 0 is not read.
 pub fn plan(parents: &[u16], rows: &mut [u16])
-    requires { ⌜ ((d : Division) × ParentsOf d (now parents) × (length (now rows) ≡ 4 * regions d)) ⌝ }
+    requires { ⌜ ForDivision (λ d. ParentsOf d (now parents)) (now rows) ⌝ }
     ensures { λ _. ⌜ ((d : Division) → ParentsOf d (now (parents .entry)) → Planned d (now (rows .exit))) ⌝ }
 {
     count_children(parents, rows);

@@ -1,8 +1,7 @@
 -- Heights in the regions' rows, from the last region back: a row above the region reached has its height, the others the largest height of a child
--- so far. Assumes nothing.
+-- so far.
 use Prim.Native.Nat.{ℕ, suc, max, _+_, _-_, _*_, _≤_, _<_}
 use mathlib.Core.Path.{_≡_, refl, sym, ap, _∙_}
-use mathlib.Core.Logic.{_≢_, ⊎-elim}
 use mathlib.Core.List.{List}
 use native.Mathlib.Nat.{le-refl}
 use native.Mathlib.Omega.{arith}
@@ -10,7 +9,7 @@ use lib.ListN.{length, set, length-set, length-replicate, getD-replicate}
 use lib.Seq.{getD-set-same, getD-set-other}
 use Rattle.indices.specs.Columns.{at, column}
 use Rattle.indices.proofs.Columns.{length-column, at-column}
-use Rattle.indices.proofs.Steps.{eq-or-ne, set-elim}
+use Rattle.indices.proofs.Steps.{by-equal, set-elim}
 use Rattle.sheet.specs.Words.{words}
 use Rattle.sheet.specs.Regions.{regionCount, isLeaf, parent, height}
 use Rattle.sheet.proofs.Heights.{height-most}
@@ -84,14 +83,13 @@ module _ {d rows : List ℕ} {r : ℕ} (ok : Nested d) (H : EnteringHeights d ro
     rest-after : (q : ℕ) → q ≤ r - 1 → heightEntry (set rows₁ (2 * p + 1) x) q ≡ at (set best p x) q
     unfolding rows₁
     rest-after q l =
-        ⊎-elim
-        (λ (e : q ≡ p).
+        by-equal q p
+        (λ e.
         rw e (getD-set-same rows₁ (2 * p + 1) x 0 (simp length-set (omega (arith, H .all, H .within, low)))
         ∙ sym (getD-set-same best p x 0 (omega (arith, best-long, low)))))
-        (λ (n : q ≢ p).
+        (λ n.
         getD-set-other rows₁ (2 * p + 1) (2 * q + 1) x 0 (omega arith) ∙ getD-set-other rows (2 * r + 1) (2 * q + 1) own 0 (omega arith)
         ∙ sym (getD-set-other best p q x 0 n ∙ best-at q (omega arith)))
-        (eq-or-ne q p)
 
     above-after : (q : ℕ) → r - 1 < q → q < regionCount d → heightEntry (set rows₁ (2 * p + 1) x) q ≡ height d q
     unfolding rows₁

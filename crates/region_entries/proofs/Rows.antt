@@ -1,4 +1,4 @@
--- The regions' parents, and the arcs of their rows, stored region by region. Assumes nothing.
+-- The regions' parents, and the arcs of their rows, stored region by region.
 use Prim.Native.Nat.{ℕ, zero, suc, _+_, _-_, _*_, _≤_, _<_}
 use mathlib.Core.Bool.{true, false, true≢false}
 use mathlib.Core.Path.{_≡_, refl, sym, ap, _∙_}
@@ -24,9 +24,9 @@ pub record EnteringParents (d parents : List ℕ) (k : ℕ) : Type 0 where
 pub parents-none : (d parents : List ℕ) → length parents ≡ regionCount d → EnteringParents d parents 0
 parents-none d parents e = record { within = omega arith; all = e; entries = entered-none _ _ parents }
 
-pub parents-more : {d parents : List ℕ} {k : ℕ} (p : ℕ) → EnteringParents d parents k → k < words d → p ≡ parentWord d k
+pub parents-more : {d parents : List ℕ} {k p : ℕ} → EnteringParents d parents k → k < words d → p ≡ parentWord d k
     → EnteringParents d (set parents (k + 1) p) (k + 1)
-parents-more p P l e = record {
+parents-more {d} {parents} {k} {p} P l e = record {
   within = omega arith;
   all = simp length-set (P .all);
   entries = entered-more p (λ j h. omega arith) (omega (arith, P .all)) e (P .entries);
@@ -76,9 +76,9 @@ pub record EnteringArcs (d rows : List ℕ) (r : ℕ) : Type 0 where
 pub region-arcs-none : (d rows : List ℕ) → length rows ≡ 2 * regionCount d → EnteringArcs d rows 0
 region-arcs-none d rows e = record { within = omega arith; all = e; arcs = entered-none _ _ rows; zeros = entered-none _ _ rows }
 
-pub region-arcs-more : {d rows : List ℕ} {r : ℕ} (a : ℕ) → EnteringArcs d rows r → r < regionCount d → a ≡ arcInRow d r
+pub region-arcs-more : {d rows : List ℕ} {r a : ℕ} → EnteringArcs d rows r → r < regionCount d → a ≡ arcInRow d r
     → EnteringArcs d (set (set rows (2 * r) a) (2 * r + 1) 0) (r + 1)
-region-arcs-more {d} {rows} {r} a A l e = record {
+region-arcs-more {d} {rows} {r} {a} A l e = record {
   within = omega arith;
   all = simp length-set (A .all);
   arcs = entered-kept (2 * r + 1) 0 (λ j h. omega arith) (entered-more a (λ j h. omega arith) (omega (arith, A .all)) e (A .arcs));

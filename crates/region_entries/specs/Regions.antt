@@ -1,4 +1,4 @@
--- The regions' parents and rows while they are filled, from a sheet's region words d. Definitions; assumes nothing.
+-- The regions' parents and rows while they are filled, from a sheet's region words d. Definitions.
 use Prim.Native.Nat.{ℕ, zero, suc, _*_, _≤_, _<_}
 use mathlib.Core.Path.{_≡_}
 use mathlib.Core.List.{List}
@@ -21,6 +21,11 @@ pub record ParentsEntered (d parents : List ℕ) : Type 0 where
   pub all : length parents ≡ regionCount d
   pub same : (r : ℕ) → 0 < r → r < regionCount d → at parents r ≡ parent d r
 
+-- a parent for each region of such words
+pub record ParentsLent (d parents : List ℕ) : Type 0 where
+  pub nested : Nested d
+  pub each-region : length parents ≡ regionCount d
+
 -- the arc in a region's row
 abbrev pub arcInRow : List ℕ → ℕ → ℕ
 arcInRow d zero = noArc
@@ -31,6 +36,12 @@ pub record ArcsEntered (d regionRows : List ℕ) : Type 0 where
   pub all : length regionRows ≡ 2 * regionCount d
   pub arcs : (r : ℕ) → r < regionCount d → arcEntry regionRows r ≡ arcInRow d r
   pub zeros : (r : ℕ) → r < regionCount d → heightEntry regionRows r ≡ 0
+
+-- all that a height is settled from
+pub record HeightsLent (d parents regionRows : List ℕ) : Type 0 where
+  pub nested : Nested d
+  pub parents-in : ParentsEntered d parents
+  pub arcs-in : ArcsEntered d regionRows
 
 -- and with the heights
 pub record HeightsEntered (d regionRows : List ℕ) : Type 0 where

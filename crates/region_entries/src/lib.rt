@@ -5,12 +5,12 @@ ghost use lib.ListN.{length};
 ghost use Rattle.sheet.specs.Limits.{mostRegionWords};
 ghost use Rattle.sheet.specs.Words.{words};
 ghost use Rattle.sheet.specs.Regions.{regionCount};
-ghost use Rattle.region_entries.specs.Regions.{Nested, ParentsEntered, arcInRow, ArcsEntered, HeightsEntered};
+ghost use Rattle.region_entries.specs.Regions.{ParentsLent, ParentsEntered, arcInRow, ArcsEntered, HeightsLent, HeightsEntered};
 use sheet::Region;
 
 // Each region's parent; region 0 has none, and its entry stays.
 pub fn enter_parents(d: &[u8], parents: &mut [u16])
-    requires { ⌜ Nested (now d) × (length (now parents) ≡ regionCount (now d)) ⌝ }
+    requires { ⌜ ParentsLent (now d) (now parents) ⌝ }
     ensures { λ _. ⌜ ParentsEntered (now (d .entry)) (now (parents .exit)) ⌝ }
 {
     let n = d.len() / 4;
@@ -50,7 +50,7 @@ pub fn enter_region_arcs(d: &[u8], regions: &mut [u16])
 
 // Each region's height, into its row, from the last region back: a row holds the largest height that a child has handed up, until the region's turn comes.
 pub fn enter_heights(d: &[u8], parents: &[u16], regions: &mut [u16])
-    requires { ⌜ Nested (now d) × ParentsEntered (now d) (now parents) × ArcsEntered (now d) (now regions) ⌝ }
+    requires { ⌜ HeightsLent (now d) (now parents) (now regions) ⌝ }
     ensures { λ _. ⌜ HeightsEntered (now (d .entry)) (now (regions .exit)) ⌝ }
 {
     let mut r = (d.len() / 4) as u16;

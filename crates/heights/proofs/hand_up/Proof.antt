@@ -1,10 +1,7 @@
--- `hand_up` meets its contract: one store, of the larger height. Assumes nothing.
+-- `hand_up` meets its contract: one store, of the larger height.
 use borrow.Author.Needs.{needs}
 use Rattle.heights.proofs.hand_up.Statement.{statement}
 use Rattle.heights.proofs.hand_up.Tie as tie
-
-returns : tie.Need-returns
-returns c = rw (c .larger .ensures)
 
 pub hand-up-spec : {M : Type 1} → statement M
 hand-up-spec =
@@ -19,4 +16,4 @@ hand-up-spec =
     (λ c. search needs)
     (λ c. search needs)
     (λ c. search needs)
-    returns)
+    (λ c. rw (c .larger .ensures)))

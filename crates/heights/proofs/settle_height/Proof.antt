@@ -1,4 +1,4 @@
--- `settle_height` meets its contract: one store, of what its calls compute. Assumes nothing.
+-- `settle_height` meets its contract: one store, of what its calls compute.
 use borrow.Author.Needs.{needs}
 use Rattle.heights.proofs.settle_height.Statement.{statement}
 use Rattle.heights.proofs.settle_height.Tie as tie
@@ -6,7 +6,7 @@ use Rattle.heights.proofs.settle_height.Tie as tie
 returns : tie.Need-returns
 returns c =
     let leaf = c .before .before .is-leaf .ensures in
-    (rw (c .above .ensures, leaf), rw (c .above .ensures, leaf))
+    record { height = rw (c .above .ensures, leaf); rows = rw (c .above .ensures, leaf) }
 
 pub settle-height-spec : {M : Type 1} → statement M
 settle-height-spec =

@@ -26,7 +26,7 @@ parents c = parents-of _ (entry (words c) .pre .accepted) (words c .region-words
 enter-parents-requires : tie.Need-enter-parents-requires
 enter-parents-requires c κs =
     let words : tie.After-region-words = search needs in
-    (nested-words words, rw (words .region-words .ensures) (entry words .pre .each-parent))
+    record { nested = nested-words words; each-region = rw (words .region-words .ensures) (entry words .pre .each-parent) }
 
 enter-region-arcs-requires : tie.Need-enter-region-arcs-requires
 enter-region-arcs-requires c κs =
@@ -36,7 +36,8 @@ enter-region-arcs-requires c κs =
 plan-requires : tie.Need-plan-requires
 plan-requires c κs =
     let up : tie.After-enter-parents = search needs in
-    (_, parents up, omega (arith, entry (words up) .pre .each-row, division-regions (entry (words up) .args .s .now)))
+    let start = entry (words up) in
+    record { division = _; known = parents up; each-row = omega (arith, start .pre .each-row, division-regions (start .args .s .now)) }
 
 returns : tie.Need-returns
 returns c =

@@ -1,11 +1,12 @@
--- `count_children` meets its contract: the regions passed are counted for their parents. Assumes nothing.
+-- `count_children` meets its contract: each region passed has its parent, and its rank among the children that its parent had so far.
 use Prim.Native.Nat.{_-_, _<_}
 use mathlib.Core.Path.{sym, _∙_}
 use borrow.Author.Needs.{needs}
 use native.Mathlib.Omega.{arith}
+use Rattle.indices.specs.Columns.{at}
 use Rattle.procedure.specs.Division.{Division, regions}
 use Rattle.tree_places.specs.Trees.{ParentsOf}
-use Rattle.planning.proofs.Planning.{Counting, counting-start, count-row, count-bounds, counting-step, counting-end}
+use Rattle.planning.proofs.Planning.{Counting, counting-start, count-row, CountBounds, count-bounds, counting-step, counting-end}
 use Rattle.planning.proofs.count_children.Statement.{statement}
 use Rattle.planning.proofs.count_children.Tie as tie
 
@@ -15,7 +16,6 @@ Inv-loop parents rows₀ n c₀ rows c = (d : Division) → ParentsOf d parents 
 abbrev μ-loop : tie.MeasureT-loop
 μ-loop parents rows₀ n c₀ rows c = n - c
 
--- the places of the function that answers look back to
 abbrev Start : Type 0
 Start = tie.Start Inv-loop μ-loop
 
@@ -25,106 +25,52 @@ In-loop = tie.In-loop Inv-loop μ-loop
 abbrev After-children-of : Type 0
 After-children-of = tie.After-children-of Inv-loop μ-loop
 
-abbrev After-set-field : Type 0
-After-set-field = tie.After-set-field Inv-loop μ-loop
+abbrev entry : In-loop → Start
+entry c = search needs
 
-abbrev After-set-field2 : Type 0
-After-set-field2 = tie.After-set-field2 Inv-loop μ-loop
+abbrev turn : After-children-of → In-loop
+turn c = search needs
 
-abbrev At-loop : Type 0
-At-loop = tie.At-loop Inv-loop μ-loop
+-- the regions below this one are counted for the given division
+counting : (c : In-loop) → Counting (entry c .pre .division) (c .before .loop .rows) (c .before .loop .c)
+counting c = c .before .loop .inv _ (entry c .pre .known)
 
--- where the function begins
-abbrev entry : (c : tie.In-loop Inv-loop μ-loop) → tie.Start Inv-loop μ-loop
-entry c = c .before .before .before .before .before .before .before .before
+inside : (c : In-loop) → c .before .loop .c < regions (entry c .pre .division)
+inside c = omega (arith, c .loop-test .taken, entry c .pre .known .all)
 
--- the invariant for the given division
-now : (c : tie.In-loop Inv-loop μ-loop) → Counting (entry c .pre .0) (c .before .loop .rows) (c .before .loop .c)
-now c = c .before .loop .inv (entry c .pre .0) (entry c .pre .1)
-
-inside : (c : tie.In-loop Inv-loop μ-loop) → c .before .loop .c < regions (entry c .pre .0)
-inside c = omega (arith, c .loop-test .taken, entry c .pre .1 .all)
+-- it and its parent have rows, and the parent's count can rise
+bounds : (c : After-children-of) → let pass = turn c in
+    CountBounds (pass .before .loop .rows) (pass .before .loop .c) (at (entry pass .args .parents .now) (pass .before .loop .c)) (c .children-of .result)
+bounds c = count-bounds (entry (turn c) .pre .known) (counting (turn c)) (inside (turn c)) _ (c .children-of .ensures)
 
 loop-holds : tie.Need-loop-holds Inv-loop μ-loop
 loop-holds c =
     let start : Start = search needs in
-    let args = start .args in
-    let pre = start .pre in
-    λ d Q. counting-start (args .rows .now) _ Q (omega (arith, pre .2, pre .1 .all, Q .all)) (c .before .before .fill .ensures)
+    λ d Q. counting-start (start .args .rows .now) _ Q (omega (arith, start .pre .each-row, start .pre .known .all, Q .all)) (c .before .before .fill .ensures)
 
 children-of-requires : tie.Need-children-of-requires Inv-loop μ-loop
 children-of-requires c κs =
-    let start : Start = search needs in
-    let pre = start .pre in
-    let pass = c .before .before in
-    count-row (pre .1) (now pass) (inside pass)
-
-add-counted : tie.Need-add-counted Inv-loop μ-loop
-add-counted c =
-    let start : Start = search needs in
-    let pre = start .pre in
-    let pass = c .before .before .before in
-    let b = count-bounds (pre .1) (now pass) (inside pass) _ (c .children-of .ensures) in
-    omega (arith, b .fits)
-
-set-field-requires : tie.Need-set-field-requires Inv-loop μ-loop
-set-field-requires c κs =
-    let start : Start = search needs in
-    let in-loop : In-loop = search needs in
-    let pre = start .pre in
-    let pass = in-loop in
-    let b = count-bounds (pre .1) (now pass) (inside pass) _ (c .before .children-of .ensures) in
-    (omega arith, b .row)
-
-set-field-requires-2 : tie.Need-set-field-requires-2 Inv-loop μ-loop
-set-field-requires-2 c κs =
-    let start : Start = search needs in
-    let after-children-of : After-children-of = search needs in
-    let in-loop : In-loop = search needs in
-    let pre = start .pre in
-    let children-of = after-children-of .children-of in
-    let set-field = c .before .before .before .set-field in
-    let pass = in-loop in
-    let b = count-bounds (pre .1) (now pass) (inside pass) _ (children-of .ensures) in
-    (omega arith, omega (arith, b .row, set-field .kept))
+    let pass : In-loop = search needs in
+    count-row (entry pass .pre .known) (counting pass) (inside pass)
 
 set-field-requires-3 : tie.Need-set-field-requires-3 Inv-loop μ-loop
 set-field-requires-3 c κs =
-    let start : Start = search needs in
-    let after-children-of : After-children-of = search needs in
-    let after-set-field : After-set-field = search needs in
-    let in-loop : In-loop = search needs in
-    let pre = start .pre in
-    let children-of = after-children-of .children-of in
-    let set-field2 = c .before .before .before .set-field2 in
-    let set-field = after-set-field .set-field in
-    let pass = in-loop in
-    let b = count-bounds (pre .1) (now pass) (inside pass) _ (children-of .ensures) in
-    (omega arith, omega (arith, b .row-parent, set-field2 .kept, set-field .kept))
+    let stored : tie.After-set-field Inv-loop μ-loop = search needs in
+    (omega arith, omega (arith, bounds (search needs) .row-parent, c .before .before .before .set-field2 .kept, stored .set-field .kept))
 
 loop-again : tie.Need-loop-again Inv-loop μ-loop
 loop-again c =
-    let after-set-field2 : After-set-field2 = search needs in
-    let after-set-field : After-set-field = search needs in
-    let at-loop : At-loop = search needs in
-    let in-loop : In-loop = search needs in
-    let after-children-of : After-children-of = search needs in
-    let set-field2 = after-set-field2 .set-field2 in
-    let set-field = after-set-field .set-field in
-    let loop = at-loop .loop in
-    let loop-test = in-loop .loop-test in
-    let children-of = after-children-of .children-of in
-    rw (c .before .before .set-field3 .ensures, set-field2 .ensures, set-field .ensures)
-    (λ d Q. counting-step Q (loop .inv d Q) (omega (arith, loop-test .taken, Q .all)) _ (children-of .ensures))
+    let pass : In-loop = search needs in
+    let counted : After-children-of = search needs in
+    let parent : tie.After-set-field Inv-loop μ-loop = search needs in
+    let rank : tie.After-set-field2 Inv-loop μ-loop = search needs in
+    rw (c .before .before .set-field3 .ensures, rank .set-field2 .ensures, parent .set-field .ensures)
+    (λ d Q. counting-step Q (pass .before .loop .inv d Q) (omega (arith, pass .loop-test .taken, Q .all)) _ (counted .children-of .ensures))
 
 same-length : tie.Need-same-length Inv-loop μ-loop
 same-length c =
     let start : Start = search needs in
-    let pre = start .pre in
-    c .before .loop .inv (pre .0) (pre .1) .all ∙ sym (pre .2)
-
-returns : tie.Need-returns Inv-loop μ-loop
-returns c = λ d Q. counting-end Q (c .before .loop .inv d Q) (omega (arith, c .loop-test .left, Q .all))
+    c .before .loop .inv _ (start .pre .known) .all ∙ sym (start .pre .each-row)
 
 pub count-children-spec : {M : Type 1} → statement M
 count-children-spec =
@@ -139,12 +85,12 @@ count-children-spec =
     (λ c. search needs)
     (λ c. search needs)
     children-of-requires
-    add-counted
-    set-field-requires
-    set-field-requires-2
+    (λ c. omega (arith, bounds c .fits))
+    (λ c κs. (omega arith, bounds (c .before) .row))
+    (λ c κs. (omega arith, omega (arith, bounds (search needs) .row, c .before .before .before .set-field .kept)))
     set-field-requires-3
     (λ c. search needs)
     (λ c. search needs)
     loop-again
     same-length
-    returns)
+    (λ c d Q. counting-end Q (c .before .loop .inv d Q) (omega (arith, c .loop-test .left, Q .all))))

@@ -1,10 +1,10 @@
--- `lay_trees` meets its contract: the trees of the regions passed lie one after the other. Assumes nothing.
+-- `lay_trees` meets its contract: the trees of the regions passed lie one after the other.
 use borrow.Author.Needs.{needs}
-use Prim.Native.Nat.{ℕ, _*_, _-_, _<_}
+use Prim.Native.Nat.{ℕ, _+_, _*_, _-_, _<_}
 use mathlib.Core.Path.{_≡_, refl, ap, _∙_}
 use mathlib.Core.List.{List}
 use native.Mathlib.Omega.{arith}
-use lib.ListN.{length}
+use lib.ListN.{length, set}
 use Rattle.procedure.specs.Division.{Division, regions}
 use Rattle.rows.specs.Rows.{field}
 use Rattle.tree_places.specs.Trees.{Ranked}
@@ -19,67 +19,33 @@ Inv-loop rows₀ n start₀ r₀ rows start r =
 abbrev μ-loop : tie.MeasureT-loop
 μ-loop rows₀ n start₀ r₀ rows start r = n - r
 
--- the places of the function that answers look back to
-abbrev At-loop : Type 0
-At-loop = tie.At-loop Inv-loop μ-loop
+abbrev After-children-of : Type 0
+After-children-of = tie.After-children-of Inv-loop μ-loop
 
-abbrev After-set-field : Type 0
-After-set-field = tie.After-set-field Inv-loop μ-loop
+abbrev turn : After-children-of → tie.In-loop Inv-loop μ-loop
+turn c = search needs
 
-abbrev In-loop : Type 0
-In-loop = tie.In-loop Inv-loop μ-loop
+-- the number of children is read in the rows with the tree's start
+read : (c : After-children-of) → let loop = turn c .before .loop in c .children-of .result ≡ field (set (loop .rows) (4 * loop .r + 2) (loop .start)) (loop .r) 1
+read c =
+    let stored : tie.After-set-field Inv-loop μ-loop = search needs in
+    c .children-of .ensures ∙ ap (λ (l : List ℕ). field l (turn c .before .loop .r) 1) (stored .set-field .ensures)
 
--- where the function begins
-abbrev entry : (c : tie.In-loop Inv-loop μ-loop) → tie.Start Inv-loop μ-loop
-entry c = c .before .before .before
-
--- the invariant for the given division
-now : (c : tie.In-loop Inv-loop μ-loop) → Laying (entry c .pre .0) (c .before .loop .rows) (c .before .loop .start) (c .before .loop .r)
-now c = c .before .loop .inv .1 (entry c .pre .0) (entry c .pre .1) (entry c .pre .2)
-
-inside : (c : tie.In-loop Inv-loop μ-loop) → c .before .loop .r < regions (entry c .pre .0)
-inside c = omega (arith, c .loop-test .taken, entry c .pre .2)
-
-loop-holds : tie.Need-loop-holds Inv-loop μ-loop
-loop-holds c = (refl, λ d R _. laying-start R)
-
-mul-start : tie.Need-mul-start Inv-loop μ-loop
-mul-start c =
-    let at-loop : At-loop = search needs in
-    let after-set-field : After-set-field = search needs in
-    let in-loop : In-loop = search needs in
-    let loop = at-loop .loop in
-    let set-field = after-set-field .set-field in
-    let pass = in-loop in
-    let read = c .children-of .ensures ∙ ap (λ (l : List ℕ). field l (loop .r) 1) (set-field .ensures) in
-    omega (arith, laying-fits (now pass) (inside pass) (c .children-of .result) read)
-
-add-start : tie.Need-add-start Inv-loop μ-loop
-add-start c =
-    let at-loop : At-loop = search needs in
-    let after-set-field : After-set-field = search needs in
-    let in-loop : In-loop = search needs in
-    let loop = at-loop .loop in
-    let set-field = after-set-field .set-field in
-    let pass = in-loop in
-    let read = c .children-of .ensures ∙ ap (λ (l : List ℕ). field l (loop .r) 1) (set-field .ensures) in
-    omega (arith, laying-fits (now pass) (inside pass) (c .children-of .result) read)
+-- and where the next tree begins fits, for the given division
+fits : (c : After-children-of) → turn c .before .loop .start + 2 * c .children-of .result < 65536
+fits c =
+    let start : tie.Start Inv-loop μ-loop = search needs in
+    let now = turn c .before .loop .inv .1 _ (start .pre .known) (start .pre .each-row) in
+    laying-fits now (omega (arith, turn c .loop-test .taken, start .pre .each-row)) (c .children-of .result) (read c)
 
 loop-again : tie.Need-loop-again Inv-loop μ-loop
 loop-again c =
-    let at-loop : At-loop = search needs in
-    let after-set-field : After-set-field = search needs in
-    let in-loop : In-loop = search needs in
-    let loop = at-loop .loop in
-    let set-field = after-set-field .set-field in
-    let loop-test = in-loop .loop-test in
-    let read = c .children-of .ensures ∙ ap (λ (l : List ℕ). field l (loop .r) 1) (set-field .ensures) in (
-      omega (arith, set-field .kept, loop .inv .0),
-      rw (set-field .ensures) (λ d R e. laying-step (loop .inv .1 d R e) (omega (arith, loop-test .taken, e)) _ read),
+    let stored : tie.After-set-field Inv-loop μ-loop = search needs in
+    let pass = turn c in (
+      omega (arith, stored .set-field .kept, pass .before .loop .inv .0),
+      rw (stored .set-field .ensures)
+          (λ d R e. laying-step (pass .before .loop .inv .1 d R e) (omega (arith, pass .loop-test .taken, e)) _ (read c)),
     )
-
-returns : tie.Need-returns Inv-loop μ-loop
-returns c = λ d R e. laying-end (c .before .loop .inv .1 d R e) (omega (arith, c .loop-test .left, e))
 
 pub lay-trees-spec : {M : Type 1} → statement M
 lay-trees-spec =
@@ -88,13 +54,13 @@ lay-trees-spec =
     Inv-loop
     μ-loop
     (λ c. search needs)
-    loop-holds
+    (λ c. (refl, λ d R _. laying-start R))
     (λ c κs. search needs)
     (λ c κs. search needs)
-    mul-start
-    add-start
+    (λ c. omega (arith, fits c))
+    (λ c. omega (arith, fits c))
     (λ c. search needs)
     (λ c. search needs)
     loop-again
     (λ c. search needs)
-    returns)
+    (λ c d R e. laying-end (c .before .loop .inv .1 d R e) (omega (arith, c .loop-test .left, e))))

@@ -1,45 +1,41 @@
--- `arc_in_row` meets its contract: region 0 and inner regions have no arc. Assumes nothing.
-use mathlib.Core.Path.{sym, _∙_}
+-- `arc_in_row` meets its contract: region 0 and inner regions have no arc.
+use Prim.Native.Nat.{_<_}
+use mathlib.Core.Bool.{true}
+use mathlib.Core.Path.{_≡_, sym, _∙_}
 use borrow.Author.Tests.{not-true, not-false}
 use borrow.Author.Needs.{needs}
 use native.Mathlib.Omega.{arith}
+use Rattle.sheet.specs.Regions.{isLeaf}
 use Rattle.region_entries.proofs.Rows.{leaf-positive, leaf-row, inner-row}
 use Rattle.region_entries.proofs.arc_in_row.Statement.{statement}
 use Rattle.region_entries.proofs.arc_in_row.Tie as tie
 
-is-leaf-requires : tie.Need-is-leaf-requires
-is-leaf-requires c κs = search needs
+abbrev entry : tie.Else1 → tie.Start
+entry c = search needs
+
+-- where the test is left the region is a leaf, and so not region 0
+leaf : (c : tie.Else1) → isLeaf (entry c .args .d .now) (entry c .args .r .0) ≡ true
+leaf c = sym (c .before .is-leaf .ensures) ∙ not-false (c .before .is-leaf .result) (c .if1 .left)
+
+positive : (c : tie.Else1) → 0 < entry c .args .r .0
+positive c = leaf-positive (entry c .args .d .now) (entry c .args .r .0) (leaf c)
 
 returns : tie.Need-returns
 returns c =
-    let args = c .before .before .before .args in
-    sym (inner-row (args .d .now) (args .r .0) (sym (c .before .is-leaf .ensures) ∙ not-true (c .before .is-leaf .result) (c .if1 .taken)))
-
-cast-i : tie.Need-cast-i
-cast-i c = search needs
-
-sub-arc-word : tie.Need-sub-arc-word
-sub-arc-word c =
     let start : tie.Start = search needs in
-    let args = start .args in
-    let leaf = sym (c .before .before .is-leaf .ensures) ∙ not-false (c .before .before .is-leaf .result) (c .before .if1 .left) in
-    omega (arith, leaf-positive (args .d .now) (args .r .0) leaf)
-
-arc-word-requires : tie.Need-arc-word-requires
-arc-word-requires c κs =
-    let start : tie.Start = search needs in
-    let args = start .args in
-    let leaf = sym (c .before .before .is-leaf .ensures) ∙ not-false (c .before .before .is-leaf .result) (c .before .if1 .left) in
-    omega (arith, leaf-positive (args .d .now) (args .r .0) leaf)
+    let inner = sym (c .before .is-leaf .ensures) ∙ not-true (c .before .is-leaf .result) (c .if1 .taken) in
+    sym (inner-row (start .args .d .now) (start .args .r .0) inner)
 
 returns-2 : tie.Need-returns-2
 returns-2 c =
     let start : tie.Start = search needs in
-    let is-leaf = c .before .before .before .is-leaf in
-    let args = start .args in
-    let leaf = sym (is-leaf .ensures) ∙ not-false (is-leaf .result) (c .before .before .if1 .left) in
-    c .arc-word .ensures .0 ∙ sym (leaf-row (args .d .now) (args .r .0) leaf .0)
+    c .arc-word .ensures .0 ∙ sym (leaf-row (start .args .d .now) (start .args .r .0) (leaf (search needs)) .0)
 
 pub arc-in-row-spec : {M : Type 1} → statement M
-arc-in-row-spec =
-    tie.close (tie.spec is-leaf-requires returns cast-i sub-arc-word arc-word-requires returns-2)
+arc-in-row-spec = tie.close (tie.spec
+    (λ c κs. search needs)
+    returns
+    (λ c. search needs)
+    (λ c. omega (arith, positive (search needs)))
+    (λ c κs. omega (arith, positive (search needs)))
+    returns-2)

@@ -1,4 +1,4 @@
--- `enter_heights` meets its contract: the regions passed have their heights and have handed them to their parents. Assumes nothing.
+-- `enter_heights` meets its contract: the regions passed have their heights and have handed them to their parents.
 use borrow.Author.Needs.{needs}
 use native.Mathlib.Nat.{le-refl}
 use native.Mathlib.Omega.{arith}
@@ -13,12 +13,8 @@ Inv-loop d parents regions₀ r₀ regions r = EnteringHeights d regions r
 abbrev μ-loop : tie.MeasureT-loop
 μ-loop d parents regions₀ r₀ regions r = r
 
--- the places of the function that answers look back to
 abbrev Start : Type 0
 Start = tie.Start Inv-loop μ-loop
-
-abbrev At-loop : Type 0
-At-loop = tie.At-loop Inv-loop μ-loop
 
 abbrev In-loop : Type 0
 In-loop = tie.In-loop Inv-loop μ-loop
@@ -26,57 +22,42 @@ In-loop = tie.In-loop Inv-loop μ-loop
 abbrev After-settle-height : Type 0
 After-settle-height = tie.After-settle-height Inv-loop μ-loop
 
-abbrev After-loop : Type 0
-After-loop = tie.After-loop Inv-loop μ-loop
-
-loop-holds : tie.Need-loop-holds Inv-loop μ-loop
-loop-holds c =
-    let pre = c .before .before .before .pre in
-    heights-none (pre .2)
-
 settle-height-requires : tie.Need-settle-height-requires Inv-loop μ-loop
 settle-height-requires c κs =
     let start : Start = search needs in
-    let loop = c .before .before .loop in
-    let pre = start .pre in
-    (loop .inv .within, omega (arith, loop .inv .all, loop .inv .within), heights-fit (pre .0) (loop .inv) (loop .r) (le-refl (loop .r)))
+    let H = c .before .before .loop .inv in
+    (H .within, omega (arith, H .all, H .within), heights-fit (start .pre .nested) H _ (le-refl _))
 
 hand-up-requires : tie.Need-hand-up-requires Inv-loop μ-loop
 hand-up-requires c κs =
     let start : Start = search needs in
-    let at-loop : At-loop = search needs in
-    let in-loop : In-loop = search needs in
-    let after-settle-height : After-settle-height = search needs in
-    let pre = start .pre in
-    let loop = at-loop .loop in
-    let low = parent-lower (pre .0) (pre .1) (loop .r) (in-loop .loop-test .taken) (loop .inv .within) in
-    omega (arith, low, loop .inv .all, loop .inv .within, after-settle-height .settle-height .kept)
+    let pass : In-loop = search needs in
+    let settled : After-settle-height = search needs in
+    let H = pass .before .loop .inv in
+    let low = parent-lower (start .pre .nested) (start .pre .parents-in) (pass .before .loop .r) (pass .loop-test .taken) (H .within) in
+    omega (arith, low, H .all, H .within, settled .settle-height .kept)
 
 loop-again : tie.Need-loop-again Inv-loop μ-loop
 loop-again c =
-    let after-settle-height : After-settle-height = search needs in
-    let settling = after-settle-height in
-    let loop-test = settling .before .before .loop-test in
-    let loop = settling .before .before .before .loop in
-    let pre = settling .before .before .before .before .before .before .before .pre in
-    let up = pre .1 .same (loop .r) (loop-test .taken) (omega (arith, loop .inv .within)) in
-    heights-more (pre .0) (loop .inv) (loop-test .taken) up (settling .settle-height .ensures .0) (settling .settle-height .ensures .1)
-    (c .before .before .hand-up .ensures)
+    let start : Start = search needs in
+    let pass : In-loop = search needs in
+    let settled : After-settle-height = search needs in
+    let H = pass .before .loop .inv in
+    let up = start .pre .parents-in .same (pass .before .loop .r) (pass .loop-test .taken) (omega (arith, H .within)) in
+    let height = settled .settle-height .ensures in
+    heights-more (start .pre .nested) H (pass .loop-test .taken) up (height .height) (height .rows) (c .before .before .hand-up .ensures)
 
 settle-height-requires-2 : tie.Need-settle-height-requires-2 Inv-loop μ-loop
 settle-height-requires-2 c κs =
     let start : Start = search needs in
-    let loop = c .before .before .loop in
-    let pre = start .pre in
-    (omega arith, omega (arith, loop .inv .all), heights-fit (pre .0) (loop .inv) 0 (omega arith))
+    let H = c .before .before .loop .inv in
+    (omega arith, omega (arith, H .all), heights-fit (start .pre .nested) H 0 (omega arith))
 
 returns : tie.Need-returns Inv-loop μ-loop
 returns c =
     let start : Start = search needs in
-    let at-loop : At-loop = search needs in
-    let after-loop : After-loop = search needs in
-    let pre = start .pre in
-    heights-all (pre .0) (at-loop .loop .inv) (after-loop .loop-test .left) (c .before .before .settle-height2 .ensures .1)
+    let done : tie.After-loop Inv-loop μ-loop = search needs in
+    heights-all (start .pre .nested) (done .before .loop .inv) (done .loop-test .left) (c .before .before .settle-height2 .ensures .rows)
 
 pub enter-heights-spec : {M : Type 1} → statement M
 enter-heights-spec =
@@ -85,7 +66,7 @@ enter-heights-spec =
     Inv-loop
     μ-loop
     (λ c. search needs)
-    loop-holds
+    (λ c. let start : Start = search needs in heights-none (start .pre .arcs-in))
     settle-height-requires
     (λ c. omega arith)
     (λ c. search needs)

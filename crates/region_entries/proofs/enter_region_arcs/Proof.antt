@@ -1,4 +1,4 @@
--- `enter_region_arcs` meets its contract: the regions passed have their arcs. Assumes nothing.
+-- `enter_region_arcs` meets its contract: the regions passed have their arcs.
 use borrow.Author.Needs.{needs}
 use Prim.Native.Nat.{_-_}
 use native.Mathlib.Omega.{arith}
@@ -8,28 +8,12 @@ use Rattle.region_entries.proofs.Rows.{EnteringArcs, region-arcs-more, 
 use Rattle.region_entries.proofs.enter_region_arcs.Statement.{statement}
 use Rattle.region_entries.proofs.enter_region_arcs.Tie as tie
 
-abbrev Inv-loop : tie.InvT-loop
-Inv-loop d regions₀ n r₀ regions r = EnteringArcs d regions r
-
-abbrev μ-loop : tie.MeasureT-loop
-μ-loop d regions₀ n r₀ regions r = regionCount d - r
-
-slice-write-regions-2 : tie.Need-slice-write-regions-2 Inv-loop μ-loop
-slice-write-regions-2 c = simp length-set (omega arith)
-
-loop-again : tie.Need-loop-again Inv-loop μ-loop
-loop-again c =
-    region-arcs-more _ (c .before .before .loop .inv) (omega (arith, c .before .loop-test .taken)) (c .arc-in-row .ensures)
-
-returns : tie.Need-returns Inv-loop μ-loop
-returns c = region-arcs-all (c .before .loop .inv) (omega arith)
-
 pub enter-region-arcs-spec : {M : Type 1} → statement M
 enter-region-arcs-spec =
     tie.close
     (tie.spec
-    Inv-loop
-    μ-loop
+    (λ d regions₀ n r₀ regions r. EnteringArcs d regions r)
+    (λ d regions₀ n r₀ regions r. regionCount d - r)
     (λ c. omega arith)
     (λ c. omega arith)
     (λ c. search needs)
@@ -40,9 +24,9 @@ enter-region-arcs-spec =
     (λ c. omega arith)
     (λ c. omega arith)
     (λ c. omega arith)
-    slice-write-regions-2
+    (λ c. simp length-set (omega arith))
     (λ c. omega arith)
     (λ c. omega arith)
-    loop-again
+    (λ c. region-arcs-more (c .before .before .loop .inv) (omega (arith, c .before .loop-test .taken)) (c .arc-in-row .ensures))
     (λ c. search needs)
-    returns)
+    (λ c. region-arcs-all (c .before .loop .inv) (omega arith)))
