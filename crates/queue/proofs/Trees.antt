@@ -1,4 +1,4 @@
--- Winner trees: a store at a place leaves open only the place above it; where none is open, place 1 holds the first-chosen child. Assumes nothing.
+-- Winner trees: a store at a place leaves open only the place above it; where none is open, place 1 holds the first-chosen child.
 use Prim.Native.Nat.{ℕ, zero, suc, min, _+_, _*_, _/_, _≤_, _<_}
 use mathlib.Core.Path.{_≡_, refl, sym, ap, _∙_}
 use mathlib.Core.Logic.{_≢_, _⊎_, inl, inr, ⊎-elim}
@@ -7,7 +7,7 @@ use native.Mathlib.Omega.{arith, min-cases}
 use lib.ListN.{length, set, length-set}
 use lib.Seq.{getD-set-same, getD-set-other}
 use Rattle.indices.specs.Columns.{at}
-use Rattle.indices.proofs.Steps.{eq-or-ne, lt-or-le, set-elim}
+use Rattle.indices.proofs.Steps.{by-order, by-equal, set-elim}
 use Rattle.procedure.specs.Division.{Division, regions, parent}
 use Rattle.procedure.specs.Queues.{minItem}
 use Rattle.theory.proofs.Chosen.{Child, parent-child, minItem-first, first-one}
@@ -31,10 +31,8 @@ module _ (d : Division) (winners : List ℕ) (room : 2 * regions d ≤ length wi
     where
       apart : treeStart d r′ + q ≢ treeStart d r + p
       apart e =
-          ⊎-elim (λ (s : r′ ≡ r). ne s (omega (arith, ap (treeStart d) s)))
-          (λ (s : r′ ≢ r).
-          ⊎-elim (λ (l : r′ < r). omega (arith, trees-apart d r′ r l)) (λ (l : r ≤ r′). omega (arith, trees-apart d r r′ (omega arith))) (lt-or-le r′ r))
-          (eq-or-ne r′ r)
+          by-equal r′ r (λ s. ne s (omega (arith, ap (treeStart d) s)))
+          (λ s. by-order r′ r (λ l. omega (arith, trees-apart d r′ r l)) (λ l. omega (arith, trees-apart d r r′ (omega arith))))
 
   win-kept : (r′ q : ℕ) → 0 < q → q < childCount d r′ → (r′ ≡ r → q ≢ p) → (r′ ≡ r → q ≢ p / 2) → Wins d winners r′ q
       → Wins d (set winners (treeStart d r + p) x) r′ q
@@ -48,8 +46,7 @@ module _ (d : Division) (winners : List ℕ) (room : 2 * regions d ≤ length wi
 
   same : (r′ q a : ℕ) → ((r′ ≡ r) × (q ≡ a)) ⊎ (r′ ≡ r → q ≢ a)
   same r′ q a =
-      ⊎-elim (λ (e : r′ ≡ r). ⊎-elim (λ (f : q ≡ a). inl (e, f)) (λ (n : q ≢ a). inr (λ _. n)) (eq-or-ne q a))
-      (λ (n : r′ ≢ r). inr (λ e. absurd (n e))) (eq-or-ne r′ r)
+      by-equal r′ r (λ e. by-equal q a (λ f. inl (e, f)) (λ n. inr (λ _. n))) (λ n. inr (λ e. absurd (n e)))
 
   -- what was open is open still, or is this place, which is decided now; the place above it is open
   rest-kept : (Open Open′ : ℕ → ℕ → Type 0) → ((r′ q : ℕ) → 0 < q → q < childCount d r′ → Wins d winners r′ q ⊎ Open r′ q)
@@ -71,7 +68,7 @@ module _ (d : Division) (winners : List ℕ) (room : 2 * regions d ≤ length wi
 
 -- A REGION'S PLACE, BY THE ROWS
 
--- c's row and that of its parent `up`
+-- c's parent `up` has a row
 module _ {d : Division} {rows : List ℕ} (P : Planned d rows) (c up : ℕ) (pos : 0 < c) (inside : c < regions d) (over : up ≡ parent d c) where
   up-in : up < regions d
   up-in = omega (arith, over, P .counted .numbered .lower c pos inside)
@@ -79,13 +76,18 @@ module _ {d : Division} {rows : List ℕ} (P : Planned d rows) (c up : ℕ) (pos
   pub up-row : up < rowCount rows
   up-row = row-in up (P .counted) up-in
 
-  -- they say where c's place lies
-  module _ (start p : ℕ) (row : start ≡ field rows up 2) (own : p ≡ field rows c 3) where
-    pub seat-at : start + p ≡ treeStart d (parent d c) + seat d c
-    seat-at = omega (arith, row, own, P .starts up up-in, ap (treeStart d) over, P .seats c pos inside)
+-- its row says where its tree begins, and c's row which place of it is c's
+pub record Lies (d : Division) (rows : List ℕ) (c up start p : ℕ) : Type 0 where
+  pub over : up ≡ parent d c
+  pub row : start ≡ field rows up 2
+  pub own : p ≡ field rows c 3
 
-    pub seat-inside : {winners : List ℕ} → LaidOut d rows winners → start + p < length winners
-    seat-inside {winners} L = rw seat-at (place-in d winners (L .room) (parent d c) (seat d c) 0 (seat-high d (parent-child d c pos inside)))
+module _ {d : Division} {rows : List ℕ} {c up start p : ℕ} (P : Planned d rows) (L : Lies d rows c up start p) (pos : 0 < c) (inside : c < regions d) where
+  pub seat-at : start + p ≡ treeStart d (parent d c) + seat d c
+  seat-at = omega (arith, L .row, L .own, P .starts up (up-in P c up pos inside (L .over)), ap (treeStart d) (L .over), P .seats c pos inside)
+
+  pub seat-inside : {winners : List ℕ} → LaidOut d rows winners → start + p < length winners
+  seat-inside {winners} W = rw seat-at (place-in d winners (W .room) (parent d c) (seat d c) 0 (seat-high d (parent-child d c pos inside)))
 
 -- where r's tree begins, by its row, if r has a child
 pub begins : {d : Division} {rows : List ℕ} (r start : ℕ) → Planned d rows → start ≡ field rows r 2 → 0 < childCount d r → start ≡ treeStart d r
@@ -100,14 +102,13 @@ module _ (d : Division) (winners : List ℕ) (room : 2 * regions d ≤ length wi
   pub seat-elim : (P : ℕ → Type 0) (b : ℕ) → 0 < b → b < regions d → (b ≡ c → P x) → (b ≢ c → P (place d winners (parent d b) (seat d b)))
       → P (place d (set winners (treeStart d (parent d c) + seat d c) x) (parent d b) (seat d b))
   seat-elim P b pb lb f g =
-      ⊎-elim (λ (e : b ≡ c). rw (e, place-same d winners room (parent d c) (seat d c) x (seat-high d child)) (f e))
-      (λ (n : b ≢ c).
+      by-equal b c (λ e. rw (e, place-same d winners room (parent d c) (seat d c) x (seat-high d child)) (f e))
+      (λ n.
       let k = parent-child d b pb lb in
       let kept =
       place-other d winners room (parent d c) (seat d c) x (seat-high d child) (parent d b) (seat d b) (seat-high d k)
       (λ e s. n (seat-one d k (record { in-range = inside; positive = pos; under = sym e }) s)) in
       rw kept (g n))
-      (eq-or-ne b c)
 
 -- VALID BUT FOR SOME PLACES
 
@@ -186,16 +187,15 @@ module _ {d : Division} {rows keys winners : List ℕ} (Q : QueuesOk d rows keys
   -- it is the entry of one of the two places below, or a child's own place
   held-step : (r q : ℕ) → 0 < q → q < 2 * childCount d r → (q < childCount d r → Held r (2 * q)) → (q < childCount d r → Held r (2 * q + 1)) → Held r q
   held-step r q pos l left right =
-      ⊎-elim
-      (λ (h : q < childCount d r).
+      by-order q (childCount d r)
+      (λ h.
       let w = Q .wins r q pos h in
       min-cases (place d winners r (2 * q)) (place d winners r (2 * q + 1)) (Held r q)
       (λ _ e. let f = left h in (f .0, f .1, w ∙ e ∙ f .2)) (λ _ e. let f = right h in (f .0, f .1, w ∙ e ∙ f .2)))
-      (λ (h : childCount d r ≤ q).
+      (λ h.
       let f = place-child d r q h l in
       let k = f .1 in
       (f .0, k, rw (k .under, f .2) at (Q .entered .stands (f .0) (k .positive) (k .in-range))))
-      (lt-or-le q (childCount d r))
 
   held : (r f q : ℕ) → 0 < q → q < 2 * childCount d r → 2 * childCount d r ≤ q + f → Held r q
   held r zero q pos l m = absurd (omega arith)
@@ -207,19 +207,15 @@ module _ {d : Division} {rows keys winners : List ℕ} (Q : QueuesOk d rows keys
   no-lower : (r q : ℕ) → 1 < q → q < 2 * childCount d r → place d winners r (q / 2) ≤ place d winners r q
   no-lower r q big l =
       let w = Q .wins r (q / 2) (omega arith) (omega arith) in
-      ⊎-elim (λ (e : q ≡ 2 * (q / 2)). omega (arith, w, ap (place d winners r) e))
-      (λ (n : q ≢ 2 * (q / 2)). let e : q ≡ 2 * (q / 2) + 1 = omega arith in omega (arith, w, ap (place d winners r) e))
-      (eq-or-ne q (2 * (q / 2)))
+      by-equal q (2 * (q / 2)) (λ e. omega (arith, w, ap (place d winners r) e))
+      (λ n. let e : q ≡ 2 * (q / 2) + 1 = omega arith in omega (arith, w, ap (place d winners r) e))
 
   -- nor than place 1
   first-lowest : (r f q : ℕ) → q ≤ f → 0 < q → q < 2 * childCount d r → place d winners r 1 ≤ place d winners r q
   first-lowest r zero q m pos l = absurd (omega arith)
-  first-lowest r (suc f) q m pos l = go (eq-or-ne q 1) (first-lowest r f (q / 2))
-    where
-      go : (q ≡ 1) ⊎ (q ≢ 1) → (q / 2 ≤ f → 0 < q / 2 → q / 2 < 2 * childCount d r → place d winners r 1 ≤ place d winners r (q / 2))
-          → place d winners r 1 ≤ place d winners r q
-      go (inl e) rest = omega (arith, ap (place d winners r) e)
-      go (inr n) rest = omega (arith, rest (omega arith) (omega arith) (omega arith), no-lower r q (omega arith) l)
+  first-lowest r (suc f) q m pos l =
+      by-equal q 1 (λ e. omega (arith, ap (place d winners r) e))
+      (λ n. omega (arith, first-lowest r f (q / 2) (omega arith) (omega arith) (omega arith), no-lower r q (omega arith) l))
 
   -- place 1 holds the entry of the first-chosen child
   pub minItem-place : (r : ℕ) → 0 < childCount d r → Child d r (minItem d keys r) × (place d winners r 1 ≡ entry keys (minItem d keys r))
@@ -245,9 +241,8 @@ module _ {d : Division} {rows keys winners : List ℕ} (Q : QueuesOk d rows keys
   pub minItem-childless : (r : ℕ) → childCount d r ≡ 0 → minItem d keys r ≡ 0
   minItem-childless r none =
       let f = minItem-first d keys r in
-      ⊎-elim (λ (e : minItem d keys r ≡ 0). e)
-      (λ (n : minItem d keys r ≢ 0).
+      by-equal (minItem d keys r) 0 (λ e. e)
+      (λ n.
       let pos : 0 < minItem d keys r = omega arith in
       let k : Child d r (minItem d keys r) = record { in-range = f .child pos .0; positive = pos; under = f .child pos .1 } in
       absurd (omega (arith, seat-high d k)))
-      (eq-or-ne (minItem d keys r) 0)

@@ -1,35 +1,24 @@
--- `min_key` meets its contract: place 1 holds the entry of the first-chosen child, with its key. Assumes nothing.
+-- `min_key` meets its contract: place 1 holds the entry of the first-chosen child, with its key.
 use mathlib.Core.Path.{sym, _∙_}
+use mathlib.Core.Logic.{_≢_}
 use borrow.Author.Needs.{needs}
 use native.Mathlib.Omega.{arith}
 use Rattle.sheet.specs.Words.{top}
+use Rattle.rows.specs.Rows.{field}
 use Rattle.queue.proofs.Reading.{key-none, first-in, key-fits, key-some}
 use Rattle.queue.proofs.min_key.Statement.{statement}
 use Rattle.queue.proofs.min_key.Tie as tie
 
+abbrev entry : tie.Else1 → tie.Start
+entry c = search needs
+
+-- the region has a child
+some : (c : tie.Else1) → field (entry c .args .rows .now) (entry c .args .r .0) 1 ≢ 0
+some c e = c .if1 .left (c .before .children-of .ensures ∙ e)
+
 returns : tie.Need-returns
 unfolding top
-returns c = λ d keys Q inside. key-none Q _ inside (sym (c .before .children-of .ensures) ∙ c .if1 .taken)
-
-shared-slice-read-result : tie.Need-shared-slice-read-result
-shared-slice-read-result c =
-    let start : tie.Start = search needs in
-    let pre = start .pre in
-    let children-of = c .before .before .before .children-of in
-    rw (c .before .start-of .ensures) (first-in (pre .2) _ (pre .3) (λ e. c .before .before .if1 .left (children-of .ensures ∙ e)))
-
-cast-result : tie.Need-cast-result
-cast-result c =
-    let start : tie.Start = search needs in
-    let pre = start .pre in
-    let children-of = c .before .before .before .children-of in
-    rw (c .before .start-of .ensures)
-    (omega (arith, key-fits (pre .2) _ (pre .3) (λ e. c .before .before .if1 .left (children-of .ensures ∙ e))))
-
-returns-2 : tie.Need-returns-2
-returns-2 c =
-    let children-of = c .before .before .before .children-of in
-    λ d keys Q inside. rw (c .before .start-of .ensures) (key-some Q _ inside (λ e. c .before .before .if1 .left (children-of .ensures ∙ e)))
+returns c d keys Q inside = key-none Q _ inside (sym (c .before .children-of .ensures) ∙ c .if1 .taken)
 
 pub min-key-spec : {M : Type 1} → statement M
 min-key-spec =
@@ -41,6 +30,6 @@ min-key-spec =
     (λ c. search needs)
     (λ c. search needs)
     (λ c. search needs)
-    shared-slice-read-result
-    cast-result
-    returns-2)
+    (λ c. let pre = entry (c .before .before) .pre in first-in (pre .2) _ (pre .3) (some (search needs)) (c .before .start-of .ensures))
+    (λ c. let pre = entry (c .before .before) .pre in omega (arith, key-fits (pre .2) _ (pre .3) (some (search needs)) (c .before .start-of .ensures)))
+    (λ c d keys Q inside. key-some Q _ inside (some (search needs)) (c .before .start-of .ensures)))

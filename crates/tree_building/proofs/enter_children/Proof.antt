@@ -1,4 +1,4 @@
--- `enter_children` meets its contract: the regions passed stand at their places with key none. Assumes nothing.
+-- `enter_children` meets its contract: the regions passed stand at their places with key none.
 use Prim.Native.Nat.{_-_, _<_}
 use mathlib.Core.Path.{_≡_, refl}
 use borrow.Author.Needs.{needs}
@@ -6,7 +6,7 @@ use native.Mathlib.Omega.{arith}
 use lib.ListN.{length, length-set}
 use Rattle.procedure.specs.Division.{Division, regions, parent}
 use Rattle.tree_places.specs.Trees.{LaidOut}
-use Rattle.queue.proofs.Trees.{up-row, seat-inside}
+use Rattle.queue.proofs.Trees.{up-row, Lies, seat-inside}
 use Rattle.tree_building.proofs.Building.{Entering, entering-start, entering-step, entering-end}
 use Rattle.tree_building.proofs.enter_children.Statement.{statement}
 use Rattle.tree_building.proofs.enter_children.Tie as tie
@@ -18,55 +18,64 @@ Inv-loop rows winners₀ count c₀ winners c =
 abbrev μ-loop : tie.MeasureT-loop
 μ-loop rows winners₀ count c₀ winners c = count - c
 
--- the places of the function that answers look back to
+abbrev Start : Type 0
+Start = tie.Start Inv-loop μ-loop
+
 abbrev In-loop : Type 0
 In-loop = tie.In-loop Inv-loop μ-loop
 
--- where the function begins
-abbrev entry : tie.In-loop Inv-loop μ-loop → tie.Start Inv-loop μ-loop
-entry c = c .before .before .before .before
+abbrev After-parent-of : Type 0
+After-parent-of = tie.After-parent-of Inv-loop μ-loop
 
--- the invariant for the given division
-now : (c : tie.In-loop Inv-loop μ-loop) → Entering (entry c .pre .0) (entry c .args .rows .now) (c .before .loop .winners) (c .before .loop .c)
-now c = c .before .loop .inv .1 (entry c .pre .0) (entry c .pre .1) (entry c .pre .2)
+abbrev After-seat-of : Type 0
+After-seat-of = tie.After-seat-of Inv-loop μ-loop
 
-inside : (c : tie.In-loop Inv-loop μ-loop) → c .before .loop .c < regions (entry c .pre .0)
-inside c = omega (arith, c .loop-test .taken, entry c .pre .2)
+abbrev entry : In-loop → Start
+entry c = search needs
 
-over : (c : tie.After-parent-of Inv-loop μ-loop) → c .parent-of .result .0 ≡ parent (entry (c .before) .pre .0) (c .before .before .loop .c)
-over c = c .parent-of .ensures _ (now (c .before) .laid .planned .counted) (inside (c .before))
+-- THE LOOP'S REGION, for a division that is laid out at the call, and for the given one
+abbrev Laid : Start → Division → Type 0
+Laid s d = LaidOut d (s .args .rows .now) (s .args .winners .now) × (s .args .count ≡ regions d)
 
-loop-holds : tie.Need-loop-holds Inv-loop μ-loop
-loop-holds c = (refl, λ d L _. entering-start L)
+given : (s : Start) → Laid s (s .pre .0)
+given s = (s .pre .1, s .pre .2)
+
+entering : (c : In-loop) (d : Division) → Laid (entry c) d → Entering d (entry c .args .rows .now) (c .before .loop .winners) (c .before .loop .c)
+entering c d L = c .before .loop .inv .1 d (L .0) (L .1)
+
+inside : (c : In-loop) (d : Division) → Laid (entry c) d → c .before .loop .c < regions d
+inside c d L = omega (arith, c .loop-test .taken, L .1)
+
+over : (c : After-parent-of) (d : Division) → Laid (entry (c .before)) d → c .parent-of .result .0 ≡ parent d (c .before .before .loop .c)
+over c d L = c .parent-of .ensures d (L .0 .planned .counted) (inside (c .before) d L)
+
+lies : (c : After-seat-of) → let up = c .before .before in
+    (d : Division) → Laid (entry (up .before)) d
+    → Lies d (entry (up .before) .args .rows .now) (up .before .before .loop .c) (up .parent-of .result .0) (c .before .start-of .result) (c .seat-of .result)
+lies c d L = record { over = over (c .before .before) d L; row = c .before .start-of .ensures; own = c .seat-of .ensures }
 
 parent-of-requires : tie.Need-parent-of-requires Inv-loop μ-loop
-parent-of-requires c κs = (_, now c .laid .planned .counted, now c .above, inside c)
+parent-of-requires c κs =
+    let L = given (entry c) in
+    (_, L .0 .planned .counted, entering c _ L .above, inside c _ L)
 
 start-of-requires : tie.Need-start-of-requires Inv-loop μ-loop
-start-of-requires c κs = up-row (now (c .before) .laid .planned) _ _ (now (c .before) .above) (inside (c .before)) (over c)
+start-of-requires c κs =
+    let L = given (entry (c .before)) in
+    up-row (L .0 .planned) _ _ (entering (c .before) _ L .above) (inside (c .before) _ L) (over c _ L)
 
 slice-write-winners : tie.Need-slice-write-winners Inv-loop μ-loop
 slice-write-winners c =
-    let up = c .before .before .before in
-    let E = now (up .before) in
-    seat-inside (E .laid .planned) _ _ (E .above) (inside (up .before)) (over up) _ _ (c .before .before .start-of .ensures) (c .before .seat-of .ensures)
-    (E .laid)
+    let pass : In-loop = search needs in
+    let L = given (entry pass) in
+    seat-inside (L .0 .planned) (lies (c .before) _ L) (entering pass _ L .above) (inside pass _ L) (entering pass _ L .laid)
 
 loop-again : tie.Need-loop-again Inv-loop μ-loop
 loop-again c =
-    let in-loop : In-loop = search needs in
-    let pass = in-loop in
-    let loop = pass .before .loop in (
-      simp length-set (loop .inv .0),
-      λ d L e.
-          let E = loop .inv .1 d L e in
-          let inside : loop .c < regions d = omega (arith, pass .loop-test .taken, e) in
-          let over = c .before .before .before .parent-of .ensures d (L .planned .counted) inside in
-          entering-step E inside _ _ _ over (c .before .before .start-of .ensures) (c .before .seat-of .ensures) _ (c .entry-of .ensures),
+    let pass : In-loop = search needs in (
+      simp length-set (pass .before .loop .inv .0),
+      λ d L e. entering-step (entering pass d (L, e)) (inside pass d (L, e)) (lies (c .before) d (L, e)) (c .entry-of .ensures),
     )
-
-returns : tie.Need-returns Inv-loop μ-loop
-returns c = λ d L e. entering-end (c .before .loop .inv .1 d L e) (omega (arith, c .loop-test .left, e))
 
 pub enter-children-spec : {M : Type 1} → statement M
 enter-children-spec =
@@ -74,7 +83,7 @@ enter-children-spec =
     (tie.spec
     Inv-loop
     μ-loop
-    loop-holds
+    (λ c. (refl, λ d L _. entering-start L))
     parent-of-requires
     start-of-requires
     (λ c. search needs)
@@ -88,4 +97,4 @@ enter-children-spec =
     (λ c. search needs)
     loop-again
     (λ c. search needs)
-    returns)
+    (λ c d L e. entering-end (c .before .loop .inv .1 d L e) (omega (arith, c .loop-test .left, e))))
