@@ -1,4 +1,4 @@
--- What a loop of steps rests on, and the turns of an inner region: those left to make lead to the same end. Assumes nothing.
+-- What a loop of steps rests on, and the turns of an inner region: those left to make lead to the same end.
 use Prim.Native.Nat.{ℕ, suc, _+_, _-_, _*_, _≤_, _<_}
 use mathlib.Core.Bool.{Bool, true, false}
 use mathlib.Core.Path.{_≡_, refl, sym, ap, _∙_}
@@ -98,41 +98,46 @@ module _ {g : Graph} {d : Division} {t : Tables} {labels predecessors own keys w
       let all = rw (process-inner g d (t .spans) ok r s (P .in-range) inner) at (P .small) in
       omega (arith, inner-counted g d s, more .inner, all .inner)
 
-  -- left is its span, and n the counts with the region counted
-  module _ {left : ℕ} (span : left ≡ at (t .spans) (heightEntry (t .regionRows) r - 1)) {n : Counts} (counted : n ≡ innerCounted c) where
-    abbrev begun : State
-    begun = stateOf labels predecessors own keys n
+-- the region is counted in n, and `left` is its span
+pub record Opened (g : Graph) (d : Division) (t : Tables) (labels predecessors own keys winners : List ℕ) (c : Counts) (r left : ℕ) (n : Counts) : Type 0 where
+  pub processing : let s = stateOf labels predecessors own keys c in Processing g d t s winners r (process g d (t .spans) r s)
+  pub inner : isLeaf d r ≡ false
+  pub span : left ≡ at (t .spans) (heightEntry (t .regionRows) r - 1)
+  pub counted : n ≡ innerCounted c
 
-    is-begun : begun ≡ countInner g d (stateOf labels predecessors own keys c)
-    unfolding countInner
-    is-begun = rw (counted, add-one (c .inner))
+module _ {g : Graph} {d : Division} {t : Tables} {labels predecessors own keys winners : List ℕ} {c : Counts} {r left : ℕ} {n : Counts}
+    (O : Opened g d t labels predecessors own keys winners c r left n) where
+  abbrev R : Represents g d t (stateOf labels predecessors own keys c) winners
+  R = O .processing .represents
 
-    is-span : left ≡ spanOf d (t .spans) r
-    is-span = span ∙ ap (at (t .spans)) (before-height (heightEntry (t .regionRows) r)) ∙ rw heights
+  abbrev begun : State
+  begun = stateOf labels predecessors own keys n
 
-    -- the turns are the working of the region
-    turns-all : times left (alive g d r) (turn g d t r) begun ≡ process g d (t .spans) r (stateOf labels predecessors own keys c)
-    turns-all =
-        rw (is-span, is-begun)
-        (sym (process-inner g d (t .spans) (P .represents .tabled .ok .division) r (stateOf labels predecessors own keys c) (P .in-range) inner))
+  is-begun : begun ≡ countInner g d (stateOf labels predecessors own keys c)
+  unfolding countInner
+  is-begun = rw (O .counted, add-one (c .inner))
 
-    pub turns-worked : {s : State} {winners′ : List ℕ} → Computed g d t (times left (alive g d r) (turn g d t r) begun) s winners′
-        → Computed g d t (process g d (t .spans) r (stateOf labels predecessors own keys c)) s winners′
-    turns-worked W = record { result = W .result ∙ turns-all; represents = W .represents }
+  is-span : left ≡ spanOf d (t .spans) r
+  is-span =
+      O .span ∙ ap (at (t .spans)) (before-height (heightEntry (t .regionRows) r)) ∙ rw (R .tabled .region-rows .heights r (O .processing .in-range))
 
-    pub framed : Framed g d t r left begun winners
-    framed = record {
-      represents = record {
-        tabled = P .represents .tabled;
-        labelled = P .represents .labelled;
-        fed = P .represents .fed;
-        owned = P .represents .owned;
-        queues = P .represents .queues;
-      };
-      in-range = P .in-range;
-      inner = inner;
-      small = rw turns-all (P .small);
-    }
+  -- the turns are the working of the region
+  turns-all : times left (alive g d r) (turn g d t r) begun ≡ process g d (t .spans) r (stateOf labels predecessors own keys c)
+  turns-all =
+      rw (is-span, is-begun)
+      (sym (process-inner g d (t .spans) (R .tabled .ok .division) r (stateOf labels predecessors own keys c) (O .processing .in-range) (O .inner)))
+
+  pub turns-worked : {s : State} {winners′ : List ℕ} → Computed g d t (times left (alive g d r) (turn g d t r) begun) s winners′
+      → Computed g d t (process g d (t .spans) r (stateOf labels predecessors own keys c)) s winners′
+  turns-worked W = record { result = W .result ∙ turns-all; represents = W .represents }
+
+  pub framed : Framed g d t r left begun winners
+  framed = record {
+    represents = record { tabled = R .tabled; labelled = R .labelled; fed = R .fed; owned = R .owned; queues = R .queues };
+    in-range = O .processing .in-range;
+    inner = O .inner;
+    small = rw turns-all (O .processing .small);
+  }
 
 -- the smallest key is none
 pub turns-none : {g : Graph} {d : Division} {t : Tables} {r left₀ : ℕ} {s₀ : State} {winners₀ : List ℕ} → Framed g d t r left₀ s₀ winners₀ → {left : ℕ}

@@ -1,14 +1,14 @@
--- What a region's row tells: whether it is a leaf, and its key. Assumes nothing.
+-- What a region's row tells: whether it is a leaf, and its key.
 use Prim.Native.Nat.{ℕ, zero, suc, _-_, _≤_, _<_, pred}
 use mathlib.Core.Bool.{true, false}
 use mathlib.Core.Path.{_≡_, refl, sym, ap, _∙_}
-use mathlib.Core.Logic.{_≢_, ⊎-elim}
+use mathlib.Core.Logic.{_≢_}
 use mathlib.Core.List.{List}
 use native.Mathlib.Omega.{arith}
 use lib.ListN.{take}
 use lib.Seq.{getD-take}
 use Rattle.indices.specs.Columns.{at}
-use Rattle.indices.proofs.Steps.{true-or-false}
+use Rattle.indices.proofs.Steps.{by-truth}
 use Rattle.sheet.specs.Limits.{mostArcs}
 use Rattle.procedure.specs.Division.{Division, regions, arcOf, isLeaf}
 use Rattle.procedure.specs.Queues.{minKey}
@@ -22,14 +22,11 @@ module _ {m : ℕ} {d : Division} {regionRows : List ℕ} (ok : DivisionOk m d) 
     {a : ℕ} (row : a ≡ arcEntry regionRows r) where
   -- it is 'no arc' where r is inner
   pub entry-inner : a ≡ noArc → isLeaf d r ≡ false
-  entry-inner e =
-      ⊎-elim (λ (leaf : isLeaf d r ≡ true). absurd (omega (arith, row, e, R .leaf r lr leaf, ok .leaf-arc r lr leaf .0)))
-      (λ (inner : isLeaf d r ≡ false). inner) (true-or-false (isLeaf d r))
+  entry-inner e = by-truth (isLeaf d r) (λ leaf. absurd (omega (arith, row, e, R .leaf r lr leaf, ok .leaf-arc r lr leaf .0))) (λ inner. inner)
 
   -- and r's arc where it is a leaf
   pub entry-leaf : a ≢ noArc → isLeaf d r ≡ true
-  entry-leaf n = ⊎-elim (λ (leaf : isLeaf d r ≡ true). leaf) (λ (inner : isLeaf d r ≡ false). absurd (n (row ∙ R .inner r lr inner)))
-      (true-or-false (isLeaf d r))
+  entry-leaf n = by-truth (isLeaf d r) (λ leaf. leaf) (λ inner. absurd (n (row ∙ R .inner r lr inner)))
 
 module _ {m : ℕ} {d : Division} {rows regionRows own keys winners : List ℕ} {r : ℕ} (K : Keyed m d rows regionRows own keys winners r) {a : ℕ}
     (row : a ≡ arcEntry regionRows r) where

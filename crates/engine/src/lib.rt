@@ -10,7 +10,7 @@ ghost use Rattle.procedure.specs.Division.{Division, isLeaf};
 ghost use Rattle.procedure.specs.Queues.{minKey};
 ghost use Rattle.procedure.specs.Procedure.{process};
 ghost use Rattle.slices.specs.Tables.{tablesOf};
-ghost use Rattle.slices.specs.States.{queuesOf, stateIn, Keyed, Processing, Computed};
+ghost use Rattle.slices.specs.States.{queuesOf, stateIn, Keyed, Processing, Computed, SomeKeyed, SomeRegion, SomeInner};
 use counts::Counts;
 use queue::NONE;
 use sheet::Region;
@@ -29,7 +29,7 @@ fn key_of(
     winners: &[u64; PLACES],
     r: Region,
 ) -> u32
-    requires { ⌜ ((m : ℕ) × (d : Division) × (keys : List ℕ) × Keyed m d (now rows) (now regions) (take m (now own)) keys (now winners) (r .0)) ⌝ }
+    requires { ⌜ SomeKeyed (now rows) (now regions) (now own) (now winners) (r .0) ⌝ }
     ensures { λ k. ⌜ ((m : ℕ) (d : Division) (keys : List ℕ) (updates : ℕ)
         → Keyed m d (now (rows .entry)) (now (regions .entry)) (take m (now (own .entry))) keys (now (winners .entry)) (r .0)
         → k ≡ minKey d (queuesOf (take m (now (own .entry))) keys updates) (r .0)) ⌝ }
@@ -57,9 +57,8 @@ fn process_region(
     r: Region,
     c: Counts,
 ) -> Counts
-    requires { ⌜ (let t = tablesOf (now rows) (now arcs) (now firsts) (now lengths) (now spans) (now regions) in
-        (g : Graph) × (d : Division) × (keys : List ℕ) × let s = stateIn g (now labels) (now predecessors) (now own) keys c in
-        Processing g d t s (now winners) (r .0) (process g d (t .spans) (r .0) s)) ⌝ }
+    requires { ⌜ SomeRegion (tablesOf (now rows) (now arcs) (now firsts) (now lengths) (now spans) (now regions)) (now labels) (now predecessors) (now own)
+        (now winners) (r .0) c ⌝ }
     ensures { λ n. ⌜ (let t = tablesOf (now (rows .entry)) (now (arcs .entry)) (now (firsts .entry)) (now (lengths .entry)) (now (spans .entry))
         (now (regions .entry)) in
         (g : Graph) (d : Division) (keys : List ℕ) → let s = stateIn g (now (labels .entry)) (now (predecessors .entry)) (now (own .entry)) keys c in
@@ -114,9 +113,8 @@ pub fn process_inner(
     r: Region,
     c: Counts,
 ) -> Counts
-    requires { ⌜ (let t = tablesOf (now rows) (now arcs) (now firsts) (now lengths) (now spans) (now regions) in
-        (g : Graph) × (d : Division) × (keys : List ℕ) × let s = stateIn g (now labels) (now predecessors) (now own) keys c in
-        Processing g d t s (now winners) (r .0) (process g d (t .spans) (r .0) s) × isLeaf d (r .0) ≡ false) ⌝ }
+    requires { ⌜ SomeInner (tablesOf (now rows) (now arcs) (now firsts) (now lengths) (now spans) (now regions)) (now labels) (now predecessors) (now own)
+        (now winners) (r .0) c ⌝ }
     ensures { λ n. ⌜ (let t = tablesOf (now (rows .entry)) (now (arcs .entry)) (now (firsts .entry)) (now (lengths .entry)) (now (spans .entry))
         (now (regions .entry)) in
         (g : Graph) (d : Division) (keys : List ℕ) → let s = stateIn g (now (labels .entry)) (now (predecessors .entry)) (now (own .entry)) keys c in

@@ -1,5 +1,4 @@
--- What the working of a leaf rests on: its indices are in range, and where the sum is below the head's label the code lowers it as the definition
--- does. Assumes nothing.
+-- What the working of a leaf rests on: its indices are in range, and where the sum is below the head's label the code lowers it as the definition does.
 use Prim.Native.Nat.{ℕ, suc, _+_, _≤_, _<_}
 use mathlib.Core.Bool.{true}
 use mathlib.Core.Path.{_≡_, refl, sym, ap, _∙_}
@@ -91,118 +90,130 @@ module _ {g : Graph} {d : Division} {t : Tables} {s : State} {winners : List ℕ
       pub leaf-head-in : v < 1024
       leaf-head-in = omega (arith, head-in, P .represents .tabled .ok .graph .few-nodes)
 
--- arc a leads from u to v; x is the label of u, y the arc's length, and z the label of v
-pub record Weighed (arcRows lengths labels : List ℕ) (a u v x y z : ℕ) : Type 0 where
-  pub from : u ≡ rowTail arcRows a
-  pub to : v ≡ rowHead arcRows a
+-- Arc a of the leaf r leads from u to v; x is the label of u, y the arc's length, and z the label of v. Labels, predecessors and own keys are the fronts of
+-- arrays.
+pub record Weighed (g : Graph) (d : Division) (t : Tables) (labels predecessors own keys winners : List ℕ) (c : Counts) (r a u v x y z : ℕ) : Type 0 where
+  pub processing : let s = stateIn g labels predecessors own keys c in Processing g d t s winners r (processLeaf g d r s)
+  pub leaf : isLeaf d r ≡ true
+  pub row : a ≡ arcEntry (t .regionRows) r
+  pub from : u ≡ rowTail (t .arcRows) a
+  pub to : v ≡ rowHead (t .arcRows) a
   pub tail-label : x ≡ at labels u
-  pub arc-length : y ≡ at lengths a
+  pub arc-length : y ≡ at (t .lengths) a
   pub head-label : z ≡ at labels v
 
--- labels, predecessors and own keys are the fronts of arrays
-module _ {g : Graph} {d : Division} {t : Tables} (labels predecessors own : List ℕ) {keys winners : List ℕ} {c : Counts} {r : ℕ}
-    (P : Processing g d t (stateIn g labels predecessors own keys c) winners r (processLeaf g d r (stateIn g labels predecessors own keys c)))
-    (leaf : isLeaf d r ≡ true) {a : ℕ} (row : a ≡ arcEntry (t .regionRows) r) where
+module _ {g : Graph} {d : Division} {t : Tables} {labels predecessors own keys winners : List ℕ} {c : Counts} {r a u v x y z : ℕ}
+    (w : Weighed g d t labels predecessors own keys winners c r a u v x y z) where
   abbrev s : State
   s = stateIn g labels predecessors own keys c
 
+  abbrev R : Represents g d t s winners
+  R = w .processing .represents
+
+  is-arc-of : a ≡ arcOf d r
+  is-arc-of = is-arc (w .processing) (w .leaf) (w .row)
+
+  in-arcs : a < arcs g
+  in-arcs = arc-in (w .processing) (w .leaf) (w .row)
+
+  in-nodes : v < g .nodes
+  in-nodes = head-in (w .processing) (w .leaf) (w .row) (w .to)
+
   -- what `lower_label` asks
-  pub leaf-head-rows : {v : ℕ} → v ≡ rowHead (t .arcRows) a → (v < length labels) × (v < length predecessors)
-  leaf-head-rows to =
-      let inside = head-in P leaf row to in (
-        omega (arith, inside, P .represents .labelled, length-take (g .nodes) labels),
-        omega (arith, inside, P .represents .fed, length-take (g .nodes) predecessors),
+  pub leaf-head-rows : (v < length labels) × (v < length predecessors)
+  leaf-head-rows = (
+    omega (arith, in-nodes, R .labelled, length-take (g .nodes) labels),
+    omega (arith, in-nodes, R .fed, length-take (g .nodes) predecessors),
+  )
+
+  is-sum : x + y ≡ sumBy g (arcOf d r) s
+  is-sum =
+      rw (
+        w .tail-label,
+        ← getD-take (g .nodes) labels u 0 (tail-in (w .processing) (w .leaf) (w .row) (w .from)),
+        w .arc-length,
+        R .tabled .lengths a in-arcs,
+        is-tail (w .processing) (w .leaf) (w .row) (w .from),
       )
+      (ap (λ (b : ℕ). at (take (g .nodes) labels) (tail g b) + len g b) is-arc-of)
 
-  module _ {u v x y z : ℕ} (w : Weighed (t .arcRows) (t .lengths) labels a u v x y z) where
-    is-sum : x + y ≡ sumBy g (arcOf d r) s
-    is-sum =
-        rw (
-          w .tail-label,
-          ← getD-take (g .nodes) labels u 0 (tail-in P leaf row (w .from)),
-          w .arc-length,
-          P .represents .tabled .lengths a (arc-in P leaf row),
-          is-tail P leaf row (w .from),
-        )
-        (ap (λ (b : ℕ). at (take (g .nodes) labels) (tail g b) + len g b) (is-arc P leaf row))
+  is-head-of : v ≡ head g (arcOf d r)
+  is-head-of = is-head (w .processing) (w .leaf) (w .row) (w .to) ∙ ap (head g) is-arc-of
 
-    is-head-of : v ≡ head g (arcOf d r)
-    is-head-of = is-head P leaf row (w .to) ∙ ap (head g) (is-arc P leaf row)
+  is-label : z ≡ label s (head g (arcOf d r))
+  is-label = w .head-label ∙ sym (getD-take (g .nodes) labels v 0 in-nodes) ∙ ap (at (take (g .nodes) labels)) is-head-of
 
-    is-label : z ≡ label s (head g (arcOf d r))
-    is-label = w .head-label ∙ sym (getD-take (g .nodes) labels v 0 (head-in P leaf row (w .to))) ∙ ap (at (take (g .nodes) labels)) is-head-of
+  -- where the sum is not below the head's label, the leaf's key alone changes
+  pub leaf-stays : z ≤ x + y → {n : Counts} → n ≡ leafCounted c (c .updates)
+      → Computed g d t (processLeaf g d r s) (stateIn g labels predecessors (set own a top) keys n) winners
+  leaf-stays l counted =
+      let written = take-set-lt (arcs g) own a top in-arcs in
+      record {
+        result =
+            rw (counted, written, is-arc-of, add-one (c .leaves))
+            (sym (leaf-cleared g d r s ∙ ap (cleared (arcOf d r)) (relax-stays g d (arcOf d r) s (omega (arith, is-sum, is-label)))));
+        represents = record {
+          tabled = R .tabled;
+          labelled = R .labelled;
+          fed = R .fed;
+          owned = rw written (length-set (take (arcs g) own) a top ∙ R .owned);
+          queues = R .queues;
+        };
+      }
 
-    -- where the sum is not below the head's label, the leaf's key alone changes
-    pub leaf-stays : z ≤ x + y → {n : Counts} → n ≡ leafCounted c (c .updates)
-        → Computed g d t (processLeaf g d r s) (stateIn g labels predecessors (set own a top) keys n) winners
-    leaf-stays l counted =
-        let written = take-set-lt (arcs g) own a top (arc-in P leaf row) in
+  module _ (l : x + y < z) where
+    is-lowered : processLeaf g d r s ≡ cleared (arcOf d r) (lowered g d (arcOf d r) s)
+    is-lowered = leaf-cleared g d r s ∙ ap (cleared (arcOf d r)) (relax-falls g d (arcOf d r) s (omega (arith, is-sum, is-label)))
+
+    -- where it is, the head's outgoing arcs are updated
+    pub leaf-asks : UpdatingOutgoing g d (t .rows) (t .arcRows) (t .firsts) (queuesIn g own keys (c .updates)) winners v (x + y)
+    leaf-asks = record {
+      updatable = updatable R;
+      links = R .tabled .links;
+      in-range = in-nodes;
+      small = rw (is-head-of, is-sum, ← ap (λ (s : State). s .queues .updates) is-lowered) (w .processing .small .updates);
+    }
+
+    -- labels and predecessors as the code writes them
+    label-written : take (g .nodes) (set labels v (x + y)) ≡ set (take (g .nodes) labels) v (x + y)
+    label-written = take-set-lt (g .nodes) labels v (x + y) in-nodes
+
+    predecessor-written : take (g .nodes) (set predecessors v a) ≡ set (take (g .nodes) predecessors) v a
+    predecessor-written = take-set-lt (g .nodes) predecessors v a in-nodes
+
+    abbrev withQueues : Queues → State
+    withQueues q = record {
+      labels = set (take (g .nodes) labels) v (x + y);
+      predecessors = set (take (g .nodes) predecessors) v a;
+      queues = q;
+      rounds = c .rounds;
+      leaves = c .leaves;
+      inner = c .inner;
+    }
+
+    is-cleared : cleared a (withQueues (updateOutgoing d (g .tails) v (x + y) (queuesIn g own keys (c .updates)))) ≡ processLeaf g d r s
+    is-cleared = rw (is-head-of, is-sum, is-arc-of) (sym is-lowered)
+
+    pub leaf-falls : {labels′ predecessors′ : List ℕ} → (labels′ ≡ set labels v (x + y)) × (predecessors′ ≡ set predecessors v a)
+        → (own′ : List ℕ) {keys′ winners′ : List ℕ} {updates : ℕ}
+        → Queued d (t .rows) (updateOutgoing d (g .tails) v (x + y) (queuesIn g own keys (c .updates))) (queuesIn g own′ keys′ updates) winners′
+        → {n : Counts} → n ≡ leafCounted c updates
+        → Computed g d t (processLeaf g d r s) (stateIn g labels′ predecessors′ (set own′ a top) keys′ n) winners′
+    leaf-falls low own′ Q counted =
+        let written = take-set-lt (arcs g) own′ a top in-arcs in
         record {
           result =
-              rw (counted, written, is-arc P leaf row, add-one (c .leaves))
-              (sym (leaf-cleared g d r s ∙ ap (cleared (arcOf d r)) (relax-stays g d (arcOf d r) s (omega (arith, is-sum, is-label)))));
+              rw (low .0, low .1, label-written, predecessor-written, written, counted, add-one (c .leaves))
+              (ap (λ (q : Queues). cleared a (withQueues q)) (Q .result) ∙ is-cleared);
           represents = record {
-            tabled = P .represents .tabled;
-            labelled = P .represents .labelled;
-            fed = P .represents .fed;
-            owned = rw written (length-set (take (arcs g) own) a top ∙ P .represents .owned);
-            queues = P .represents .queues;
+            tabled = R .tabled;
+            labelled = rw (low .0, label-written) (length-set (take (g .nodes) labels) v (x + y) ∙ R .labelled);
+            fed = rw (low .1, predecessor-written) (length-set (take (g .nodes) predecessors) v a ∙ R .fed);
+            owned =
+                rw written
+                (length-set (take (arcs g) own′) a top
+                ∙ ap (λ (q : Queues). length (q .own)) (Q .result)
+                ∙ outgoing-owned (updatable R) v (x + y));
+            queues = Q .valid;
           };
         }
-
-    module _ (l : x + y < z) where
-      is-lowered : processLeaf g d r s ≡ cleared (arcOf d r) (lowered g d (arcOf d r) s)
-      is-lowered = leaf-cleared g d r s ∙ ap (cleared (arcOf d r)) (relax-falls g d (arcOf d r) s (omega (arith, is-sum, is-label)))
-
-      -- where it is, the head's outgoing arcs are updated
-      pub leaf-asks : UpdatingOutgoing g d (t .rows) (t .arcRows) (t .firsts) (queuesIn g own keys (c .updates)) winners v (x + y)
-      leaf-asks = record {
-        updatable = updatable (P .represents);
-        links = P .represents .tabled .links;
-        in-range = head-in P leaf row (w .to);
-        small = rw (is-head-of, is-sum, ← ap (λ (s : State). s .queues .updates) is-lowered) (P .small .updates);
-      }
-
-      -- labels and predecessors as the code writes them
-      label-written : take (g .nodes) (set labels v (x + y)) ≡ set (take (g .nodes) labels) v (x + y)
-      label-written = take-set-lt (g .nodes) labels v (x + y) (head-in P leaf row (w .to))
-
-      predecessor-written : take (g .nodes) (set predecessors v a) ≡ set (take (g .nodes) predecessors) v a
-      predecessor-written = take-set-lt (g .nodes) predecessors v a (head-in P leaf row (w .to))
-
-      abbrev withQueues : Queues → State
-      withQueues q = record {
-        labels = set (take (g .nodes) labels) v (x + y);
-        predecessors = set (take (g .nodes) predecessors) v a;
-        queues = q;
-        rounds = c .rounds;
-        leaves = c .leaves;
-        inner = c .inner;
-      }
-
-      is-cleared : cleared a (withQueues (updateOutgoing d (g .tails) v (x + y) (queuesIn g own keys (c .updates)))) ≡ processLeaf g d r s
-      is-cleared = rw (is-head-of, is-sum, is-arc P leaf row) (sym is-lowered)
-
-      pub leaf-falls : {labels′ predecessors′ : List ℕ} → (labels′ ≡ set labels v (x + y)) × (predecessors′ ≡ set predecessors v a)
-          → (own′ : List ℕ) {keys′ winners′ : List ℕ} {updates : ℕ}
-          → Queued d (t .rows) (updateOutgoing d (g .tails) v (x + y) (queuesIn g own keys (c .updates))) (queuesIn g own′ keys′ updates) winners′
-          → {n : Counts} → n ≡ leafCounted c updates
-          → Computed g d t (processLeaf g d r s) (stateIn g labels′ predecessors′ (set own′ a top) keys′ n) winners′
-      leaf-falls low own′ Q counted =
-          let written = take-set-lt (arcs g) own′ a top (arc-in P leaf row) in
-          record {
-            result =
-                rw (low .0, low .1, label-written, predecessor-written, written, counted, add-one (c .leaves))
-                (ap (λ (q : Queues). cleared a (withQueues q)) (Q .result) ∙ is-cleared);
-            represents = record {
-              tabled = P .represents .tabled;
-              labelled = rw (low .0, label-written) (length-set (take (g .nodes) labels) v (x + y) ∙ P .represents .labelled);
-              fed = rw (low .1, predecessor-written) (length-set (take (g .nodes) predecessors) v a ∙ P .represents .fed);
-              owned =
-                  rw written
-                  (length-set (take (arcs g) own′) a top
-                  ∙ ap (λ (q : Queues). length (q .own)) (Q .result)
-                  ∙ outgoing-owned (updatable (P .represents)) v (x + y));
-              queues = Q .valid;
-            };
-          }

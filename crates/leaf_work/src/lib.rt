@@ -7,7 +7,7 @@ ghost use Rattle.procedure.specs.Graph.{Graph};
 ghost use Rattle.procedure.specs.Division.{Division, isLeaf};
 ghost use Rattle.procedure.specs.Procedure.{processLeaf};
 ghost use Rattle.slices.specs.Tables.{tablesOf};
-ghost use Rattle.slices.specs.States.{stateIn, Processing, Computed};
+ghost use Rattle.slices.specs.States.{stateIn, Processing, Computed, SomeLeaf};
 use counts::Counts;
 use queue::NONE;
 use sheet::Region;
@@ -37,10 +37,7 @@ pub fn process_leaf(
     r: Region,
     c: Counts,
 ) -> Counts
-    requires { ⌜ ((g : Graph) × (d : Division) × (spans : List ℕ) × (keys : List ℕ)
-        × let t = tablesOf (now rows) (now arcs) (now firsts) (now lengths) spans (now regions) in
-        let s = stateIn g (now labels) (now predecessors) (now own) keys c in
-        Processing g d t s (now winners) (r .0) (processLeaf g d (r .0) s) × isLeaf d (r .0) ≡ true) ⌝ }
+    requires { ⌜ SomeLeaf (now rows) (now arcs) (now firsts) (now lengths) (now regions) (now labels) (now predecessors) (now own) (now winners) (r .0) c ⌝ }
     ensures { λ n. ⌜ ((g : Graph) (d : Division) (spans keys : List ℕ)
         → let t = tablesOf (now (rows .entry)) (now (arcs .entry)) (now (firsts .entry)) (now (lengths .entry)) spans (now (regions .entry)) in
         let s = stateIn g (now (labels .entry)) (now (predecessors .entry)) (now (own .entry)) keys c in

@@ -1,15 +1,14 @@
--- What the rounds rest on: one round is a working of region 0, and the rounds left to make lead to the same end. Assumes nothing.
-use Prim.Native.Nat.{ℕ, _+_, _-_, _≤_, _<_}
+-- What the rounds rest on: one round is a working of region 0, and the rounds left to make lead to the same end.
+use Prim.Native.Nat.{ℕ, _+_, _-_, _<_}
 use mathlib.Core.Bool.{Bool, true, false, not}
 use mathlib.Core.Path.{_≡_, refl, sym, ap, _∙_}
-use mathlib.Core.Logic.{⊎-elim}
 use mathlib.Core.List.{List}
 use native.Mathlib.Numerals.{add-one}
 use native.Mathlib.Omega.{arith}
 use borrow.Author.Tests.{le-leb, lt-leb}
 use lib.Dec.{leb}
 use Rattle.indices.specs.Steps.{times}
-use Rattle.indices.proofs.Steps.{lt-or-le}
+use Rattle.indices.proofs.Steps.{by-order}
 use Rattle.sheet.specs.Words.{top}
 use Rattle.procedure.specs.Graph.{Graph}
 use Rattle.procedure.specs.Division.{Division}
@@ -30,8 +29,8 @@ use Rattle.rounds.proofs.Beginning.{few-out}
 -- "A run has ended when region 0's smallest key is none."
 pub ended-by-key : (g : Graph) (d : Division) (s : State) (k : ℕ) → k ≡ minKey d (s .queues) 0 → leb top k ≡ ended g d s
 ended-by-key g d s k e =
-    ⊎-elim (λ (l : minKey d (s .queues) 0 < top). lt-leb top k (omega arith) ∙ sym (key-running g d s l))
-    (λ (l : top ≤ minKey d (s .queues) 0). le-leb top k (omega arith) ∙ sym (none-ended g d s l)) (lt-or-le (minKey d (s .queues) 0) top)
+    by-order (minKey d (s .queues) 0) top (λ some. lt-leb top k (omega arith) ∙ sym (key-running g d s some))
+    (λ none. le-leb top k (omega arith) ∙ sym (none-ended g d s none))
 
 -- one round
 module _ {g : Graph} {d : Division} {t : Tables} {labels predecessors own keys winners : List ℕ} {c : Counts}
@@ -91,25 +90,32 @@ module _ {g : Graph} {d : Division} {t : Tables} {limit : ℕ} {s₀ s : State} 
   pub rounds-ended : ended g d s ≡ true → Computed g d t (times limit (running g d) (round g d (t .spans)) s₀) s winners
   rounds-ended e = loop-off L (ap not e)
 
-  module _ (pos : 0 < left) (going : ended g d s ≡ false) where
-    onward-rounds : times (left - 1) (running g d) (round g d (t .spans)) (round g d (t .spans) s) ≡ times limit (running g d) (round g d (t .spans)) s₀
-    onward-rounds = loop-on L pos (ap not going)
+-- the run, begun after k rounds, goes on, and a round is left to make
+pub record Going (g : Graph) (d : Division) (t : Tables) (k limit : ℕ) (s₀ : State) (left : ℕ) (s : State) (winners : List ℕ) : Type 0 where
+  pub begun : s₀ ≡ after g d (t .spans) k
+  pub loop : Looping g d t (running g d) (round g d (t .spans)) limit s₀ left s winners
+  pub positive : 0 < left
+  pub running : ended g d s ≡ false
 
-    -- the counts of the whole run are small, and so are those of every round
-    pub next-asks : (k : ℕ) → s₀ ≡ after g d (t .spans) k → Processing g d t s winners 0 (round g d (t .spans) s)
-    next-asks k e =
-        let ok = L .represents .tabled .ok in
-        let all : Small (times limit (running g d) (round g d (t .spans)) s₀) =
-        rw (e, ← rounds-in-parts g d (t .spans) k limit) (after-small ok few-out (k + limit)) in
-        record {
-          represents = L .represents;
-          in-range = ok .division .nesting .root;
-          small = grows-small (rounds-grow g d (ok .division) (t .spans) (left - 1) (round g d (t .spans) s)) (rw onward-rounds all);
-        }
+module _ {g : Graph} {d : Division} {t : Tables} {k limit : ℕ} {s₀ s : State} {left : ℕ} {winners : List ℕ} (G : Going g d t k limit s₀ left s winners) where
+  onward-rounds : times (left - 1) (running g d) (round g d (t .spans)) (round g d (t .spans) s) ≡ times limit (running g d) (round g d (t .spans)) s₀
+  onward-rounds = loop-on (G .loop) (G .positive) (ap not (G .running))
 
-    pub rounds-step : {s′ : State} {winners′ : List ℕ} → Computed g d t (round g d (t .spans) s) s′ winners′
-        → Looping g d t (running g d) (round g d (t .spans)) limit s₀ (left - 1) s′ winners′
-    rounds-step W = record {
-      represents = W .represents;
-      sofar = ap (times (left - 1) (running g d) (round g d (t .spans))) (W .result) ∙ onward-rounds;
-    }
+  -- the counts of the whole run are small, and so are those of every round
+  pub next-asks : Processing g d t s winners 0 (round g d (t .spans) s)
+  next-asks =
+      let ok = G .loop .represents .tabled .ok in
+      let all : Small (times limit (running g d) (round g d (t .spans)) s₀) =
+      rw (G .begun, ← rounds-in-parts g d (t .spans) k limit) (after-small ok few-out (k + limit)) in
+      record {
+        represents = G .loop .represents;
+        in-range = ok .division .nesting .root;
+        small = grows-small (rounds-grow g d (ok .division) (t .spans) (left - 1) (round g d (t .spans) s)) (rw onward-rounds all);
+      }
+
+  pub rounds-step : {s′ : State} {winners′ : List ℕ} → Computed g d t (round g d (t .spans) s) s′ winners′
+      → Looping g d t (running g d) (round g d (t .spans)) limit s₀ (left - 1) s′ winners′
+  rounds-step W = record {
+    represents = W .represents;
+    sofar = ap (times (left - 1) (running g d) (round g d (t .spans))) (W .result) ∙ onward-rounds;
+  }

@@ -1,4 +1,4 @@
--- The start, and then up to so many rounds, are the state after that many rounds. Assumes nothing.
+-- The start, and then up to so many rounds, are the state after that many rounds.
 use Prim.Native.Nat.{ℕ, _+_}
 use mathlib.Core.Bool.{not}
 use mathlib.Core.Path.{_≡_, sym, ap, _∙_}

@@ -9,7 +9,7 @@ ghost use Rattle.procedure.specs.Division.{Division, regions, isLeaf};
 ghost use Rattle.procedure.specs.Procedure.{ended, start, round, after};
 ghost use Rattle.tree_places.specs.Trees.{QueuesOk};
 ghost use Rattle.slices.specs.Tables.{tablesOf};
-ghost use Rattle.slices.specs.States.{stateOf, stateIn, Represents, Computed, Blank};
+ghost use Rattle.slices.specs.States.{stateOf, stateIn, Represents, Computed, Blank, SomeBlank, SomeRounds};
 use counts::Counts;
 use queue::NONE;
 use sheet::Node;
@@ -33,9 +33,7 @@ pub fn start(
     source: Node,
     count: u16,
 ) -> Counts
-    requires { ⌜ ((g : Graph) × (d : Division) × (lengths : List ℕ) × (spans : List ℕ) × (regionRows : List ℕ)
-        × Blank g d (tablesOf (now rows) (now arcs) (now firsts) lengths spans regionRows) × (source .0 ≡ g .source)
-        × (count ≡ regions d)) ⌝ }
+    requires { ⌜ SomeBlank (now rows) (now arcs) (now firsts) (source .0) count ⌝ }
     ensures { λ n. ⌜ ((g : Graph) (d : Division) (lengths spans regionRows : List ℕ)
         → let t = tablesOf (now (rows .entry)) (now (arcs .entry)) (now (firsts .entry)) lengths spans regionRows in
         Blank g d t → source .0 ≡ g .source → count ≡ regions d
@@ -81,9 +79,8 @@ pub fn rounds(
     limit: u64,
     c: Counts,
 ) -> Counts
-    requires { ⌜ (let t = tablesOf (now rows) (now arcs) (now firsts) (now lengths) (now spans) (now regions) in
-        (g : Graph) × (d : Division) × (k : ℕ) × (keys : List ℕ) × let s = stateIn g (now labels) (now predecessors) (now own) keys c in
-        Represents g d t s (now winners) × (s ≡ after g d (t .spans) k)) ⌝ }
+    requires { ⌜ SomeRounds (tablesOf (now rows) (now arcs) (now firsts) (now lengths) (now spans) (now regions)) (now labels) (now predecessors) (now own)
+        (now winners) c ⌝ }
     ensures { λ n. ⌜ (let t = tablesOf (now (rows .entry)) (now (arcs .entry)) (now (firsts .entry)) (now (lengths .entry)) (now (spans .entry))
         (now (regions .entry)) in
         (g : Graph) (d : Division) (k : ℕ) (keys : List ℕ) → let s = stateIn g (now (labels .entry)) (now (predecessors .entry)) (now (own .entry)) keys c in

@@ -1,18 +1,20 @@
--- The slices that a run changes, with the tables, as a state of the procedure; and what each function asks and gives. Definitions; assumes nothing.
+-- The slices that a run changes, with the tables, as a state of the procedure; and what each function asks and gives. Definitions.
 use Prim.Native.Nat.{ℕ, _^_, _≤_, _<_}
+use mathlib.Core.Bool.{true, false}
 use mathlib.Core.Path.{_≡_}
 use mathlib.Core.List.{List}
 use lib.ListN.{length, take}
 use Rattle.sheet.specs.Limits.{mostArcs, mostArcsEachWay}
 use Rattle.procedure.specs.Graph.{Graph, arcs}
-use Rattle.procedure.specs.Division.{Division, regions, parent}
+use Rattle.procedure.specs.Division.{Division, regions, parent, isLeaf}
 use Rattle.procedure.specs.State.{Queues, State}
 use Rattle.procedure.specs.Queues.{update, updateArc, updateOutgoing}
+use Rattle.procedure.specs.Procedure.{processLeaf, process, after}
 use Rattle.procedure.specs.WellFormed.{GraphOk, DivisionOk}
 use Rattle.theory.specs.Counts.{Small}
 use Rattle.counts.specs.declared.Counts.{Counts}
 use Rattle.tree_places.specs.Trees.{Planned, QueuesOk}
-use Rattle.slices.specs.Tables.{Tables, ArcRows, ArcLinks, RegionRows, Tabled}
+use Rattle.slices.specs.Tables.{Tables, tablesOf, ArcRows, ArcLinks, RegionRows, Tabled}
 
 -- the queues and the state that the slices and the counts are
 abbrev pub queuesOf : List ℕ → List ℕ → ℕ → Queues
@@ -104,3 +106,79 @@ pub record Computed (g : Graph) (d : Division) (t : Tables) (defined s : State) 
 pub record Blank (g : Graph) (d : Division) (t : Tables) : Type 0 where
   pub tabled : Tabled g d t
   pub planned : Planned d (t .rows)
+
+-- WHAT EACH CALL ASKS: that there are some graph, division and keys which its arrays are of
+
+-- `update`
+pub record SomeUpdating (rows winners : List ℕ) (r x k count : ℕ) : Type 0 where
+  pub division : Division
+  pub own : List ℕ
+  pub keys : List ℕ
+  pub updating : Updating division rows (queuesOf own keys count) winners r x k
+
+-- `update_arc`
+pub record SomeUpdatingArc (rows arcRows own winners : List ℕ) (a k count : ℕ) : Type 0 where
+  pub graph : Graph
+  pub division : Division
+  pub keys : List ℕ
+  pub updating : UpdatingArc graph division rows arcRows (queuesIn graph own keys count) winners a k
+
+-- `update_outgoing`
+pub record SomeUpdatingOutgoing (rows arcRows firsts own winners : List ℕ) (v k count : ℕ) : Type 0 where
+  pub graph : Graph
+  pub division : Division
+  pub keys : List ℕ
+  pub updating : UpdatingOutgoing graph division rows arcRows firsts (queuesIn graph own keys count) winners v k
+
+-- `key_of`, of so many arcs
+pub record SomeKeyed (rows regionRows own winners : List ℕ) (r : ℕ) : Type 0 where
+  pub count : ℕ
+  pub division : Division
+  pub keys : List ℕ
+  pub keyed : Keyed count division rows regionRows (take count own) keys winners r
+
+-- `process_leaf`, which reads no spans
+pub record SomeLeaf (rows arcRows firsts lengths regionRows labels predecessors own winners : List ℕ) (r : ℕ) (c : Counts) : Type 0 where
+  pub graph : Graph
+  pub division : Division
+  pub spans : List ℕ
+  pub keys : List ℕ
+  pub processing : let s = stateIn graph labels predecessors own keys c in
+      Processing graph division (tablesOf rows arcRows firsts lengths spans regionRows) s winners r (processLeaf graph division r s)
+  pub leaf : isLeaf division r ≡ true
+
+module _ (t : Tables) (labels predecessors own winners : List ℕ) where
+  -- `process_region`
+  pub record SomeRegion (r : ℕ) (c : Counts) : Type 0 where
+    pub graph : Graph
+    pub division : Division
+    pub keys : List ℕ
+    pub processing : let s = stateIn graph labels predecessors own keys c in Processing graph division t s winners r (process graph division (t .spans) r s)
+
+  -- `process_inner`
+  pub record SomeInner (r : ℕ) (c : Counts) : Type 0 where
+    pub graph : Graph
+    pub division : Division
+    pub keys : List ℕ
+    pub processing : let s = stateIn graph labels predecessors own keys c in Processing graph division t s winners r (process graph division (t .spans) r s)
+    pub inner : isLeaf division r ≡ false
+
+  -- `rounds`, after so many of them
+  pub record SomeRounds (c : Counts) : Type 0 where
+    pub graph : Graph
+    pub division : Division
+    pub made : ℕ
+    pub keys : List ℕ
+    pub represents : Represents graph division t (stateIn graph labels predecessors own keys c) winners
+    pub sofar : stateIn graph labels predecessors own keys c ≡ after graph division (t .spans) made
+
+-- `start`, of so many regions, which reads no lengths, spans or rows of the regions
+pub record SomeBlank (rows arcRows firsts : List ℕ) (source count : ℕ) : Type 0 where
+  pub graph : Graph
+  pub division : Division
+  pub lengths : List ℕ
+  pub spans : List ℕ
+  pub regionRows : List ℕ
+  pub blank : Blank graph division (tablesOf rows arcRows firsts lengths spans regionRows)
+  pub at-source : source ≡ graph .source
+  pub all-regions : count ≡ regions division

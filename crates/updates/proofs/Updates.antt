@@ -1,9 +1,8 @@
 -- What the code of the updates rests on: an update of an item writes and counts, and stops or climbs as the smallest keys say; that of an arc begins at
--- its own key; those of a node's outgoing arcs are a walk along links. Assumes nothing.
+-- its own key; those of a node's outgoing arcs are a walk along links.
 use Prim.Native.Nat.{ℕ, suc, _+_, _-_, _^_, _≤_, _<_}
 use mathlib.Core.Bool.{true, false, true≢false}
 use mathlib.Core.Path.{_≡_, refl, sym, ap, _∙_}
-use mathlib.Core.Logic.{_≢_, ⊎-elim}
 use mathlib.Core.List.{List}
 use native.Mathlib.Numerals.{add-one}
 use native.Mathlib.Omega.{arith}
@@ -12,7 +11,7 @@ use lib.Seq.{getD-set-same, getD-take, take-set-lt}
 use lib.Dec.{eqb}
 use Rattle.indices.specs.Columns.{at}
 use Rattle.indices.specs.Steps.{if_then_else_, upTo}
-use Rattle.indices.proofs.Steps.{if-elim, upTo-keeps, upTo-cong, eq-or-ne}
+use Rattle.indices.proofs.Steps.{if-elim, upTo-keeps, upTo-cong, by-equal}
 use Rattle.sheet.specs.Words.{top}
 use Rattle.procedure.specs.Graph.{Graph, arcs}
 use Rattle.procedure.specs.Division.{Division, regions, parent, arcOf, isLeaf, leafOf}
@@ -23,7 +22,7 @@ use Rattle.theory.proofs.Chosen.{minKey-leaf}
 use Rattle.theory.proofs.Update.{write-leaf, write-inner, write-counts, update-grows, update-rises, update-stops, update-elim}
 use Rattle.theory.proofs.Outgoing.{arc-leaf-test, arc-updated}
 use Rattle.rows.specs.Rows.{rowCount, rowTail, rowLeaf, rowNext}
-use Rattle.tree_places.specs.Trees.{Counted, QueuesOk}
+use Rattle.tree_places.specs.Trees.{QueuesOk}
 use Rattle.rows.specs.Links.{stepAt}
 use Rattle.rows.proofs.Links.{Walk, walk-start, walk-step, walk-end, walk-part, walk-falls}
 use Rattle.slices.specs.Tables.{ArcRows, ArcLinks}
@@ -37,6 +36,19 @@ update-counts {d = d} ok r x k q lr =
     (λ pos stays. omega (arith, once)) (λ root. omega (arith, once))
 
 -- AN ITEM OF AN INNER REGION
+
+-- the key k of item x is written, in valid queues; the smallest key of region r is `old` before and `new` after
+pub record Rekeyed (d : Division) (rows own keys : List ℕ) (count r x k : ℕ) (winners : List ℕ) (old new : ℕ) : Type 0 where
+  pub valid : QueuesOk d rows (set keys x k) winners
+  pub before : old ≡ minKey d (queuesOf own keys count) r
+  pub after : new ≡ minKey d (queuesOf own (set keys x k) (count + 1)) r
+
+-- it fell, and r has a parent
+pub record Climbing (d : Division) (r old new up : ℕ) : Type 0 where
+  pub positive : 0 < r
+  pub fell : new < old
+  pub up-parent : up ≡ parent d r
+
 module _ {d : Division} {rows own keys winners : List ℕ} {count r x k : ℕ} (U : Updating d rows (queuesOf own keys count) winners r x k) where
   pub region-in : r < regions d
   region-in = omega (arith, U .under, U .in-range, U .division .nesting .lower x (U .positive) (U .in-range))
@@ -48,53 +60,51 @@ module _ {d : Division} {rows own keys winners : List ℕ} {count r x k : ℕ} (
   pub count-fits : count + 1 < 18446744073709551616
   count-fits = omega (arith, update-counts (U .division) r x k (queuesOf own keys count) region-in, U .small)
 
-  -- the key is written, in valid queues
-  module _ {winners′ : List ℕ} (W : QueuesOk d rows (set keys x k) winners′) where
-    wrote : queuesOf own (set keys x k) (count + 1) ≡ write d r x k (queuesOf own keys count)
-    wrote = rw (add-one count) (sym (write-inner d r x k (queuesOf own keys count) region-inner))
+  wrote : queuesOf own (set keys x k) (count + 1) ≡ write d r x k (queuesOf own keys count)
+  wrote = rw (add-one count) (sym (write-inner d r x k (queuesOf own keys count) region-inner))
 
-    -- at region 0 the update stops
-    pub root-stops : r ≡ 0 → Queued d rows (update d r x k (queuesOf own keys count)) (queuesOf own (set keys x k) (count + 1)) winners′
-    root-stops z = record {
-      result = wrote ∙ sym (update-stops (U .division) r x k (queuesOf own keys count) region-in (λ l. absurd (omega arith)));
-      valid = W;
+  -- at region 0 the update stops
+  pub root-stops : {winners′ : List ℕ} → QueuesOk d rows (set keys x k) winners′ → r ≡ 0
+      → Queued d rows (update d r x k (queuesOf own keys count)) (queuesOf own (set keys x k) (count + 1)) winners′
+  root-stops valid z = record {
+    result = wrote ∙ sym (update-stops (U .division) r x k (queuesOf own keys count) region-in (λ l. absurd (omega arith)));
+    valid = valid;
+  }
+
+  module _ {winners′ : List ℕ} {old new : ℕ} (K : Rekeyed d rows own keys count r x k winners′ old new) where
+    after-write : minKey d (write d r x k (queuesOf own keys count)) r ≡ new
+    after-write = ap (λ (q : Queues). minKey d q r) (sym wrote) ∙ sym (K .after)
+
+    -- where the smallest key did not fall, the update stops
+    pub not-fallen : old ≤ new → Queued d rows (update d r x k (queuesOf own keys count)) (queuesOf own (set keys x k) (count + 1)) winners′
+    not-fallen l = record {
+      result = wrote ∙ sym (update-stops (U .division) r x k (queuesOf own keys count) region-in (λ _. omega (arith, after-write, K .before)));
+      valid = K .valid;
     }
 
-    -- the smallest key before and after
-    module _ {old new : ℕ} (before : old ≡ minKey d (queuesOf own keys count) r) (after : new ≡ minKey d (queuesOf own (set keys x k) (count + 1)) r) where
-      after-write : minKey d (write d r x k (queuesOf own keys count)) r ≡ new
-      after-write = ap (λ (q : Queues). minKey d q r) (sym wrote) ∙ sym after
+    -- where it fell, the update goes on at the parent
+    module _ {up : ℕ} (C : Climbing d r old new up) where
+      pub up-lower : up < r
+      up-lower = omega (arith, C .up-parent, U .division .nesting .lower r (C .positive) region-in)
 
-      -- where it did not fall, the update stops
-      pub not-fallen : old ≤ new → Queued d rows (update d r x k (queuesOf own keys count)) (queuesOf own (set keys x k) (count + 1)) winners′
-      not-fallen l = record {
-        result = wrote ∙ sym (update-stops (U .division) r x k (queuesOf own keys count) region-in (λ _. omega (arith, after-write)));
-        valid = W;
+      goes-on : update d up r k (queuesOf own (set keys x k) (count + 1)) ≡ update d r x k (queuesOf own keys count)
+      goes-on =
+          rw (C .up-parent, wrote)
+          (sym (update-rises (U .division) r x k (queuesOf own keys count) region-in (C .positive) (omega (arith, after-write, K .before, C .fell))))
+
+      pub climb-asks : Updating d rows (queuesOf own (set keys x k) (count + 1)) winners′ up r k
+      climb-asks = record {
+        division = U .division;
+        queues = K .valid;
+        positive = C .positive;
+        in-range = region-in;
+        under = sym (C .up-parent);
+        small = rw goes-on (U .small);
       }
 
-      -- where it fell, the update goes on at the parent
-      module _ (pos : 0 < r) (fell : new < old) {up : ℕ} (up-parent : up ≡ parent d r) where
-        pub up-lower : up < r
-        up-lower = omega (arith, up-parent, U .division .nesting .lower r pos region-in)
-
-        goes-on : update d up r k (queuesOf own (set keys x k) (count + 1)) ≡ update d r x k (queuesOf own keys count)
-        goes-on =
-            rw (up-parent, wrote)
-            (sym (update-rises (U .division) r x k (queuesOf own keys count) region-in pos (omega (arith, after-write))))
-
-        pub climb-asks : Updating d rows (queuesOf own (set keys x k) (count + 1)) winners′ up r k
-        climb-asks = record {
-          division = U .division;
-          queues = W;
-          positive = pos;
-          in-range = region-in;
-          under = sym up-parent;
-          small = rw goes-on (U .small);
-        }
-
-        pub climbed : {q : Queues} {winners″ : List ℕ} → Queued d rows (update d up r k (queuesOf own (set keys x k) (count + 1))) q winners″
-            → Queued d rows (update d r x k (queuesOf own keys count)) q winners″
-        climbed Q = record { result = Q .result ∙ goes-on; valid = Q .valid }
+      pub climbed : {q : Queues} {winners″ : List ℕ} → Queued d rows (update d up r k (queuesOf own (set keys x k) (count + 1))) q winners″
+          → Queued d rows (update d r x k (queuesOf own keys count)) q winners″
+      climbed Q = record { result = Q .result ∙ goes-on; valid = Q .valid }
 
 -- AN ARC
 arcs-below-none : {g : Graph} {d : Division} {rows arcRows : List ℕ} {q : Queues} {winners : List ℕ} → Updatable g d rows arcRows q winners → arcs g ≤ top
@@ -114,23 +124,33 @@ module _ {g : Graph} {d : Division} {rows arcRows : List ℕ} {q : Queues} {winn
   -- region 0 is inner, so a leaf is another region
   leaf-positive : 0 < leafOf d a
   leaf-positive =
-      ⊎-elim (λ (z : leafOf d a ≡ 0). absurd (true≢false (sym leaf-test ∙ ap (isLeaf d) z ∙ U .updatable .division .root-inner)))
-      (λ (n : leafOf d a ≢ 0). omega arith) (eq-or-ne (leafOf d a) 0)
+      by-equal (leafOf d a) 0 (λ root. absurd (true≢false (sym leaf-test ∙ ap (isLeaf d) root ∙ U .updatable .division .root-inner))) (λ other. omega arith)
 
   by-leaf : updateArc d a k q ≡ update d (leafOf d a) (leafOf d a) k q
   unfolding updateArc
   by-leaf = refl
 
   pub arc-count-fits : q .updates + 1 < 18446744073709551616
-  arc-count-fits = omega (arith, ap (λ (q : Queues). q .updates) by-leaf, update-counts (U .updatable .division) (leafOf d a) (leafOf d a) k q leaf-in, U .small)
+  arc-count-fits =
+      let counts = update-counts (U .updatable .division) (leafOf d a) (leafOf d a) k q leaf-in in
+      omega (arith, ap (λ (q : Queues). q .updates) by-leaf, counts, U .small)
 
   module _ {leaf : ℕ} (leaf-row : leaf ≡ rowLeaf arcRows a) where
     is-leaf : leaf ≡ leafOf d a
     is-leaf = leaf-row ∙ U .updatable .arc-rows .leaves a (U .in-range)
 
-    -- the leaf has a parent
-    pub leaf-parent-asks : Counted d rows × (0 < leaf) × (leaf < regions d)
-    leaf-parent-asks = (U .updatable .queues .entered .laid .planned .counted, rw is-leaf leaf-positive, rw is-leaf leaf-in)
+    -- the leaf is a region with a parent
+    pub leaf-region : leaf < regions d
+    leaf-region = rw is-leaf leaf-in
+
+    pub leaf-below : 0 < leaf
+    leaf-below = rw is-leaf leaf-positive
+
+-- the key k is below the own key of arc a, whose leaf has the parent `up`
+pub record ArcClimbing (d : Division) (arcRows own : List ℕ) (a k leaf up : ℕ) : Type 0 where
+  pub fell : k < at own a
+  pub leaf-row : leaf ≡ rowLeaf arcRows a
+  pub up-parent : up ≡ parent d leaf
 
 -- the own keys are the front of an array
 module _ {g : Graph} {d : Division} {rows arcRows : List ℕ} (own : List ℕ) {keys winners : List ℕ} {count a k : ℕ}
@@ -172,25 +192,25 @@ module _ {g : Graph} {d : Division} {rows arcRows : List ℕ} (own : List ℕ) {
     }
 
     -- where it is, the update goes on at the leaf's parent
-    module _ (fell : k < at own a) {leaf : ℕ} (leaf-row : leaf ≡ rowLeaf arcRows a) {up : ℕ} (up-parent : up ≡ parent d leaf) where
+    module _ {leaf up : ℕ} (C : ArcClimbing d arcRows own a k leaf up) where
       is-parent : up ≡ parent d (leafOf d a)
-      is-parent = up-parent ∙ ap (parent d) (is-leaf U leaf-row)
+      is-parent = C .up-parent ∙ ap (parent d) (is-leaf U (C .leaf-row))
 
       arc-goes-on : update d up leaf k (queuesIn g (set own a k) keys (count + 1)) ≡ updateArc d a k (queuesIn g own keys count)
       arc-goes-on =
-          rw (is-parent, is-leaf U leaf-row, own-written)
+          rw (is-parent, is-leaf U (C .leaf-row), own-written)
           (sym
           (by-leaf U
           ∙ update-rises (U .updatable .division) (leafOf d a) (leafOf d a) k (queuesIn g own keys count) (leaf-in U) (leaf-positive U)
-          (omega (arith, key-before, key-after))))
+          (omega (arith, key-before, key-after, C .fell))))
 
       pub arc-climb-asks : Updating d rows (queuesIn g (set own a k) keys (count + 1)) winners up leaf k
       arc-climb-asks = record {
         division = rw (front-written, length-set (take (arcs g) own) a k, U .updatable .owned) (U .updatable .division);
         queues = U .updatable .queues;
-        positive = leaf-parent-asks U leaf-row .1;
-        in-range = leaf-parent-asks U leaf-row .2;
-        under = sym up-parent;
+        positive = leaf-below U (C .leaf-row);
+        in-range = leaf-region U (C .leaf-row);
+        under = sym (C .up-parent);
         small = rw arc-goes-on (U .small);
       }
 

@@ -1,6 +1,17 @@
--- `process_leaf` meets its contract: the label is lowered where the definition lowers it. Assumes nothing.
-use Prim.Native.Nat.{_<_}
+-- `process_leaf` meets its contract: the sum of the tail's label and the arc's length is weighed against the head's label, which stays or falls as the
+-- definition says.
 use borrow.Author.Needs.{needs}
+use Prim.Native.Nat.{ℕ, _+_, _<_}
+use mathlib.Core.Bool.{true}
+use mathlib.Core.Path.{_≡_}
+use mathlib.Core.List.{List}
+use Rattle.sheet.specs.Words.{top}
+use Rattle.procedure.specs.Graph.{Graph}
+use Rattle.procedure.specs.Division.{Division, isLeaf}
+use Rattle.procedure.specs.Procedure.{processLeaf}
+use Rattle.rows.specs.Rows.{rowCount}
+use Rattle.slices.specs.Tables.{Tables, tablesOf}
+use Rattle.slices.specs.States.{stateIn, Processing}
 use Rattle.leaf_work.proofs.Leaves.{
   Weighed,
   leaf-count-fits,
@@ -13,144 +24,97 @@ use Rattle.leaf_work.proofs.Leaves.{
   leaf-asks,
   leaf-falls,
 }
-use Rattle.sheet.specs.Words.{top}
 use Rattle.leaf_work.proofs.process_leaf.Statement.{statement}
 use Rattle.leaf_work.proofs.process_leaf.Tie as tie
 
--- THE PLACES, each from the next: the entry, the arc found, its ends read, the tail's label read, the head's label read, the head's label lowered
+-- THE PLACES: the entry, the arc found, its ends found, the tail's label and the arc's length read
 abbrev entry : tie.After-arc-of → tie.Start
 entry c = c .before .before .before
 
-abbrev found : tie.After-head-of → tie.After-arc-of
-found c = c .before .before .before .before
+abbrev found : tie.After-wide3 → tie.After-arc-of
+found c = search needs
 
-abbrev ends : tie.After-wide → tie.After-head-of
-ends c = c .before .before .before
+abbrev from : tie.After-wide3 → tie.After-tail-of
+from c = search needs
+
+abbrev to : tie.After-wide3 → tie.After-head-of
+to c = search needs
 
 abbrev summed : tie.After-wide3 → tie.After-wide
-summed c = c .before .before .before .before
+summed c = search needs
 
-abbrev compared : tie.After-lower-label → tie.After-wide3
-compared c = c .before .before .before .before
+abbrev tables : tie.Start → List ℕ → Tables
+tables c spans = tablesOf (c .args .rows .now) (c .args .arcs .now) (c .args .firsts .now) (c .args .lengths .now) spans (c .args .regions .now)
 
-abbrev lowered : tie.After-update-outgoing → tie.After-lower-label
-lowered c = c .before .before .before
+-- THE COUNT fits
+fits : (c : tie.Start) → c .args .c .leaves + 1 < 18446744073709551616
+fits c = leaf-count-fits (c .pre .processing) (c .pre .leaf)
 
-abbrev arc : tie.After-wide3 → tie.After-arc-of
-arc c = found (ends (summed c))
+-- THE ARC has a row, and is in range
+row-in : (c : tie.After-arc-of) → c .arc-of .result .0 < rowCount (entry c .args .arcs .now)
+row-in c = leaf-row-in (entry c .pre .processing) (entry c .pre .leaf) (c .arc-of .ensures)
 
--- THE LEAF'S ARC is in range
 arc-in : (c : tie.After-arc-of) → c .arc-of .result .0 < 2048
-arc-in c = let asked = entry c .pre .4 in leaf-arc-in (asked .0) (asked .1) (c .arc-of .ensures)
-
-tail-of-requires : tie.Need-tail-of-requires
-tail-of-requires c κs = let asked = entry (c .before) .pre .4 in leaf-row-in (asked .0) (asked .1) (c .before .arc-of .ensures)
-
-head-of-requires : tie.Need-head-of-requires
-head-of-requires c κs =
-    let found = c .before .before .before in
-    let asked = entry found .pre .4 in
-    leaf-row-in (asked .0) (asked .1) (found .arc-of .ensures)
+arc-in c = search (needs, leaf-arc-in)
 
 -- THE SUM is weighed against the head's label
-weighed : (c : tie.After-wide3) → let args = entry (arc c) .args in let ends = ends (summed c) in
-    Weighed (args .arcs .now) (args .lengths .now) (args .labels .now) (arc c .arc-of .result .0) (ends .before .before .tail-of .result .0)
-    (ends .head-of .result .0) (summed c .wide .result) (c .before .before .wide2 .result) (c .wide3 .result)
-weighed c = record {
-  from = ends (summed c) .before .before .tail-of .ensures;
-  to = ends (summed c) .head-of .ensures;
-  tail-label = summed c .wide .ensures .0;
-  arc-length = c .before .before .wide2 .ensures .0;
-  head-label = c .wide3 .ensures .0;
-}
-
--- THE LABEL STAYS
-count-leaf-requires : tie.Need-count-leaf-requires
-count-leaf-requires c κs = let asked = entry (arc (c .before)) .pre .4 in leaf-count-fits (asked .0) (asked .1)
-
-returns : tie.Need-returns
-unfolding top
-returns c =
-    let sums = c .before .before in
-    let args = entry (arc sums) .args in
-    λ g d spans keys P leaf. (
-      keys,
-      leaf-stays (args .labels .now) (args .predecessors .now) (args .own .now) P leaf (arc sums .arc-of .ensures)
-          (weighed sums) (c .before .if1 .taken) (c .count-leaf .ensures),
-    )
-
--- THE LABEL FALLS
-lower-label-requires : tie.Need-lower-label-requires
-lower-label-requires c κs =
-    let sums = c .before .before .before in
-    let start = entry (arc sums) in
-    leaf-head-rows (start .args .labels .now) (start .args .predecessors .now) (start .args .own .now) (start .pre .4 .0) (start .pre .4 .1)
-    (arc sums .arc-of .ensures) (ends (summed sums) .head-of .ensures)
+weighed : (c : tie.After-wide3) {g : Graph} {d : Division} {spans keys : List ℕ} → let start = entry (found c) in let a = start .args in
+    let s = stateIn g (a .labels .now) (a .predecessors .now) (a .own .now) keys (a .c) in
+    Processing g d (tables start spans) s (a .winners .now) (a .r .0) (processLeaf g d (a .r .0) s) → isLeaf d (a .r .0) ≡ true
+    → Weighed g d (tables start spans) (a .labels .now) (a .predecessors .now) (a .own .now) keys (a .winners .now) (a .c) (a .r .0)
+    (found c .arc-of .result .0) (from c .tail-of .result .0) (to c .head-of .result .0) (summed c .wide .result) (c .before .before .wide2 .result)
+    (c .wide3 .result)
+weighed c P leaf = search needs
 
 update-outgoing-requires : tie.Need-update-outgoing-requires
 update-outgoing-requires c κs =
-    let low = c .before .before in
-    let sums = compared low in
-    let start = entry (arc sums) in
-    let pre = start .pre in (
-      pre .0,
-      pre .1,
-      pre .3,
-      leaf-asks (start .args .labels .now) (start .args .predecessors .now) (start .args .own .now) (pre .4 .0) (pre .4 .1) (arc sums .arc-of .ensures)
-          (weighed sums) (low .before .before .before .if1 .left),
-    )
-
-element-write-own-2 : tie.Need-element-write-own-2
-element-write-own-2 c = arc-in (arc (compared (lowered c)))
-
-count-leaf-requires-2 : tie.Need-count-leaf-requires-2
-count-leaf-requires-2 c κs = let asked = entry (arc (compared (lowered c))) .pre .4 in leaf-count-fits (asked .0) (asked .1)
+    let sums : tie.After-wide3 = search needs in
+    let pre = entry (found sums) .pre in
+    record {
+      graph = pre .graph;
+      division = pre .division;
+      keys = pre .keys;
+      updating = leaf-asks (weighed sums (pre .processing) (pre .leaf)) (search needs);
+    }
 
 returns-2 : tie.Need-returns-2
 unfolding top
-returns-2 c =
-    let low = lowered (c .before) in
-    let sums = compared low in
-    let args = entry (arc sums) .args in
-    let update-outgoing = c .before .update-outgoing in
-    let if1 = low .before .before .before .if1 in
-    λ g d spans keys P leaf.
-    let asks = leaf-asks (args .labels .now) (args .predecessors .now) (args .own .now) P leaf (arc sums .arc-of .ensures)
-    (weighed sums) (if1 .left) in
-    let done = update-outgoing .ensures g d keys asks in (
-      done .0,
-      leaf-falls (args .labels .now) (args .predecessors .now) (args .own .now) P leaf (arc sums .arc-of .ensures)
-          (weighed sums) (if1 .left) (low .lower-label .ensures) (update-outgoing .last .1 .1 .1 .0) (done .1) (c .count-leaf2 .ensures),
-    )
+returns-2 c g d spans keys P leaf =
+    let low : tie.After-lower-label = search needs in
+    let fell : tie.Else1 = search needs in
+    let W = weighed (search needs) P leaf in
+    let done = c .before .update-outgoing .ensures g d keys (leaf-asks W (fell .if1 .left)) in
+    (done .0, leaf-falls W (fell .if1 .left) (low .lower-label .ensures) (c .before .update-outgoing .last .1 .1 .1 .0) (done .1) (c .count-leaf2 .ensures))
 
 pub process-leaf-spec : {M : Type 1} → statement M
+unfolding top
 process-leaf-spec =
     tie.close
     (tie.spec
     (λ c κs. search needs)
     (λ c. search needs)
-    tail-of-requires
+    (λ c κs. row-in (search needs))
     (λ c. search needs)
-    head-of-requires
+    (λ c κs. row-in (search needs))
     (λ c. search needs)
     (λ c. search needs)
     (λ c. search (needs, leaf-tail-in))
     (λ c κs. search needs)
     (λ c. search needs)
-    (λ c. search (needs, leaf-arc-in))
+    (λ c. arc-in (search needs))
     (λ c κs. search needs)
     (λ c. search needs)
     (λ c. search needs)
     (λ c. search (needs, leaf-head-in))
     (λ c κs. search needs)
     (λ c. search needs)
-    (λ c. search (needs, leaf-arc-in))
-    count-leaf-requires
-    returns
+    (λ c. arc-in (search needs))
+    (λ c κs. fits (search needs))
+    (λ c g d spans keys P leaf. (keys, leaf-stays (weighed (search needs) P leaf) (c .before .if1 .taken) (c .count-leaf .ensures)))
     (λ c. search needs)
-    lower-label-requires
+    (λ c κs. let start : tie.Start = search needs in leaf-head-rows (weighed (search needs) (start .pre .processing) (start .pre .leaf)))
     update-outgoing-requires
     (λ c. search needs)
-    element-write-own-2
-    count-leaf-requires-2
+    (λ c. arc-in (search needs))
+    (λ c κs. fits (search needs))
     returns-2)

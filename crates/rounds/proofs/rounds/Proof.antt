@@ -1,15 +1,26 @@
--- `rounds` meets its contract. The loop's invariant: the rounds that are left lead to the same end. Assumes nothing.
+-- `rounds` meets its contract. The loop's invariant: the rounds that are left lead to the same end.
 use borrow.Author.Needs.{needs}
 use Prim.Native.Nat.{ℕ}
 use mathlib.Core.Path.{_≡_, sym, _∙_}
 use mathlib.Core.List.{List}
 use Rattle.procedure.specs.Graph.{Graph}
 use Rattle.procedure.specs.Division.{Division}
-use Rattle.slices.specs.Tables.{tablesOf}
+use Rattle.procedure.specs.State.{State}
+use Rattle.procedure.specs.Procedure.{ended, round, after}
+use Rattle.slices.specs.Tables.{Tables, tablesOf}
 use Rattle.slices.specs.States.{stateIn, Represents}
 use Rattle.engine.proofs.Loops.{Looping, loop-spent}
-use Rattle.rounds.proofs.Loops.{round-count-fits, round-asks, round-made, running, rounds-first, rounds-ended, next-asks, rounds-step}
-use Rattle.procedure.specs.Procedure.{round, after}
+use Rattle.rounds.proofs.Loops.{
+  Going,
+  round-count-fits,
+  round-asks,
+  round-made,
+  running,
+  rounds-first,
+  rounds-ended,
+  next-asks,
+  rounds-step,
+}
 use Rattle.rounds.proofs.rounds.Statement.{statement}
 use Rattle.rounds.proofs.rounds.Tie as tie
 
@@ -23,101 +34,90 @@ Inv-loop rows arcs firsts lengths spans regions labels₀ predecessors₀ own₀
 abbrev μ-loop : tie.MeasureT-loop
 μ-loop rows arcs firsts lengths spans regions labels₀ predecessors₀ own₀ winners₀ limit left₀ n₀ labels predecessors own winners left n = left
 
--- the places of the function that answers look back to
+-- THE PLACES: the entry, the loop, whether the run has ended, that it has not, the round counted
 abbrev Start : Type 0
 Start = tie.Start Inv-loop μ-loop
 
 abbrev At-loop : Type 0
 At-loop = tie.At-loop Inv-loop μ-loop
 
-abbrev Else1 : Type 0
-Else1 = tie.Else1 Inv-loop μ-loop
+abbrev Told : Type 0
+Told = tie.After-has-ended Inv-loop μ-loop
 
-abbrev After-has-ended : Type 0
-After-has-ended = tie.After-has-ended Inv-loop μ-loop
+abbrev Goes-on : Type 0
+Goes-on = tie.Else1 Inv-loop μ-loop
 
-abbrev In-loop : Type 0
-In-loop = tie.In-loop Inv-loop μ-loop
+abbrev entry : At-loop → Start
+entry c = c .before .before .before
 
-loop-holds : tie.Need-loop-holds Inv-loop μ-loop
-loop-holds c = λ g d k keys R e. (keys, rounds-first R)
+abbrev looped : Told → At-loop
+looped c = c .before .before .before
+
+-- the tables, and the states in which the loop began and is
+abbrev tables : Start → Tables
+tables c = let a = c .args in tablesOf (a .rows .now) (a .arcs .now) (a .firsts .now) (a .lengths .now) (a .spans .now) (a .regions .now)
+
+abbrev began : Start → Graph → List ℕ → State
+began c g keys = stateIn g (c .args .labels .now) (c .args .predecessors .now) (c .args .own .now) keys (c .args .c)
+
+abbrev state : At-loop → Graph → List ℕ → State
+state c g keys = stateIn g (c .loop .labels) (c .loop .predecessors) (c .loop .own) keys (c .loop .n)
+
+-- WHETHER THE RUN HAS ENDED is told
+told : (c : Told) {g : Graph} {d : Division} {keys : List ℕ} → Represents g d (tables (entry (looped c))) (state (looped c) g keys) (looped c .loop .winners)
+    → ended g d (state (looped c) g keys) ≡ c .has-ended .result
+told c {g} {d} {keys} R = sym (c .has-ended .ensures g d _ _ _ keys _ (R .queues) (R .tabled .ok .division .root-inner))
+
+-- A ROUND is to be made, for any graph, division and keys that the loop began with
+abbrev Next : Goes-on → Graph → Division → ℕ → List ℕ → List ℕ → Type 0
+Next c g d k keys₀ keys =
+    let loop = looped (c .before) in
+    let start = entry loop in
+    Going g d (tables start) k (start .args .limit) (began start g keys₀) (loop .loop .left) (state loop g keys) (loop .loop .winners)
+
+going : (c : Goes-on) (g : Graph) (d : Division) (k : ℕ) (keys₀ : List ℕ) → let start = entry (looped (c .before)) in
+    Represents g d (tables start) (began start g keys₀) (start .args .winners .now) → began start g keys₀ ≡ after g d (start .args .spans .now) k
+    → ((keys : List ℕ) × Next c g d k keys₀ keys)
+going c g d k keys₀ R e =
+    let L = looped (c .before) .loop .inv g d k keys₀ R e in
+    (L .0, record { begun = e; loop = L .1; positive = search needs; running = told (c .before) (L .1 .represents) ∙ c .if1 .left })
+
+-- and for those that are asked for
+asked : (c : Goes-on) → let pre = entry (looped (c .before)) .pre in (keys : List ℕ) × Next c (pre .graph) (pre .division) (pre .made) (pre .keys) keys
+asked c = let pre = entry (looped (c .before)) .pre in going c (pre .graph) (pre .division) (pre .made) (pre .keys) (pre .represents) (pre .sofar)
 
 has-ended-requires : tie.Need-has-ended-requires Inv-loop μ-loop
 has-ended-requires c κs =
-    let start : Start = search needs in
-    let pre = start .pre in
-    let L = c .before .before .loop .inv (pre .0) (pre .1) (pre .2) (pre .3) (pre .4 .0) (pre .4 .1) in
-    (pre .1, L .0, L .1 .represents .queues)
+    let loop = c .before .before in
+    let pre = entry loop .pre in
+    let L = loop .loop .inv (pre .graph) (pre .division) (pre .made) (pre .keys) (pre .represents) (pre .sofar) in
+    (pre .division, L .0, L .1 .represents .queues)
 
 returns : tie.Need-returns Inv-loop μ-loop
-returns c =
-    let at-loop : At-loop = search needs in
-    let loop = at-loop .loop in
-    λ g d k keys R e.
-    let L = loop .inv g d k keys R e in
-    let told = c .before .has-ended .ensures g d _ _ _ (L .0) _ (L .1 .represents .queues) (R .tabled .ok .division .root-inner) in
-    (L .0, rounds-ended (L .1) (sym told ∙ c .if1 .taken))
-
-count-round-requires : tie.Need-count-round-requires Inv-loop μ-loop
-count-round-requires c κs =
-    let else1 : Else1 = search needs in
-    let after-has-ended : After-has-ended = search needs in
-    let in-loop : In-loop = search needs in
-    let at-loop : At-loop = search needs in
-    let start : Start = search needs in
-    let if1 = else1 .if1 in
-    let has-ended = after-has-ended .has-ended in
-    let loop-test = in-loop .loop-test in
-    let loop = at-loop .loop in
-    let pre = start .pre in
-    let R = pre .4 .0 in
-    let L = loop .inv (pre .0) (pre .1) (pre .2) (pre .3) R (pre .4 .1) in
-    let told = has-ended .ensures (pre .0) (pre .1) _ _ _ (L .0) _ (L .1 .represents .queues) (R .tabled .ok .division .root-inner) in
-    round-count-fits (next-asks (L .1) (loop-test .taken) (sym told ∙ if1 .left) (pre .2) (pre .4 .1))
+returns c g d k keys R e =
+    let L = looped (c .before) .loop .inv g d k keys R e in
+    (L .0, rounds-ended (L .1) (told (c .before) (L .1 .represents) ∙ c .if1 .taken))
 
 process-inner-requires : tie.Need-process-inner-requires Inv-loop μ-loop
 process-inner-requires c κs =
-    let else1 : Else1 = search needs in
-    let after-has-ended : After-has-ended = search needs in
-    let in-loop : In-loop = search needs in
-    let at-loop : At-loop = search needs in
     let start : Start = search needs in
-    let count-round = c .count-round in
-    let if1 = else1 .if1 in
-    let has-ended = after-has-ended .has-ended in
-    let loop-test = in-loop .loop-test in
-    let loop = at-loop .loop in
     let pre = start .pre in
-    let R = pre .4 .0 in
-    let L = loop .inv (pre .0) (pre .1) (pre .2) (pre .3) R (pre .4 .1) in
-    let inner = R .tabled .ok .division .root-inner in
-    let told = has-ended .ensures (pre .0) (pre .1) _ _ _ (L .0) _ (L .1 .represents .queues) inner in
-    let P = next-asks (L .1) (loop-test .taken) (sym told ∙ if1 .left) (pre .2) (pre .4 .1) in
-    (pre .0, pre .1, L .0, (round-asks P (count-round .ensures), inner))
+    let G = asked (search needs) in
+    record {
+      graph = pre .graph;
+      division = pre .division;
+      keys = G .0;
+      processing = round-asks (next-asks (G .1)) (c .count-round .ensures);
+      inner = pre .represents .tabled .ok .division .root-inner;
+    }
 
 loop-again : tie.Need-loop-again Inv-loop μ-loop
-loop-again c =
-    let else1 : Else1 = search needs in
-    let after-has-ended : After-has-ended = search needs in
-    let in-loop : In-loop = search needs in
-    let at-loop : At-loop = search needs in
-    let process-inner = c .process-inner in
-    let count-round = c .before .count-round in
-    let if1 = else1 .if1 in
-    let has-ended = after-has-ended .has-ended in
-    let loop-test = in-loop .loop-test in
-    let loop = at-loop .loop in
-    λ g d k keys R e.
-    let L = loop .inv g d k keys R e in
-    let inner = R .tabled .ok .division .root-inner in
-    let told = has-ended .ensures g d _ _ _ (L .0) _ (L .1 .represents .queues) inner in
-    let going = sym told ∙ if1 .left in
-    let P = next-asks (L .1) (loop-test .taken) going k e in
-    let W = process-inner .ensures g d (L .0) (round-asks P (count-round .ensures)) inner in
-    (W .0, rounds-step (L .1) (loop-test .taken) going (round-made P (count-round .ensures) (W .1)))
-
-returns-2 : tie.Need-returns-2 Inv-loop μ-loop
-returns-2 c = λ g d k keys R e. let L = c .before .loop .inv g d k keys R e in (L .0, loop-spent (L .1) (c .loop-test .left))
+loop-again c g d k keys R e =
+    let G = going (search needs) g d k keys R e in
+    let P = next-asks (G .1) in
+    let counted = c .before .count-round .ensures in
+    let W = c .process-inner .ensures g d (G .0) (round-asks P counted) (R .tabled .ok .division .root-inner) in
+    (W .0, rounds-step (G .1) (round-made P counted (W .1)))
 
 pub rounds-spec : {M : Type 1} → statement M
 rounds-spec =
@@ -125,12 +125,12 @@ rounds-spec =
     (tie.spec
     Inv-loop
     μ-loop
-    loop-holds
+    (λ c g d k keys R e. (keys, rounds-first R))
     has-ended-requires
     returns
-    count-round-requires
+    (λ c κs. round-count-fits (next-asks (asked (search needs) .1)))
     process-inner-requires
     (λ c. search needs)
     (λ c. search needs)
     loop-again
-    returns-2)
+    (λ c g d k keys R e. let L = c .before .loop .inv g d k keys R e in (L .0, loop-spent (L .1) (c .loop-test .left))))
