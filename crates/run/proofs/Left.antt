@@ -1,5 +1,4 @@
 -- What a run of an accepted sheet with a table of the right length leaves: what every table of a run delivers, and of the whole run that it has ended.
--- Assumes nothing.
 use Prim.Native.Nat.{ℕ}
 use mathlib.Core.Bool.{Bool}
 use mathlib.Core.Path.{_≡_, sym, ap, subst, _∙_}
@@ -22,7 +21,8 @@ module _ (b : List ℕ) (ok : Accepted b) where
 
   -- the table at exit and the answer of the run to its end
   pub ended-run : (table : List ℕ) {table′ : List ℕ} {answer : Answer} → length table ≡ tableLength (nodeCount b)
-      → answer ≡ runAnswer b enoughRounds table → table′ ≡ tableAfter b enoughRounds table → Delivered b enoughRounds table′ × (answer ≡ ended) × (statusIn table′ ≡ 1)
+      → answer ≡ runAnswer b enoughRounds table → table′ ≡ tableAfter b enoughRounds table
+      → Delivered b enoughRounds table′ × (answer ≡ ended) × (statusIn table′ ≡ 1)
   ended-run table room says e = (
     left-table enoughRounds table room e,
     says ∙ sym (made b enoughRounds table ok room .0) ∙ ap (λ (x : Bool). if x then ended else paused) (run-ends b ok),

@@ -158,8 +158,8 @@ module _ (t : ℕ) where
   Frame c g d keys =
       let start = entry c in
       let a = start .args in
-      Framed g d (tables start) (a .r .0) (c .before .span-of .result) (stateIn g (a .labels .now) (a .predecessors .now) (a .own .now) keys (c .count-inner .result))
-      (a .winners .now)
+      Framed g d (tables start) (a .r .0) (c .before .span-of .result)
+      (stateIn g (a .labels .now) (a .predecessors .now) (a .own .now) keys (c .count-inner .result)) (a .winners .now)
 
   frame : (c : Begun) → let pre = entry c .pre .1 in Frame c (pre .graph) (pre .division) (pre .keys)
   frame c = let pre = entry c .pre .1 in framed (opened c (pre .processing) (pre .inner))
@@ -315,8 +315,10 @@ module _ (t : ℕ) where
   leaf-returns c g d keys P =
       let row : Row = search needs in
       let leaf : Leaf = search needs in
-      let W = c .process-leaf .ensures g d _ keys (leaf-asks P (row .arc-of .ensures) (leaf .if1 .left)) (region-leaf P (row .arc-of .ensures) (leaf .if1 .left)) in
-      (W .0, leaf-worked P (row .arc-of .ensures) (leaf .if1 .left) (W .1))
+      let arc = row .arc-of .ensures in
+      let some = leaf .if1 .left in
+      let W = c .process-leaf .ensures g d _ keys (leaf-asks P arc some) (region-leaf P arc some) in
+      (W .0, leaf-worked P arc some (W .1))
 
 pub +process-inner+process-region-spec : {M : Type 1} → statement M
 +process-inner+process-region-spec =

@@ -1,4 +1,4 @@
--- `run_accepted` meets its contract: the arrays have room for the largest sheet, and what is laid out in them is what the run asks. Assumes nothing.
+-- `run_accepted` meets its contract: the arrays have room for the largest sheet, and what is laid out in them is what the run asks.
 use Prim.Native.Nat.{_*_}
 use native.Mathlib.Omega.{arith}
 use borrow.Author.Needs.{needs}
@@ -7,25 +7,21 @@ use Rattle.layout.proofs.Fronts.{laid}
 use Rattle.execution.proofs.run_accepted.Statement.{statement}
 use Rattle.execution.proofs.run_accepted.Tie as tie
 
--- THE PLACES, each from the next: the entry, the sizes known, the graph laid out, the division laid out
+-- THE PLACES: the entry, the sizes known, the graph laid out, the division laid out
 abbrev entry : tie.After-sizes-of → tie.Start
 entry c = c .before .before .before
 
 abbrev sized : tie.After-lay-graph → tie.After-sizes-of
-sized c = c .before .before .before .before
+sized c = search needs
 
 abbrev graphed : tie.After-lay-division → tie.After-lay-graph
-graphed c = let filled = c .before .before .before in filled .before .before .before .before
-
-abbrev divided : tie.After-rows3 → tie.After-lay-division
-divided c = c .before .before .before .before
+graphed c = search needs
 
 lay-division-requires : tie.Need-lay-division-requires
 lay-division-requires c κs =
-    let after-lay-graph : tie.After-lay-graph = search needs in
-    let known = sized (after-lay-graph) in
-    let pre = entry known .pre in
-    let used = known .sizes-of .ensures in
+    let graph : tie.After-lay-graph = search needs in
+    let pre = entry (sized graph) .pre in
+    let used = sized graph .sizes-of .ensures in
     record {
       accepted = pre .accepted;
       located = pre .located;
@@ -38,24 +34,29 @@ lay-division-requires c κs =
 -- THE PARTS that are in use are as long as the run asks
 slice-aggregate-run-tables : tie.Need-slice-aggregate-run-tables
 slice-aggregate-run-tables c =
-    let graph = graphed (divided (c .before)) in
-    let sizes = sized graph .sizes-of in
-    part-length (graph .lay-graph .last .1 .1 .1 .0) (4 * sizes .result .arcs) (graph .lay-graph .kept .1 .1 .1 .0) (omega (arith, sizes .ensures .few-arcs))
+    let division : tie.After-lay-division = search needs in
+    let lay-graph = graphed division .lay-graph in
+    let sizes = sized (graphed division) .sizes-of in
+    part-length (lay-graph .last .1 .1 .1 .0) (4 * sizes .result .arcs) (lay-graph .kept .1 .1 .1 .0) (omega (arith, sizes .ensures .few-arcs))
 
 slice-aggregate-run-tables-2 : tie.Need-slice-aggregate-run-tables-2
 slice-aggregate-run-tables-2 c =
-    let after-rows3 : tie.After-rows3 = search needs in
-    let division = divided (after-rows3) in
+    let division : tie.After-lay-division = search needs in
+    let lay-division = division .lay-division in
     let sizes = sized (graphed division) .sizes-of in
-    part-length (division .lay-division .last .1 .1 .1 .1 .0) (sizes .result .spans) (division .lay-division .kept .1 .1 .1 .1 .0) (sizes .ensures .few-spans)
+    part-length (lay-division .last .1 .1 .1 .1 .0) (sizes .result .spans) (lay-division .kept .1 .1 .1 .1 .0) (sizes .ensures .few-spans)
 
 run-tables-requires : tie.Need-run-tables-requires
 run-tables-requires c κs =
-    let after-rows3 : tie.After-rows3 = search needs in
-    let division = divided (after-rows3) in
+    let division : tie.After-lay-division = search needs in
     let graph = graphed division in
     let pre = entry (sized graph) .pre in
-    (pre .accepted, pre .sized, sized graph .sizes-of .ensures, laid (pre .accepted) (graph .lay-graph .ensures) (division .lay-division .ensures))
+    record {
+      accepted = pre .accepted;
+      sized = pre .sized;
+      in-use = sized graph .sizes-of .ensures;
+      laid = laid (pre .accepted) (graph .lay-graph .ensures) (division .lay-division .ensures);
+    }
 
 pub run-accepted-spec : {M : Type 1} → statement M
 run-accepted-spec =

@@ -1,4 +1,4 @@
--- `run_rounds` meets its contract: the judge's refusal, or the run of the accepted sheet. Assumes nothing.
+-- `run_rounds` meets its contract: the judge's refusal, or the run of the accepted sheet.
 use borrow.Author.Needs.{needs}
 use mathlib.Core.Path.{sym, ap, _∙_}
 use Rattle.judge_answer.specs.Said.{said as judged-says}
@@ -6,20 +6,14 @@ use Rattle.answers.proofs.Outcome.{refused-sheet}
 use Rattle.run.proofs.run_rounds.Statement.{statement}
 use Rattle.run.proofs.run_rounds.Tie as tie
 
-enum-told : tie.Need-enum-told
-enum-told c = search needs
-
 run-accepted-requires : tie.Need-run-accepted-requires
-run-accepted-requires c κs =
-    let judge = c .before .before .before .judge in
-    sym (judge .ensures) ∙ ap judged-says (c .before .enum-told .given .1)
+run-accepted-requires c κs = sym (c .before .before .before .judge .ensures) ∙ ap judged-says (c .before .enum-told .given .1)
 
 returns : tie.Need-returns
 returns c =
     let start : tie.Start = search needs in
-    let args = start .args in
-    let judge = c .before .before .before .judge in
-    refused-sheet (args .sheet .now) (args .limit) (args .table .now) _ (sym (judge .ensures) ∙ ap judged-says (c .before .judged .given .1))
+    let a = start .args in
+    refused-sheet (a .sheet .now) (a .limit) (a .table .now) _ (sym (c .before .before .before .judge .ensures) ∙ ap judged-says (c .before .judged .given .1))
 
 pub run-rounds-spec : {M : Type 1} → statement M
 run-rounds-spec =
@@ -27,7 +21,7 @@ run-rounds-spec =
     (tie.spec
     (λ c κs. search needs)
     (λ c. search needs)
-    enum-told
+    (λ c. search needs)
     run-accepted-requires
     returns
     (λ c. search needs)
