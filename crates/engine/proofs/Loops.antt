@@ -98,6 +98,11 @@ module _ {g : Graph} {d : Division} {t : Tables} {labels predecessors own keys w
       let all = rw (process-inner g d (t .spans) ok r s (P .in-range) inner) at (P .small) in
       omega (arith, inner-counted g d s, more .inner, all .inner)
 
+-- what is represented does not depend on the counts
+pub recounted : {g : Graph} {d : Division} {t : Tables} {labels predecessors own keys winners : List ℕ} {c : Counts} (n : Counts)
+    → Represents g d t (stateOf labels predecessors own keys c) winners → Represents g d t (stateOf labels predecessors own keys n) winners
+recounted n R = record { tabled = R .tabled; labelled = R .labelled; fed = R .fed; owned = R .owned; queues = R .queues }
+
 -- the region is counted in n, and `left` is its span
 pub record Opened (g : Graph) (d : Division) (t : Tables) (labels predecessors own keys winners : List ℕ) (c : Counts) (r left : ℕ) (n : Counts) : Type 0 where
   pub processing : let s = stateOf labels predecessors own keys c in Processing g d t s winners r (process g d (t .spans) r s)
@@ -133,7 +138,7 @@ module _ {g : Graph} {d : Division} {t : Tables} {labels predecessors own keys w
 
   pub framed : Framed g d t r left begun winners
   framed = record {
-    represents = record { tabled = R .tabled; labelled = R .labelled; fed = R .fed; owned = R .owned; queues = R .queues };
+    represents = recounted n R;
     in-range = O .processing .in-range;
     inner = O .inner;
     small = rw turns-all (O .processing .small);

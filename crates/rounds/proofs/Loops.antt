@@ -23,7 +23,7 @@ use Rattle.counts.specs.Counted.{roundCounted}
 use Rattle.counts.specs.declared.Counts.{Counts}
 use Rattle.slices.specs.Tables.{Tables}
 use Rattle.slices.specs.States.{stateOf, Represents, Processing, Computed}
-use Rattle.engine.proofs.Loops.{Looping, loop-off, loop-on}
+use Rattle.engine.proofs.Loops.{Looping, loop-off, loop-on, recounted}
 use Rattle.rounds.proofs.Beginning.{few-out}
 
 -- "A run has ended when region 0's smallest key is none."
@@ -62,13 +62,7 @@ module _ {g : Graph} {d : Division} {t : Tables} {labels predecessors own keys w
 
     pub round-asks : Processing g d t entered winners 0 (process g d (t .spans) 0 entered)
     round-asks = record {
-      represents = record {
-        tabled = P .represents .tabled;
-        labelled = P .represents .labelled;
-        fed = P .represents .fed;
-        owned = P .represents .owned;
-        queues = P .represents .queues;
-      };
+      represents = recounted n (P .represents);
       in-range = P .in-range;
       small = rw is-round (P .small);
     }

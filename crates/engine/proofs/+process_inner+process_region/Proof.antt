@@ -1,7 +1,7 @@
 -- The cycle of `process_inner` and `process_region` meets its contracts, by the measure of twice the region's height, and one more for `process_region`,
 -- which calls `process_inner` on the same region. The loop's invariant: the turns that are left lead to the same end.
 use borrow.Author.Needs.{needs}
-use borrow.Fn.Kinds.{In}
+use borrow.Fn.Kinds.{In, Out}
 use borrow.Fn.PlainCycle.{Measures, is, falls, and}
 use Prim.Native.Nat.{ℕ, _+_, _*_, _<_}
 use mathlib.Core.Bool.{false}
@@ -111,30 +111,32 @@ abbrev μ-loop : inner-lts.MeasureT-loop
 
 -- `process_inner`
 module _ (t : ℕ) where
-  -- THE PLACES: the entry, the region counted, the loop, its smallest key read and not none, the child found, worked, and its key read
+  -- a place or a need of it, at measure t
+  abbrev here : (inner-lts.Claims → In 10 inner-kinds.ps → Out 10 inner-kinds.ps inner-kinds.r → inner-lts.InvT-loop → inner-lts.MeasureT-loop → Type 0)
+      → Type 0
+  here P = P (inner-heard t) (inner-at t) process-inner.Post Inv-loop μ-loop
+
+  -- THE PLACES: the entry, the region counted, the loop, its smallest key read, the child found, worked, and its key read
   abbrev Start : Type 0
-  Start = inner-lts.Start (inner-heard t) (inner-at t) process-inner.Post Inv-loop μ-loop
+  Start = here inner-lts.Start
 
   abbrev Begun : Type 0
-  Begun = inner-lts.After-count-inner (inner-heard t) (inner-at t) process-inner.Post Inv-loop μ-loop
+  Begun = here inner-lts.After-count-inner
 
   abbrev At-loop : Type 0
-  At-loop = inner-lts.At-loop (inner-heard t) (inner-at t) process-inner.Post Inv-loop μ-loop
+  At-loop = here inner-lts.At-loop
 
   abbrev Smallest : Type 0
-  Smallest = inner-lts.After-min-key (inner-heard t) (inner-at t) process-inner.Post Inv-loop μ-loop
-
-  abbrev Some : Type 0
-  Some = inner-lts.Else1 (inner-heard t) (inner-at t) process-inner.Post Inv-loop μ-loop
+  Smallest = here inner-lts.After-min-key
 
   abbrev Found : Type 0
-  Found = inner-lts.After-min-item (inner-heard t) (inner-at t) process-inner.Post Inv-loop μ-loop
+  Found = here inner-lts.After-min-item
 
   abbrev Worked : Type 0
-  Worked = inner-lts.After-process-region (inner-heard t) (inner-at t) process-inner.Post Inv-loop μ-loop
+  Worked = here inner-lts.After-process-region
 
   abbrev Rekeyed : Type 0
-  Rekeyed = inner-lts.After-key-of (inner-heard t) (inner-at t) process-inner.Post Inv-loop μ-loop
+  Rekeyed = here inner-lts.After-key-of
 
   abbrev entry : Begun → Start
   entry c = search needs
@@ -193,14 +195,13 @@ module _ (t : ℕ) where
       let loop = looped c .loop in
       let L = loop .inv g d keys₀ F in
       let least : Smallest = search needs in
-      let some : Some = search needs in
       let key = least .min-key .ensures d (L .0) (L .1 .represents .queues) (F .in-range) (F .inner) (take (arcs g) (loop .own)) (loop .n .updates) in (
         L .0,
         record {
           frame = F;
           loop = L .1;
           positive = some-left c;
-          some = omega (arith, key, some .if1 .left);
+          some = omega (arith, key);
           item = c .min-item .ensures d (L .0) (L .1 .represents .queues) (F .in-range);
         },
       )
@@ -209,7 +210,7 @@ module _ (t : ℕ) where
   asked : (c : Found) → let pre = entry (looped c .before) .pre .1 in (keys : List ℕ) × Turn c (pre .graph) (pre .division) (pre .keys) keys
   asked c = let pre = entry (looped c .before) .pre .1 in turning c (pre .graph) (pre .division) (pre .keys) (frame (looped c .before))
 
-  returns : inner-lts.Need-returns (inner-heard t) (inner-at t) process-inner.Post Inv-loop μ-loop
+  returns : here inner-lts.Need-returns
   unfolding top
   returns c g d keys P inner =
       let loop : At-loop = search needs in
@@ -218,14 +219,14 @@ module _ (t : ℕ) where
       let key = c .before .min-key .ensures d (L .0) (L .1 .represents .queues) (P .in-range) inner _ _ in
       (L .0, turns-worked O (turns-none (framed O) (L .1) key (c .if1 .taken)))
 
-  process-region-requires : inner-lts.Need-process-region-requires (inner-heard t) (inner-at t) process-inner.Post Inv-loop μ-loop
+  process-region-requires : here inner-lts.Need-process-region-requires
   process-region-requires c κs =
       let found : Found = search needs in
       let pre = entry (looped found .before) .pre in
       let T = asked found in
       (omega (arith, pre .0, child-lower (T .1)), record { graph = pre .1 .graph; division = pre .1 .division; keys = T .0; processing = child-asks (T .1) })
 
-  key-of-requires : inner-lts.Need-key-of-requires (inner-heard t) (inner-at t) process-inner.Post Inv-loop μ-loop
+  key-of-requires : here inner-lts.Need-key-of-requires
   key-of-requires c κs =
       let found : Found = search needs in
       let pre = entry (looped found .before) .pre .1 in
@@ -233,7 +234,7 @@ module _ (t : ℕ) where
       let W = c .before .before .process-region .ensures (pre .graph) (pre .division) (T .0) (child-asks (T .1)) in
       record { count = arcs (pre .graph); division = pre .division; keys = W .0; keyed = key-asks (T .1) (W .1) }
 
-  write-requires : inner-lts.Need-write-requires (inner-heard t) (inner-at t) process-inner.Post Inv-loop μ-loop
+  write-requires : here inner-lts.Need-write-requires
   write-requires c κs =
       let found : Found = search needs in
       let worked : Worked = search needs in
@@ -242,7 +243,7 @@ module _ (t : ℕ) where
       let W = worked .process-region .ensures (pre .graph) (pre .division) (T .0) (child-asks (T .1)) in
       (pre .division, W .0, W .1 .represents .queues, child-positive (T .1), child-in (T .1))
 
-  loop-again : inner-lts.Need-loop-again (inner-heard t) (inner-at t) process-inner.Post Inv-loop μ-loop
+  loop-again : here inner-lts.Need-loop-again
   loop-again c g d keys F =
       let found : Found = search needs in
       let worked : Worked = search needs in
@@ -253,7 +254,7 @@ module _ (t : ℕ) where
       let valid = c .write .ensures d (W .0) (W .1 .represents .queues) (child-in (T .1)) in
       (_, turned (T .1) (W .1) new valid)
 
-  returns-2 : inner-lts.Need-returns-2 (inner-heard t) (inner-at t) process-inner.Post Inv-loop μ-loop
+  returns-2 : here inner-lts.Need-returns-2
   returns-2 c g d keys P inner =
       let O = opened (c .before .before) P inner in
       let L = c .before .loop .inv g d keys (framed O) in
@@ -261,20 +262,24 @@ module _ (t : ℕ) where
 
 -- `process_region`
 module _ (t : ℕ) where
+  -- a place or a need of it, at measure t
+  abbrev there : (region-lts.Claims → In 10 region-kinds.ps → Out 10 region-kinds.ps region-kinds.r → Type 0) → Type 0
+  there P = P (region-heard t) (region-at t) process-region.Post
+
   -- THE PLACES: the entry, the region's row read, and whether it is inner or a leaf
   abbrev Region : Type 0
-  Region = region-lts.Start (region-heard t) (region-at t) process-region.Post
+  Region = there region-lts.Start
 
   abbrev Row : Type 0
-  Row = region-lts.After-arc-of (region-heard t) (region-at t) process-region.Post
+  Row = there region-lts.After-arc-of
 
   abbrev Inner : Type 0
-  Inner = region-lts.Then1 (region-heard t) (region-at t) process-region.Post
+  Inner = there region-lts.Then1
 
   abbrev Leaf : Type 0
-  Leaf = region-lts.Else1 (region-heard t) (region-at t) process-region.Post
+  Leaf = there region-lts.Else1
 
-  process-inner-requires : region-lts.Need-process-inner-requires (region-heard t) (region-at t) process-region.Post
+  process-inner-requires : there region-lts.Need-process-inner-requires
   process-inner-requires c κs =
       let start : Region = search needs in
       let row : Row = search needs in
@@ -290,13 +295,13 @@ module _ (t : ℕ) where
         },
       )
 
-  inner-returns : region-lts.Need-returns (region-heard t) (region-at t) process-region.Post
+  inner-returns : there region-lts.Need-returns
   inner-returns c g d keys P =
       let row : Row = search needs in
       let inner : Inner = search needs in
       c .process-inner .ensures g d keys P (region-inner P (row .arc-of .ensures) (inner .if1 .taken))
 
-  process-leaf-requires : region-lts.Need-process-leaf-requires (region-heard t) (region-at t) process-region.Post
+  process-leaf-requires : there region-lts.Need-process-leaf-requires
   process-leaf-requires c κs =
       let start : Region = search needs in
       let row : Row = search needs in
@@ -311,7 +316,7 @@ module _ (t : ℕ) where
         leaf = region-leaf (pre .processing) (row .arc-of .ensures) (leaf .if1 .left);
       }
 
-  leaf-returns : region-lts.Need-returns-2 (region-heard t) (region-at t) process-region.Post
+  leaf-returns : there region-lts.Need-returns-2
   leaf-returns c g d keys P =
       let row : Row = search needs in
       let leaf : Leaf = search needs in
