@@ -107,7 +107,7 @@ pub record Blank (g : Graph) (d : Division) (t : Tables) : Type 0 where
   pub tabled : Tabled g d t
   pub planned : Planned d (t .rows)
 
--- WHAT EACH CALL ASKS: that there are some graph, division and keys which its arrays are of
+-- WHAT EACH CALL ASKS: that some graph, division and keys stand behind its arrays
 
 -- `update`
 pub record SomeUpdating (rows winners : List ℕ) (r x k count : ℕ) : Type 0 where
