@@ -12,7 +12,6 @@ use lib.ListN.{take}
 use Rattle.sheet.specs.Words.{top}
 use Rattle.procedure.specs.Graph.{Graph, arcs}
 use Rattle.procedure.specs.Division.{Division, regions, isLeaf}
-use Rattle.procedure.specs.State.{State}
 use Rattle.procedure.specs.Procedure.{alive, process}
 use Rattle.tree_places.specs.Trees.{QueuesOk}
 use Rattle.slices.specs.Tables.{Tables, tablesOf, heightEntry}
