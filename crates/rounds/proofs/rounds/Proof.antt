@@ -34,7 +34,7 @@ Inv-loop rows arcs firsts lengths spans regions labels₀ predecessors₀ own₀
 abbrev μ-loop : tie.MeasureT-loop
 μ-loop rows arcs firsts lengths spans regions labels₀ predecessors₀ own₀ winners₀ limit left₀ n₀ labels predecessors own winners left n = left
 
--- THE PLACES: the entry, the loop, whether the run has ended, that it has not, the round counted
+-- THE PLACES: the entry, the loop, where it is told whether the run has ended, and where it goes on
 abbrev Start : Type 0
 Start = tie.Start Inv-loop μ-loop
 
