@@ -1,4 +1,4 @@
--- The labels and predecessors of a table are what its words say, node by node. Assumes nothing.
+-- The labels and predecessors of a table are what its words say, node by node.
 use Prim.Native.Nat.{ℕ, _<_}
 use mathlib.Core.Path.{_≡_}
 use mathlib.Core.List.{List}

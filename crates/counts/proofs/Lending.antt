@@ -1,5 +1,5 @@
 -- A function that holds the counts lends them to a call and has them back afterwards: one rule for every such call, and one law for the two functions
--- whose body is a single call. Assumes nothing.
+-- whose body is a single call.
 use Prim.Native.Nat.{ℕ, _+_, _<_, _^_}
 use mathlib.Core.Path.{_≡_, refl, ap, subst}
 use mathlib.Core.List.{List, [], _∷_}

@@ -1,5 +1,5 @@
 -- One law for the three functions that add one to a count that is lent: the code, with the number of the field left open, is walked once.
--- The borrow is opened, the field is read and written, and the borrow is closed at the record with the new number. Assumes nothing.
+-- The borrow is opened, the field is read and written, and the borrow is closed at the record with the new number.
 use Prim.Native.Nat.{ℕ, _+_, _<_, _^_}
 use mathlib.Core.Path.{_≡_, refl, subst}
 use mathlib.Core.Option.{some as just}

@@ -1,4 +1,4 @@
--- The four counts of a run after each kind of counting. Definitions; assumes nothing.
+-- The four counts of a run after each kind of counting. Definitions.
 use Prim.Native.Nat.{ℕ, _+_}
 use Rattle.counts.specs.declared.Counts.{Counts}
 

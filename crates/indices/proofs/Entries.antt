@@ -1,4 +1,4 @@
--- Entries of a list that are stored one after the other, each at its own place. Assumes nothing.
+-- Entries of a list that are stored one after the other, each at its own place.
 use Prim.Native.Nat.{ℕ, _+_, _≤_, _<_}
 use mathlib.Core.Path.{_≡_, sym, ap, _∙_}
 use mathlib.Core.Logic.{_≢_}
@@ -29,7 +29,9 @@ entered-more {place} {f} {l} {i} x other inside e E =
     record {
       entry =
           λ j h.
-          by-equal j i (λ same. ap (λ (k : ℕ). at (set l (place i) x) (place k)) same ∙ getD-set-same l (place i) x 0 inside ∙ e ∙ sym (ap f same)) (λ ne. before .entry j (omega arith));
+          by-equal j i
+          (λ same. ap (λ (k : ℕ). at (set l (place i) x) (place k)) same ∙ getD-set-same l (place i) x 0 inside ∙ e ∙ sym (ap f same))
+          (λ ne. before .entry j (omega arith));
     }
 
 -- A COLUMN FROM ITS FRONT

@@ -1,4 +1,4 @@
--- Laws of `most`, the largest value below a bound. Assumes nothing.
+-- Laws of `most`, the largest value below a bound.
 use Prim.Native.Nat.{ℕ, zero, suc, max, _<_, _≤_}
 use mathlib.Core.Path.{_≡_, refl, ap}
 use mathlib.Core.Logic.{⊎-elim}

@@ -1,4 +1,4 @@
--- The pigeonhole: m different numbers below n are at most n, by moving the value n - 1 out of the way. Assumes nothing.
+-- The pigeonhole: m different numbers below n are at most n, by moving the value n - 1 out of the way.
 use Prim.Native.Nat.{ℕ, zero, suc, _≤_, _<_}
 use native.Mathlib.Omega.{arith}
 use mathlib.Core.Path.{_≡_, sym, _∙_}

@@ -1,4 +1,4 @@
--- Laws of `if_then_else_`, `upTo` and `times`, case splits on numbers and tests, and an entry after a store. Assumes nothing.
+-- Laws of `if_then_else_`, `upTo` and `times`, case splits on numbers and tests, and an entry after a store.
 use Prim.Native.Nat.{ℕ, zero, suc, _+_, _≤_, _<_}
 use native.Mathlib.Nat.{lt-suc-self, zero-add, suc-add}
 use native.Mathlib.Omega.{arith}

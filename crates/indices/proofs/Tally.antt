@@ -1,4 +1,4 @@
--- A list of counters: the counter at v is how many of the indices passed hit v. For a loop that adds 1 to one counter a turn. Assumes nothing.
+-- A list of counters: the counter at v is how many of the indices passed hit v. For a loop that adds 1 to one counter a turn.
 use Prim.Native.Nat.{ℕ, _+_, _<_, _≤_}
 use mathlib.Core.Bool.{Bool, true, false}
 use mathlib.Core.List.{List}

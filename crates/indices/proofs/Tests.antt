@@ -1,4 +1,4 @@
--- Laws of `any`, `all`, `count` and `lead`, in the forms that a loop asks: no index, one index more, a stop, the end. Assumes nothing.
+-- Laws of `any`, `all`, `count` and `lead`, in the forms that a loop asks: no index, one index more, a stop, the end.
 use Prim.Native.Nat.{ℕ, zero, suc, _+_, _<_, _≤_}
 use mathlib.Core.Bool.{Bool, true, false, not, cond, _&&_, _||_, true≢false, or-true, and-false}
 use mathlib.Core.Path.{_≡_, refl, sym, ap, _∙_}

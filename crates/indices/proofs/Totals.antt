@@ -1,4 +1,4 @@
--- Sums and counts over the indices below a bound, and how one index changes them. Assumes nothing.
+-- Sums and counts over the indices below a bound, and how one index changes them.
 use Prim.Native.Nat.{ℕ, zero, suc, _+_, _*_, _≤_, _<_}
 use mathlib.Core.Bool.{Bool, true, false, cond}
 use mathlib.Core.Path.{_≡_, refl, sym, ap}
@@ -23,7 +23,9 @@ pub total-one : (f g : ℕ → ℕ) (k n : ℕ) → k < n → ((i : ℕ) → i <
 unfolding total
 total-one f g k zero l e = absurd (omega arith)
 total-one f g k (suc n) l e =
-    by-equal k n (λ w. omega (arith, total-same f g n (λ i li. e i (omega arith) (λ v. omega arith)), ap f w, ap g w)) (λ w. omega (arith, total-one f g k n (omega arith) (λ i li ni. e i (omega arith) ni), e n (omega arith) (λ v. w (sym v))))
+    by-equal k n
+    (λ w. omega (arith, total-same f g n (λ i li. e i (omega arith) (λ v. omega arith)), ap f w, ap g w))
+    (λ w. omega (arith, total-one f g k n (omega arith) (λ i li ni. e i (omega arith) ni), e n (omega arith) (λ v. w (sym v))))
 
 pub total-le : (f : ℕ → ℕ) (n b : ℕ) → ((i : ℕ) → i < n → f i ≤ b) → total f n ≤ n * b
 unfolding total

@@ -1,4 +1,4 @@
--- Columns: lists of numbers, read by index. Definitions; assumes nothing.
+-- Columns: lists of numbers, read by index. Definitions.
 use Prim.Native.Nat.{ℕ, zero, suc}
 use mathlib.Core.List.{List, [], _∷_}
 use lib.ListN.{getD}

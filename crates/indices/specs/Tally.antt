@@ -1,4 +1,4 @@
--- A list of counters. Definitions; assumes nothing.
+-- A list of counters. Definitions.
 use Prim.Native.Nat.{ℕ, _<_, _≤_}
 use mathlib.Core.Bool.{Bool}
 use mathlib.Core.List.{List}

@@ -1,4 +1,4 @@
--- Tests and figures over the indices below a bound. Each is computed. Definitions; assumes nothing.
+-- Tests and figures over the indices below a bound. Each is computed. Definitions.
 use Prim.Native.Nat.{ℕ, zero, suc, _+_, max}
 use mathlib.Core.Bool.{Bool, true, false, _&&_, _||_}
 use Rattle.indices.specs.Steps.{if_then_else_}

@@ -1,4 +1,4 @@
--- The start of a run: its columns, and the invariant. Assumes nothing.
+-- The start of a run: its columns, and the invariant.
 use Prim.Native.Nat.{ℕ, _≤_, _<_}
 use mathlib.Core.Path.{_≡_, sym, ap, _∙_}
 use mathlib.Core.Logic.{_≢_}
@@ -46,8 +46,9 @@ module _ {most : ℕ} {g : Graph} {d : Division} {spans : List ℕ} (ok : WellFo
   noKeys-valued : Valued d Root (noKeys g d)
   noKeys-valued y py ly out =
       getD-replicate (regions d) y top 0 ly
-      ∙ sym (by-truth (isLeaf d y) (λ leaf.
-      minKey-leaf d (noKeys g d) y leaf ∙ getD-replicate (arcs g) (arcOf d y) top 0 (ok .division .leaf-arc y ly leaf .0)) (λ inner. minKey-all-none d (noKeys g d) y inner (λ c h. getD-replicate (regions d) c top 0 (h .in-range))))
+      ∙ sym (by-truth (isLeaf d y)
+      (λ leaf. minKey-leaf d (noKeys g d) y leaf ∙ getD-replicate (arcs g) (arcOf d y) top 0 (ok .division .leaf-arc y ly leaf .0))
+      (λ inner. minKey-all-none d (noKeys g d) y inner (λ c h. getD-replicate (regions d) c top 0 (h .in-range))))
 
   source-first : at (firstLabels g) (g .source) ≡ 0
   source-first = getD-set-same (replicate (g .nodes) top) (g .source) 0 0 (rw length-replicate (ok .graph .source-in))
@@ -89,9 +90,13 @@ module _ {most : ℕ} {g : Graph} {d : Division} {spans : List ℕ} (ok : WellFo
         led = λ v lv r. by-equal v (g .source) (λ e. home e) (λ n. absurd (omega (arith, other-first v lv n)));
         unfed = λ v lv _. getD-replicate (g .nodes) v top 0 lv;
         unkeyed = λ a la u. by-equal (tail g a) (g .source) (λ e. absurd (omega (arith, at-source a e, top-positive))) (λ n. o .miss a n ∙ none a la);
-        relaxed = λ a la r k. absurd (by-equal (tail g a) (g .source) (λ e. omega (arith, o .hit a la e, top-positive)) (λ n. omega (arith, other-first (tail g a) (ok .graph .tail-in a la) n)));
+        relaxed = λ a la r k. absurd (by-equal (tail g a) (g .source)
+            (λ e. omega (arith, o .hit a la e, top-positive))
+            (λ n. omega (arith, other-first (tail g a) (ok .graph .tail-in a la) n)));
         bounded = λ v lv r. by-equal v (g .source) (λ e. rw (e, source-first) (omega arith)) (λ n. absurd (omega (arith, other-first v lv n)));
-        keyed = λ a la k. by-equal (tail g a) (g .source) (λ e. o .hit a la e ∙ sym (at-source a e)) (λ n. absurd (omega (arith, o .miss a n, none a la)));
+        keyed = λ a la k. by-equal (tail g a) (g .source)
+            (λ e. o .hit a la e ∙ sym (at-source a e))
+            (λ n. absurd (omega (arith, o .miss a n, none a la)));
         valued = outgoing-valued d (g .tails) (ok .division) (few-arcs ok) (g .source) 0 (noKeys g d) noKeys-sized Root (root-closed d) (omega arith)
             (λ b lb e. rw (none b lb) top-positive) noKeys-valued;
       }

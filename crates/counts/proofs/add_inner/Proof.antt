@@ -1,4 +1,4 @@
--- `add_inner` meets its contract: field 2 of the counts is one more. Assumes nothing.
+-- `add_inner` meets its contract: field 2 of the counts is one more.
 use mathlib.Core.Path.{refl}
 use contract.Running.{givenOf, tables, tablesOf}
 use denote.Triple.Spec.{tripleOf}

@@ -1,4 +1,4 @@
--- `count_inner` meets its contract: the counts are lent to `add_inner`. Assumes nothing.
+-- `count_inner` meets its contract: the counts are lent to `add_inner`.
 use contract.Running.{givenOf, tables, tablesOf}
 use denote.Triple.Spec.{tripleOf}
 use denote.Triple.Table.{entered, cited}

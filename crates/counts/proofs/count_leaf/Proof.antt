@@ -1,4 +1,4 @@
--- `count_leaf` meets its contract: a walk of its code. The counts are lent to `add_leaf`, and then to `set_updates`. Assumes nothing.
+-- `count_leaf` meets its contract: a walk of its code. The counts are lent to `add_leaf`, and then to `set_updates`.
 use Prim.Native.Nat.{ℕ, _+_, _<_, _^_}
 use mathlib.Core.Path.{refl}
 use mathlib.Core.List.{[], _∷_}

@@ -1,4 +1,4 @@
--- `count_round` meets its contract: the counts are lent to `add_round`. Assumes nothing.
+-- `count_round` meets its contract: the counts are lent to `add_round`.
 use contract.Running.{givenOf, tables, tablesOf}
 use denote.Triple.Spec.{tripleOf}
 use denote.Triple.Table.{entered, cited}

@@ -1,4 +1,4 @@
--- `set_updates` meets its contract: a walk of its code. The borrow is opened, field 3 is written, and the borrow is closed at the new record. Assumes nothing.
+-- `set_updates` meets its contract: a walk of its code. The borrow is opened, field 3 is written, and the borrow is closed at the new record.
 use Prim.Native.Nat.{ℕ, _<_, _^_}
 use mathlib.Core.Path.{refl}
 use mathlib.Core.List.{List, [], _∷_}
