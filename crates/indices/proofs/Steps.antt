@@ -23,10 +23,6 @@ if-and-elim P true true f g k = f tt tt
 if-and-elim P true false f g k = g tt tt
 if-and-elim P false b f g k = k tt
 
-pub if-true {ℓ} : {A : Type ℓ} (b : Bool) (x y : A) → T b → (if b then x else y) ≡ x
-if-true true x y t = refl
-if-true false x y t = absurd t
-
 pub if-false {ℓ} : {A : Type ℓ} (b : Bool) (x y : A) → T (not b) → (if b then x else y) ≡ y
 if-false true x y t = absurd t
 if-false false x y t = refl

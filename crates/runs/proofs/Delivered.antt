@@ -52,7 +52,7 @@ module _ (b : List ℕ) (ok : Accepted b) where
     pub predecessor-small : (v : ℕ) → v < nodeCount b → at (stateAfter b k .predecessors) v < 268435456
     predecessor-small v l = predecessor-word well k v (rw (graph-nodes b) l)
 
-    -- "every count is below 2^56"
+    -- demand 3: every count is below 2^56
     pub counts-small : (i : ℕ) → i < 4 → at (counts (stateAfter b k)) i < 2 ^ 56
     counts-small zero l = counts-fit well few k .0
     counts-small (suc zero) l = counts-fit well few k .1
