@@ -7,7 +7,7 @@ use lib.ListN.{length, set, length-set}
 use Rattle.sheet.specs.Sections.{arcCount}
 use Rattle.sheet.specs.Arcs.{tail, head}
 use Rattle.arc_entries.specs.Arcs.{EndsEntered}
-use Rattle.indices.proofs.Entries.{Entered, entered-none, entered-kept, entered-more}
+use Rattle.indices.proofs.Entries.{Entered, entered-kept, entered-more}
 
 -- the arcs below a have their tails and heads
 pub record EnteringEnds (b arcs : List ℕ) (a : ℕ) : Type 0 where
@@ -15,9 +15,6 @@ pub record EnteringEnds (b arcs : List ℕ) (a : ℕ) : Type 0 where
   pub all : length arcs ≡ 4 * arcCount b
   pub tails : Entered (λ i. 4 * i + 0) (tail b) arcs a
   pub heads : Entered (λ i. 4 * i + 1) (head b) arcs a
-
-pub ends-none : (b arcs : List ℕ) → length arcs ≡ 4 * arcCount b → EnteringEnds b arcs 0
-ends-none b arcs e = record { within = omega arith; all = e; tails = entered-none _ _ arcs; heads = entered-none _ _ arcs }
 
 pub ends-more : {b arcs : List ℕ} {a t h : ℕ} → EnteringEnds b arcs a → a < arcCount b → t ≡ tail b a → h ≡ head b a
     → EnteringEnds b (set (set arcs (4 * a + 0) t) (4 * a + 1) h) (a + 1)

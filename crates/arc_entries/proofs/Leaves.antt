@@ -1,7 +1,7 @@
 -- Each leaf is entered in the row of its arc, where no two leaves are of one arc.
 use Prim.Native.Nat.{ℕ, zero, suc, _+_, _*_, _≤_, _<_}
 use mathlib.Core.Bool.{true, false, true≢false}
-use mathlib.Core.Path.{_≡_, refl, sym, ap, _∙_}
+use mathlib.Core.Path.{_≡_, sym, ap, _∙_}
 use mathlib.Core.Logic.{_≢_}
 use mathlib.Core.List.{List}
 use native.Mathlib.Omega.{arith}
@@ -19,9 +19,6 @@ pub record EnteringLeaves (d arcs₀ arcs : List ℕ) (k : ℕ) : Type 0 where
   pub long : length arcs ≡ length arcs₀
   pub leaves : (j : ℕ) → j < k → leafWord d j ≡ true → rowLeaf arcs (arcWord d j) ≡ suc j
   pub kept : (a i : ℕ) → i < 2 → field arcs a i ≡ field arcs₀ a i
-
-pub leaves-none : (d arcs : List ℕ) → EnteringLeaves d arcs arcs 0
-leaves-none d arcs = record { within = omega arith; long = refl; leaves = λ j h leaf. absurd (omega arith); kept = λ a i h. refl }
 
 -- there are as many rows as before
 pub leaves-ask : {d arcs₀ arcs : List ℕ} {k : ℕ} → LeavesApart d (rowCount arcs₀) → EnteringLeaves d arcs₀ arcs k → LeavesApart d (rowCount arcs)

@@ -1,5 +1,5 @@
--- The fronts of the slices lent are as long as what is laid in them asks. What is laid out in the fronts is laid out in the slices, but that the rows of the arcs
--- and the spans are their fronts; the graph's part and the division's are the whole.
+-- The fronts of the slices lent are as long as what is laid in them asks. What is laid out in the fronts is laid out in the slices, but that the rows of
+-- the arcs and the spans are their fronts; the graph's part and the division's are the whole.
 use Prim.Native.Nat.{ℕ, _+_, _*_, _≤_, _<_}
 use mathlib.Core.Path.{_≡_, ap, _∙_}
 use mathlib.Core.List.{List, _++_}

@@ -45,9 +45,9 @@ pub record Counting (d : Division) (rows : List ℕ) (c : ℕ) : Type 0 where
   pub counts : (r : ℕ) → r < regions d → field rows r 1 ≡ count (isChild d r) c
   pub ranks : (b : ℕ) → 0 < b → b < c → field rows b 3 ≡ lowerSiblings d b
 
-pub counting-start : {d : Division} {parents : List ℕ} (rows₀ rows : List ℕ) → ParentsOf d parents → length rows₀ ≡ 4 * regions d
+pub counting-start : {d : Division} {parents rows : List ℕ} (rows₀ : List ℕ) → ParentsOf d parents → length rows₀ ≡ 4 * regions d
     → rows ≡ replicate (length rows₀) 0 → Counting d rows 1
-counting-start {d} rows₀ rows P e f = record {
+counting-start {d} {parents} {rows} rows₀ P e f = record {
   above = omega arith;
   within = P .numbered .root;
   all = filled-length rows₀ rows 0 f ∙ e;
@@ -78,7 +78,7 @@ module _ {d : Division} {parents rows : List ℕ} {c : ℕ} (P : ParentsOf d par
   count-row = omega (arith, up-in, C .all)
 
   -- its parent had so many children below c
-  module _ (lower : ℕ) (el : lower ≡ field rows (at parents c) 1) where
+  module _ {lower : ℕ} (el : lower ≡ field rows (at parents c) 1) where
     lower-is : lower ≡ lowerSiblings d c
     unfolding up lowerSiblings
     lower-is = el ∙ C .counts up up-in ∙ ap (λ (r : ℕ). count (isChild d r) c) up-is
@@ -162,21 +162,21 @@ pub laying-start : {d : Division} {rows : List ℕ} → Ranked d rows → Laying
 laying-start {d} R = record { within = omega arith; ranked = R; next = sym (start-first d); starts = λ q l. absurd (omega arith) }
 
 module _ {d : Division} {rows : List ℕ} {start r : ℕ} (L : Laying d rows start r) (l : r < regions d) where
-  laying-next : (x : ℕ) → x ≡ field (set rows (4 * r + 2) start) r 1 → start + 2 * x ≡ treeStart d (suc r)
-  laying-next x e = omega (arith, e, counted-set r 2 start (omega arith) (omega arith) (L .ranked .counted) .counts r l, start-next d r, L .next)
+  laying-next : {x : ℕ} → x ≡ field (set rows (4 * r + 2) start) r 1 → start + 2 * x ≡ treeStart d (suc r)
+  laying-next e = omega (arith, e, counted-set r 2 start (omega arith) (omega arith) (L .ranked .counted) .counts r l, start-next d r, L .next)
 
-  pub laying-fits : (x : ℕ) → x ≡ field (set rows (4 * r + 2) start) r 1 → start + 2 * x < 65536
-  laying-fits x e = omega (arith, laying-next x e, start-next d r, tree-room d r, L .ranked .counted .numbered .few)
+  pub laying-fits : {x : ℕ} → x ≡ field (set rows (4 * r + 2) start) r 1 → start + 2 * x < 65536
+  laying-fits e = omega (arith, laying-next e, start-next d r, tree-room d r, L .ranked .counted .numbered .few)
 
-  pub laying-step : (x : ℕ) → x ≡ field (set rows (4 * r + 2) start) r 1 → Laying d (set rows (4 * r + 2) start) (start + 2 * x) (r + 1)
-  laying-step x e = rw (add-one r) (record {
+  pub laying-step : {x : ℕ} → x ≡ field (set rows (4 * r + 2) start) r 1 → Laying d (set rows (4 * r + 2) start) (start + 2 * x) (r + 1)
+  laying-step e = rw (add-one r) (record {
     within = l;
     ranked =
         record {
           counted = counted-set r 2 start (omega arith) (omega arith) (L .ranked .counted);
           ranks = λ c pos m. getD-set-other rows (4 * r + 2) (4 * c + 3) start 0 (omega arith) ∙ L .ranked .ranks c pos m;
         };
-    next = laying-next x e;
+    next = laying-next e;
     starts =
         λ q m.
         field-elim (λ z. z ≡ treeStart d q) rows r q 2 start (omega (arith, L .ranked .counted .all)) (λ s. rw s (L .next))
@@ -208,7 +208,7 @@ seating-start S = record {
 }
 
 -- region c is seated in the tree of its parent `up`
-module _ {d : Division} {rows : List ℕ} {c : ℕ} (S : Seating d rows c) (l : c < regions d) (up : ℕ) (parent-is : up ≡ parent d c) where
+module _ {d : Division} {rows : List ℕ} {c : ℕ} (S : Seating d rows c) (l : c < regions d) {up : ℕ} (parent-is : up ≡ parent d c) where
   parent-low : parent d c < regions d
   parent-low = omega (arith, S .counted .numbered .lower c (S .above) l)
 
@@ -216,7 +216,7 @@ module _ {d : Division} {rows : List ℕ} {c : ℕ} (S : Seating d rows c) (l : 
   seat-row = omega (arith, parent-is, parent-low, S .counted .all)
 
   -- at the number of the parent's children plus its rank
-  module _ (children rank : ℕ) (ec : children ≡ field rows up 1) (er : rank ≡ field rows c 3) where
+  module _ {children rank : ℕ} (ec : children ≡ field rows up 1) (er : rank ≡ field rows c 3) where
     p-is : children + rank ≡ seat d c
     unfolding seat
     p-is = omega (arith, ec, er, ap (λ (r : ℕ). field rows r 1) parent-is, S .counted .counts (parent d c) parent-low, S .ranks c (le-refl c) l)

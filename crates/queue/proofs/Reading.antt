@@ -15,7 +15,7 @@ use Rattle.tree_places.specs.Trees.{entry, childCount, IsMinKey, QueuesOk}
 use Rattle.tree_places.proofs.Seats.{tree-room}
 use Rattle.queue.proofs.Trees.{minItem-place, minItem-childless}
 
-module _ {d : Division} {rows keys winners : List ℕ} (Q : QueuesOk d rows keys winners) (r : ℕ) (inside : r < regions d) where
+module _ {d : Division} {rows keys winners : List ℕ} (Q : QueuesOk d rows keys winners) {r : ℕ} (inside : r < regions d) where
   -- its row says that r has no child
   pub item-none : field rows r 1 ≡ 0 → minItem d keys r ≡ 0
   item-none e = minItem-childless Q r (sym (Q .entered .laid .planned .counted .counts r inside) ∙ e)

@@ -69,7 +69,7 @@ module _ (d : Division) (winners : List ℕ) (room : 2 * regions d ≤ length wi
 -- A REGION'S PLACE, BY THE ROWS
 
 -- c's parent `up` has a row
-module _ {d : Division} {rows : List ℕ} (P : Planned d rows) (c up : ℕ) (pos : 0 < c) (inside : c < regions d) (over : up ≡ parent d c) where
+module _ {d : Division} {rows : List ℕ} {c up : ℕ} (P : Planned d rows) (pos : 0 < c) (inside : c < regions d) (over : up ≡ parent d c) where
   up-in : up < regions d
   up-in = omega (arith, over, P .counted .numbered .lower c pos inside)
 
@@ -84,7 +84,7 @@ pub record Lies (d : Division) (rows : List ℕ) (c up start p : ℕ) : Type 0 w
 
 module _ {d : Division} {rows : List ℕ} {c up start p : ℕ} (P : Planned d rows) (L : Lies d rows c up start p) (pos : 0 < c) (inside : c < regions d) where
   pub seat-at : start + p ≡ treeStart d (parent d c) + seat d c
-  seat-at = omega (arith, L .row, L .own, P .starts up (up-in P c up pos inside (L .over)), ap (treeStart d) (L .over), P .seats c pos inside)
+  seat-at = omega (arith, L .row, L .own, P .starts up (up-in P pos inside (L .over)), ap (treeStart d) (L .over), P .seats c pos inside)
 
   pub seat-inside : {winners : List ℕ} → LaidOut d rows winners → start + p < length winners
   seat-inside {winners} W = rw seat-at (place-in d winners (W .room) (parent d c) (seat d c) 0 (seat-high d (parent-child d c pos inside)))

@@ -11,7 +11,7 @@ use Rattle.sheet.specs.Regions.{regionCount, arcWord, parentWord, isLeaf, leafA
 use Rattle.sheet.proofs.Regions.{parent-of-word}
 use Rattle.slices.specs.Tables.{noArc}
 use Rattle.region_entries.specs.Regions.{Nested, ParentsEntered, arcInRow, ArcsEntered}
-use Rattle.indices.proofs.Entries.{Entered, entered-none, entered-kept, entered-more}
+use Rattle.indices.proofs.Entries.{Entered, entered-kept, entered-more}
 
 -- PARENTS
 
@@ -20,9 +20,6 @@ pub record EnteringParents (d parents : List ℕ) (k : ℕ) : Type 0 where
   pub within : k ≤ words d
   pub all : length parents ≡ regionCount d
   pub entries : Entered (λ j. j + 1) (parentWord d) parents k
-
-pub parents-none : (d parents : List ℕ) → length parents ≡ regionCount d → EnteringParents d parents 0
-parents-none d parents e = record { within = omega arith; all = e; entries = entered-none _ _ parents }
 
 pub parents-more : {d parents : List ℕ} {k p : ℕ} → EnteringParents d parents k → k < words d → p ≡ parentWord d k
     → EnteringParents d (set parents (k + 1) p) (k + 1)
@@ -72,9 +69,6 @@ pub record EnteringArcs (d rows : List ℕ) (r : ℕ) : Type 0 where
   pub all : length rows ≡ 2 * regionCount d
   pub arcs : Entered (λ q. 2 * q) (arcInRow d) rows r
   pub zeros : Entered (λ q. 2 * q + 1) (λ q. 0) rows r
-
-pub region-arcs-none : (d rows : List ℕ) → length rows ≡ 2 * regionCount d → EnteringArcs d rows 0
-region-arcs-none d rows e = record { within = omega arith; all = e; arcs = entered-none _ _ rows; zeros = entered-none _ _ rows }
 
 pub region-arcs-more : {d rows : List ℕ} {r a : ℕ} → EnteringArcs d rows r → r < regionCount d → a ≡ arcInRow d r
     → EnteringArcs d (set (set rows (2 * r) a) (2 * r + 1) 0) (r + 1)

@@ -41,12 +41,12 @@ inside c = omega (arith, c .loop-test .taken, entry c .pre .known .all)
 -- it and its parent have rows, and the parent's count can rise
 bounds : (c : After-children-of) → let pass = turn c in
     CountBounds (pass .before .loop .rows) (pass .before .loop .c) (at (entry pass .args .parents .now) (pass .before .loop .c)) (c .children-of .result)
-bounds c = count-bounds (entry (turn c) .pre .known) (counting (turn c)) (inside (turn c)) _ (c .children-of .ensures)
+bounds c = count-bounds (entry (turn c) .pre .known) (counting (turn c)) (inside (turn c)) (c .children-of .ensures)
 
 loop-holds : tie.Need-loop-holds Inv-loop μ-loop
 loop-holds c =
     let start : Start = search needs in
-    λ d Q. counting-start (start .args .rows .now) _ Q (omega (arith, start .pre .each-row, start .pre .known .all, Q .all)) (c .before .before .fill .ensures)
+    λ d Q. counting-start (start .args .rows .now) Q (omega (arith, start .pre .each-row, start .pre .known .all, Q .all)) (c .before .before .fill .ensures)
 
 children-of-requires : tie.Need-children-of-requires Inv-loop μ-loop
 children-of-requires c κs =
@@ -65,7 +65,7 @@ loop-again c =
     let parent : tie.After-set-field Inv-loop μ-loop = search needs in
     let rank : tie.After-set-field2 Inv-loop μ-loop = search needs in
     rw (c .before .before .set-field3 .ensures, rank .set-field2 .ensures, parent .set-field .ensures)
-    (λ d Q. counting-step Q (pass .before .loop .inv d Q) (omega (arith, pass .loop-test .taken, Q .all)) _ (counted .children-of .ensures))
+    (λ d Q. counting-step Q (pass .before .loop .inv d Q) (omega (arith, pass .loop-test .taken, Q .all)) (counted .children-of .ensures))
 
 same-length : tie.Need-same-length Inv-loop μ-loop
 same-length c =

@@ -26,7 +26,8 @@ abbrev turn : After-children-of → tie.In-loop Inv-loop μ-loop
 turn c = search needs
 
 -- the number of children is read in the rows with the tree's start
-read : (c : After-children-of) → let loop = turn c .before .loop in c .children-of .result ≡ field (set (loop .rows) (4 * loop .r + 2) (loop .start)) (loop .r) 1
+read : (c : After-children-of) → let loop = turn c .before .loop in
+    c .children-of .result ≡ field (set (loop .rows) (4 * loop .r + 2) (loop .start)) (loop .r) 1
 read c =
     let stored : tie.After-set-field Inv-loop μ-loop = search needs in
     c .children-of .ensures ∙ ap (λ (l : List ℕ). field l (turn c .before .loop .r) 1) (stored .set-field .ensures)
@@ -36,7 +37,7 @@ fits : (c : After-children-of) → turn c .before .loop .start + 2 * c .children
 fits c =
     let start : tie.Start Inv-loop μ-loop = search needs in
     let now = turn c .before .loop .inv .1 _ (start .pre .known) (start .pre .each-row) in
-    laying-fits now (omega (arith, turn c .loop-test .taken, start .pre .each-row)) (c .children-of .result) (read c)
+    laying-fits now (omega (arith, turn c .loop-test .taken, start .pre .each-row)) (read c)
 
 loop-again : tie.Need-loop-again Inv-loop μ-loop
 loop-again c =
@@ -44,7 +45,7 @@ loop-again c =
     let pass = turn c in (
       omega (arith, stored .set-field .kept, pass .before .loop .inv .0),
       rw (stored .set-field .ensures)
-          (λ d R e. laying-step (pass .before .loop .inv .1 d R e) (omega (arith, pass .loop-test .taken, e)) _ (read c)),
+          (λ d R e. laying-step (pass .before .loop .inv .1 d R e) (omega (arith, pass .loop-test .taken, e)) (read c)),
     )
 
 pub lay-trees-spec : {M : Type 1} → statement M

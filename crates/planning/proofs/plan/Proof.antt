@@ -29,7 +29,7 @@ lay-trees-requires : tie.Need-lay-trees-requires
 lay-trees-requires c κs =
     let done : tie.After-count-children = search needs in
     let pre = entry done .pre in
-    record { division = pre .division; known = done .count-children .ensures _ (pre .known); each-row = omega (arith, done .count-children .kept, pre .each-row) }
+    record { division = _; known = done .count-children .ensures _ (pre .known); each-row = omega (arith, done .count-children .kept, pre .each-row) }
 
 seat-children-requires : tie.Need-seat-children-requires
 seat-children-requires c κs =
@@ -37,7 +37,7 @@ seat-children-requires c κs =
     let done = counted laid in
     let pre = entry done .pre in
     record {
-      division = pre .division;
+      division = _;
       known = started laid _ (pre .known);
       each-row = omega (arith, laid .lay-trees .kept, done .count-children .kept, pre .each-row);
     }

@@ -43,7 +43,7 @@ add-place : tie.Need-add-place Inv-loop μ-loop
 add-place c =
     let up : After-parent-of = search needs in
     let children = c .before .before .children-of in
-    omega (arith, seat-fits (seating (turn up)) (inside (turn up)) _ (over up) (children .result) (c .seat-of .result) (children .ensures) (c .seat-of .ensures))
+    omega (arith, seat-fits (seating (turn up)) (inside (turn up)) (over up) (children .ensures) (c .seat-of .ensures))
 
 loop-again : tie.Need-loop-again Inv-loop μ-loop
 loop-again c =
@@ -57,7 +57,7 @@ loop-again c =
           (λ d S e.
           let S′ = loop .inv .1 d S e in
           let inside : loop .c < regions d = omega (arith, turn up .loop-test .taken, e) in
-          seating-step S′ inside _ (up .parent-of .ensures d (S′ .counted) inside) _ _ (children .children-of .ensures) (rank .seat-of .ensures)),
+          seating-step S′ inside (up .parent-of .ensures d (S′ .counted) inside) (children .children-of .ensures) (rank .seat-of .ensures)),
     )
 
 pub seat-children-spec : {M : Type 1} → statement M
@@ -69,7 +69,7 @@ seat-children-spec =
     (λ c. search needs)
     (λ c. (refl, λ d S _. seating-start S))
     (λ c κs. (_, seating (c .before) .counted, seating (c .before) .above, inside (c .before)))
-    (λ c κs. seat-row (seating (turn (c .before))) (inside (turn (c .before))) _ (over (c .before)))
+    (λ c κs. seat-row (seating (turn (c .before))) (inside (turn (c .before))) (over (c .before)))
     (λ c κs. search needs)
     add-place
     (λ c κs. search needs)

@@ -19,11 +19,11 @@ min-item-spec =
     tie.close
     (tie.spec
     (λ c κs. search needs)
-    (λ c d keys Q inside. sym (item-none Q _ inside (sym (c .before .children-of .ensures) ∙ c .if1 .taken)))
+    (λ c d keys Q inside. sym (item-none Q inside (sym (c .before .children-of .ensures) ∙ c .if1 .taken)))
     (λ c κs. search needs)
     (λ c. search needs)
     (λ c. search needs)
     (λ c. search needs)
-    (λ c. let pre = entry (c .before .before) .pre in first-in (pre .2) _ (pre .3) (some (search needs)) (c .before .start-of .ensures))
+    (λ c. let pre = entry (c .before .before) .pre in first-in (pre .2) (pre .3) (some (search needs)) (c .before .start-of .ensures))
     (λ c. search needs)
-    (λ c d keys Q inside. item-some Q _ inside (some (search needs)) (c .before .start-of .ensures)))
+    (λ c d keys Q inside. item-some Q inside (some (search needs)) (c .before .start-of .ensures)))

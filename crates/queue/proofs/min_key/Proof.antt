@@ -18,7 +18,7 @@ some c e = c .if1 .left (c .before .children-of .ensures ∙ e)
 
 returns : tie.Need-returns
 unfolding top
-returns c d keys Q inside = key-none Q _ inside (sym (c .before .children-of .ensures) ∙ c .if1 .taken)
+returns c d keys Q inside = key-none Q inside (sym (c .before .children-of .ensures) ∙ c .if1 .taken)
 
 pub min-key-spec : {M : Type 1} → statement M
 min-key-spec =
@@ -30,6 +30,6 @@ min-key-spec =
     (λ c. search needs)
     (λ c. search needs)
     (λ c. search needs)
-    (λ c. let pre = entry (c .before .before) .pre in first-in (pre .2) _ (pre .3) (some (search needs)) (c .before .start-of .ensures))
-    (λ c. let pre = entry (c .before .before) .pre in omega (arith, key-fits (pre .2) _ (pre .3) (some (search needs)) (c .before .start-of .ensures)))
-    (λ c d keys Q inside. key-some Q _ inside (some (search needs)) (c .before .start-of .ensures)))
+    (λ c. let pre = entry (c .before .before) .pre in first-in (pre .2) (pre .3) (some (search needs)) (c .before .start-of .ensures))
+    (λ c. let pre = entry (c .before .before) .pre in omega (arith, key-fits (pre .2) (pre .3) (some (search needs)) (c .before .start-of .ensures)))
+    (λ c d keys Q inside. key-some Q inside (some (search needs)) (c .before .start-of .ensures)))

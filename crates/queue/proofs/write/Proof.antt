@@ -62,7 +62,7 @@ lies c d keys Q = record { over = over (c .before .before) d keys Q; row = c .be
 start-of-requires : tie.Need-start-of-requires Inv-loop μ-loop
 start-of-requires c κs =
     let pre = entry c .pre in
-    up-row (pre .2 .entered .laid .planned) _ _ (pre .3) (pre .4) (over c _ _ (given (entry c)))
+    up-row (pre .2 .entered .laid .planned) (pre .3) (pre .4) (over c _ _ (given (entry c)))
 
 slice-write-winners : tie.Need-slice-write-winners Inv-loop μ-loop
 slice-write-winners c =
@@ -93,17 +93,15 @@ returns : tie.Need-returns Inv-loop μ-loop
 returns c =
     let pass : tie.In-loop Inv-loop μ-loop = search needs in
     let sibling : After-sibling = search needs in
-    let big : 1 < pass .before .loop .place = omega (arith, pass .loop-test .taken) in
     λ d keys Q inside.
-    repair-done (repairing (pass .before) d keys (Q, inside)) big (sibling .sibling .ensures) (c .before .before .lower .ensures) (c .if1 .taken)
+    repair-done (repairing (pass .before) d keys (Q, inside)) (pass .loop-test .taken) (sibling .sibling .ensures) (c .before .before .lower .ensures) (c .if1 .taken)
 
 loop-again : tie.Need-loop-again Inv-loop μ-loop
 loop-again c =
     let pass : tie.In-loop Inv-loop μ-loop = search needs in
-    let sibling : After-sibling = search needs in
-    let big : 1 < pass .before .loop .place = omega (arith, pass .loop-test .taken) in (
+    let sibling : After-sibling = search needs in (
       simp length-set (long (pass .before)),
-      λ d keys r R. repair-step (pass .before .loop .inv .1 d keys r R) big (sibling .sibling .ensures) (c .before .before .lower .ensures),
+      λ d keys r R. repair-step (pass .before .loop .inv .1 d keys r R) (pass .loop-test .taken) (sibling .sibling .ensures) (c .before .before .lower .ensures),
     )
 
 pub write-spec : {M : Type 1} → statement M
@@ -138,4 +136,4 @@ write-spec =
     (λ c. search needs)
     loop-again
     (λ c. long (c .before))
-    (λ c d keys Q inside. repair-end (repairing (c .before) d keys (Q, inside)) (omega (arith, c .loop-test .left))))
+    (λ c d keys Q inside. repair-end (repairing (c .before) d keys (Q, inside)) (c .loop-test .left)))

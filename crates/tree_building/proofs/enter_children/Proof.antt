@@ -62,7 +62,7 @@ parent-of-requires c κs =
 start-of-requires : tie.Need-start-of-requires Inv-loop μ-loop
 start-of-requires c κs =
     let L = given (entry (c .before)) in
-    up-row (L .0 .planned) _ _ (entering (c .before) _ L .above) (inside (c .before) _ L) (over c _ L)
+    up-row (L .0 .planned) (entering (c .before) _ L .above) (inside (c .before) _ L) (over c _ L)
 
 slice-write-winners : tie.Need-slice-write-winners Inv-loop μ-loop
 slice-write-winners c =
