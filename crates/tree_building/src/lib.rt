@@ -6,11 +6,12 @@ ghost use lib.ListN.{replicate};
 ghost use Rattle.sheet.specs.Words.{top};
 ghost use Rattle.procedure.specs.Division.{Division, regions};
 ghost use Rattle.tree_places.specs.Trees.{LaidOut, QueuesOk, Entered, ValidBelow};
+ghost use Rattle.tree_building.specs.Trees.{ToBuild};
 use sheet::Region;
 
 // Decides the places of r's tree, from the last one down.
 fn build_tree(rows: &[u16], winners: &mut [u64], r: Region)
-    requires { ⌜ ((d : Division) × (keys : List ℕ) × ValidBelow d (now rows) keys (now winners) (r .0) × (r .0 < regions d)) ⌝ }
+    requires { ⌜ ToBuild (now rows) (now winners) (r .0) ⌝ }
     ensures { λ _. ⌜ ((d : Division) (keys : List ℕ) → ValidBelow d (now (rows .entry)) keys (now (winners .entry)) (r .0) → r .0 < regions d
         → ValidBelow d (now (rows .entry)) keys (now (winners .exit)) (r .0 + 1)) ⌝ }
 {

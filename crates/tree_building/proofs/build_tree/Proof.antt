@@ -36,7 +36,7 @@ building c d keys B inside = c .loop .inv .1 d keys _ (building-start B inside (
 decide-requires : tie.Need-decide-requires Inv-loop μ-loop
 decide-requires c κs =
     let pre = entry (c .before .before) .pre in
-    building-in (building (c .before .before) _ _ (pre .2) (pre .3)) (c .before .loop-test .taken)
+    building-in (building (c .before .before) _ _ (pre .below) (pre .inside)) (c .before .loop-test .taken)
 
 loop-again : tie.Need-loop-again Inv-loop μ-loop
 loop-again c =

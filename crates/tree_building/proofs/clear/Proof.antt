@@ -4,9 +4,10 @@ use mathlib.Core.Path.{_≡_, refl}
 use mathlib.Core.List.{List}
 use borrow.Author.Needs.{needs}
 use native.Mathlib.Omega.{arith}
-use lib.ListN.{length}
+use lib.ListN.{length, replicate}
+use Rattle.sheet.specs.Words.{top}
 use Rattle.procedure.specs.Division.{Division, regions}
-use Rattle.tree_places.specs.Trees.{Entered, ValidBelow}
+use Rattle.tree_places.specs.Trees.{LaidOut, Entered, ValidBelow}
 use Rattle.tree_building.proofs.Building.{valid-none, valid-regions}
 use Rattle.tree_building.proofs.clear.Statement.{statement}
 use Rattle.tree_building.proofs.clear.Tie as tie
@@ -19,20 +20,27 @@ Inv-loop rows winners₀ count r₀ winners r =
 abbrev μ-loop : tie.MeasureT-loop
 μ-loop rows winners₀ count r₀ winners r = count - r
 
-abbrev After-enter-children : Type 0
-After-enter-children = tie.After-enter-children Inv-loop μ-loop
+abbrev Start : Type 0
+Start = tie.Start Inv-loop μ-loop
+
+abbrev At-loop : Type 0
+At-loop = tie.At-loop Inv-loop μ-loop
+
+abbrev entry : At-loop → Start
+entry c = search needs
+
+-- the trees below the loop's region are valid, with every key none, for a division that is laid out at the call
+valid : (c : At-loop) (d : Division) → LaidOut d (entry c .args .rows .now) (entry c .args .winners .now) → entry c .args .count ≡ regions d
+    → ValidBelow d (entry c .args .rows .now) (replicate (regions d) top) (c .loop .winners) (c .loop .r)
+valid c d L e =
+    let entered : tie.After-enter-children Inv-loop μ-loop = search needs in
+    c .loop .inv .1 d _ e (entered .enter-children .ensures d L e)
 
 build-tree-requires : tie.Need-build-tree-requires Inv-loop μ-loop
 build-tree-requires c κs =
-    let start : tie.Start Inv-loop μ-loop = search needs in
-    let entered : After-enter-children = search needs in
-    let pre = start .pre in
-    let pass = c .before in (
-      pre .0,
-      _,
-      pass .before .loop .inv .1 _ _ (pre .2) (entered .enter-children .ensures _ (pre .1) (pre .2)),
-      omega (arith, pass .loop-test .taken, pre .2),
-    )
+    let pass = c .before in
+    let pre = entry (pass .before) .pre in
+    record { division = _; keys = _; below = valid (pass .before) _ (pre .1) (pre .2); inside = omega (arith, pass .loop-test .taken, pre .2) }
 
 loop-again : tie.Need-loop-again Inv-loop μ-loop
 loop-again c =
@@ -42,11 +50,6 @@ loop-again c =
       omega (arith, build-tree .kept, inv .0),
       λ d keys e E. build-tree .ensures d keys (inv .1 d keys e E) (omega (arith, pass .loop-test .taken, e)),
     )
-
-returns : tie.Need-returns Inv-loop μ-loop
-returns c =
-    let entered : After-enter-children = search needs in
-    λ d L e. valid-regions (c .before .loop .inv .1 d _ e (entered .enter-children .ensures d L e)) (omega (arith, c .loop-test .left, e))
 
 pub clear-spec : {M : Type 1} → statement M
 clear-spec =
@@ -61,4 +64,4 @@ clear-spec =
     (λ c. search needs)
     loop-again
     (λ c. search needs)
-    returns)
+    (λ c d L e. valid-regions (valid (c .before) d L e) (omega (arith, c .loop-test .left, e))))
