@@ -32,6 +32,8 @@ use Rattle.region_entries.specs.Regions.{Nested, ParentsEntered, HeightsEntered
 use Rattle.layout.specs.Layout.{ArcsLaid}
 use Rattle.region_entries.proofs.Rows.{leaf-row, inner-row}
 
+-- THE ARCS
+
 -- the rows of the arcs before they are linked: the ends of each arc and its leaf
 pub record ArcsFilled (b arcRows : List ℕ) : Type 0 where
   pub all : length arcRows ≡ 4 * arcCount b
@@ -49,64 +51,62 @@ arcs-filled E e L all = record {
   leaves = (rw e at L) .leaves;
 }
 
-module _ (b : List ℕ) (ok : Accepted b) where
-  -- THE ARCS
+-- the leaves of an accepted sheet are of different arcs
+pub leaves-apart : (b : List ℕ) → Accepted b → {d : List ℕ} {m : ℕ} → d ≡ regionWords b → m ≡ arcCount b → LeavesApart d m
+leaves-apart b ok e all = rw e (record {
+  few = few-region-words b ok;
+  below = λ k l leaf. omega (arith, leaf-arc b ok k l leaf);
+  apart =
+      λ j k lj lk leaf-j leaf-k e.
+      let d = regionWords b in
+      let a = arcWord d k in
+      count-once (leafOfArc d a) (words d) (one-leaf b ok a (leaf-arc b ok k lk leaf-k)) j k lj lk
+      (and-both (leafWord d j) (eqb (arcWord d j) a) leaf-j (eq-eqb (arcWord d j) a e)) (and-both (leafWord d k) (eqb a a) leaf-k (eq-eqb a a refl));
+})
 
-  pub leaves-apart : {d : List ℕ} {m : ℕ} → d ≡ regionWords b → m ≡ arcCount b → LeavesApart d m
-  leaves-apart e all = rw e (record {
-    few = few-region-words b ok;
-    below = λ k l leaf. omega (arith, leaf-arc b ok k l leaf);
-    apart =
-        λ j k lj lk leaf-j leaf-k e.
-        let d = regionWords b in
-        let a = arcWord d k in
-        count-once (leafOfArc d a) (words d) (one-leaf b ok a (leaf-arc b ok k lk leaf-k)) j k lj lk
-        (and-both (leafWord d j) (eqb (arcWord d j) a) leaf-j (eq-eqb (arcWord d j) a e)) (and-both (leafWord d k) (eqb a a) leaf-k (eq-eqb a a refl));
-  })
+-- ends and leaves are entered: the rows can be linked, and once they are linked the arcs are laid
+module _ {b entered : List ℕ} (ok : Accepted b) (F : ArcsFilled b entered) where
+  pub linkable : {firsts : List ℕ} → length firsts ≡ nodeCount b → Linkable entered firsts
+  linkable e = record {
+    short = omega (arith, F .all, few-arcs b ok);
+    below =
+        λ a l.
+        let inside : a < arcCount b = omega (arith, F .all) in
+        omega (arith, F .tails a inside, tail-in b ok a inside, e);
+  }
 
-  -- ends and leaves are entered: the rows can be linked, and once they are linked the arcs are laid
-  module _ {entered : List ℕ} (F : ArcsFilled b entered) where
-    pub linkable : (firsts : List ℕ) → length firsts ≡ nodeCount b → Linkable entered firsts
-    linkable firsts e = record {
-      short = omega (arith, F .all, few-arcs b ok);
-      below =
-          λ a l.
-          let inside : a < arcCount b = omega (arith, F .all) in
-          omega (arith, F .tails a inside, tail-in b ok a inside, e);
+  -- the leaf of an arc is in its row
+  leaf-entered : (a : ℕ) → a < arcs (graphOf b) → rowLeaf entered a ≡ leafOf (divisionOf b) a
+  unfolding top
+  leaf-entered a l =
+      let r = leafOf (divisionOf b) a in
+      let there = accepted-well-formed b ok .division .arc-leaf a l in
+      let inside : r < regionCount (regionWords b) = omega (arith, there .0, division-regions b) in
+      let below : arcOf (divisionOf b) r < top = omega (arith, there .1, graph-arcs b, few-arcs b ok) in
+      let leaf = sym (division-leaf b r inside) ∙ lt-ltb (arcOf (divisionOf b) r) top below in
+      ap (rowLeaf entered) (sym (sym (division-arc b r inside) ∙ there .1)) ∙ F .leaves r inside leaf
+
+  module _ {linked firsts : List ℕ} (K : Linked entered linked firsts) (all : length linked ≡ 4 * arcCount b) (wide : length firsts ≡ nodeCount b) where
+    is-arc : (a : ℕ) → a < arcs (graphOf b) → a < arcCount b
+    is-arc a l = omega (arith, graph-arcs b)
+
+    arc-rows : ArcRows (graphOf b) (divisionOf b) linked
+    arc-rows = record {
+      all = omega (arith, all, graph-arcs b);
+      tails = λ a l. K .tails a ∙ F .tails a (is-arc a l) ∙ sym (graph-tail b a (is-arc a l));
+      heads = λ a l. K .heads a ∙ F .heads a (is-arc a l) ∙ sym (graph-head b a (is-arc a l));
+      leaves = λ a l. K .leaves a ∙ leaf-entered a l;
     }
 
-    -- the leaf of an arc is in its row
-    leaf-entered : (a : ℕ) → a < arcs (graphOf b) → rowLeaf entered a ≡ leafOf (divisionOf b) a
-    unfolding top
-    leaf-entered a l =
-        let r = leafOf (divisionOf b) a in
-        let there = accepted-well-formed b ok .division .arc-leaf a l in
-        let inside : r < regionCount (regionWords b) = omega (arith, there .0, division-regions b) in
-        let below : arcOf (divisionOf b) r < top = omega (arith, there .1, graph-arcs b, few-arcs b ok) in
-        let leaf = sym (division-leaf b r inside) ∙ lt-ltb (arcOf (divisionOf b) r) top below in
-        ap (rowLeaf entered) (sym (sym (division-arc b r inside) ∙ there .1)) ∙ F .leaves r inside leaf
+    pub arcs-laid : ArcsLaid (graphOf b) (divisionOf b) linked firsts
+    arcs-laid =
+        let count : rowCount entered ≡ arcs (graphOf b) = omega (arith, F .all, graph-arcs b) in
+        let nodes : length firsts ≡ graphOf b .nodes = wide ∙ sym (graph-nodes b) in
+        let links = links-same (rowTail entered) (rowTail linked) (λ a l. K .tails a) (K .links) in
+        record { arc-rows = arc-rows; links = record { all = omega (arith, nodes); linked = rw (count, nodes) at links } }
 
-    module _ {linked firsts : List ℕ} (K : Linked entered linked firsts) (all : length linked ≡ 4 * arcCount b) (wide : length firsts ≡ nodeCount b) where
-      is-arc : (a : ℕ) → a < arcs (graphOf b) → a < arcCount b
-      is-arc a l = omega (arith, graph-arcs b)
-
-      arc-rows : ArcRows (graphOf b) (divisionOf b) linked
-      arc-rows = record {
-        all = omega (arith, all, graph-arcs b);
-        tails = λ a l. K .tails a ∙ F .tails a (is-arc a l) ∙ sym (graph-tail b a (is-arc a l));
-        heads = λ a l. K .heads a ∙ F .heads a (is-arc a l) ∙ sym (graph-head b a (is-arc a l));
-        leaves = λ a l. K .leaves a ∙ leaf-entered a l;
-      }
-
-      pub arcs-laid : ArcsLaid (graphOf b) (divisionOf b) linked firsts
-      arcs-laid =
-          let count : rowCount entered ≡ arcs (graphOf b) = omega (arith, F .all, graph-arcs b) in
-          let nodes : length firsts ≡ graphOf b .nodes = wide ∙ sym (graph-nodes b) in
-          let links = links-same (rowTail entered) (rowTail linked) (λ a l. K .tails a) (K .links) in
-          record { arc-rows = arc-rows; links = record { all = omega (arith, nodes); linked = rw (count, nodes) at links } }
-
-  -- THE REGIONS
-
+-- THE REGIONS
+module _ (b : List ℕ) (ok : Accepted b) where
   pub nested : {d : List ℕ} → d ≡ regionWords b → Nested d
   nested e = rw e (record { few = few-region-words b ok; nesting = nesting b ok })
 

@@ -37,14 +37,14 @@ pub record ArcsEntered (d regionRows : List ℕ) : Type 0 where
   pub arcs : (r : ℕ) → r < regionCount d → arcEntry regionRows r ≡ arcInRow d r
   pub zeros : (r : ℕ) → r < regionCount d → heightEntry regionRows r ≡ 0
 
--- all that a height is settled from
-pub record HeightsLent (d parents regionRows : List ℕ) : Type 0 where
-  pub nested : Nested d
-  pub parents-in : ParentsEntered d parents
-  pub arcs-in : ArcsEntered d regionRows
-
 -- and with the heights
 pub record HeightsEntered (d regionRows : List ℕ) : Type 0 where
   pub all : length regionRows ≡ 2 * regionCount d
   pub arcs : (r : ℕ) → r < regionCount d → arcEntry regionRows r ≡ arcInRow d r
   pub heights : (r : ℕ) → r < regionCount d → heightEntry regionRows r ≡ height d r
+
+-- what the heights are entered from
+pub record HeightsLent (d parents regionRows : List ℕ) : Type 0 where
+  pub nested : Nested d
+  pub parents-in : ParentsEntered d parents
+  pub arcs-in : ArcsEntered d regionRows

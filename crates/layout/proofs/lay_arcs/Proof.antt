@@ -26,14 +26,14 @@ enter-leaves-requires c κs =
 link-requires : tie.Need-link-requires
 link-requires c κs =
     let entered : tie.After-enter-leaves = search needs in
-    linkable _ (entry entered .pre .accepted) (filled entered) _ (entry entered .pre .each-node)
+    linkable (entry entered .pre .accepted) (filled entered) (entry entered .pre .each-node)
 
 returns : tie.Need-returns
 returns c =
     let entered : tie.After-enter-leaves = search needs in
     let linked : tie.After-link = search needs in
     let lent = entry entered .pre in
-    arcs-laid _ (lent .accepted) (filled entered) (linked .link .ensures) (omega (arith, linked .link .kept, filled entered .all))
+    arcs-laid (lent .accepted) (filled entered) (linked .link .ensures) (omega (arith, linked .link .kept, filled entered .all))
     (omega (arith, linked .link .kept, lent .each-node))
 
 pub lay-arcs-spec : {M : Type 1} → statement M
