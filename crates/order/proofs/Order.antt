@@ -1,15 +1,14 @@
 -- Words of which each may follow the one before it are in the order of the sheet: the spans, the arcs in pairs, and then region words alone.
 -- By recursion on the words from the back of the order to its front.
 use Prim.Native.Nat.{ℕ, zero, suc, _+_, _-_, _*_, _/_, _<_, _≤_}
-use mathlib.Core.Bool.{Bool, true, false, not, _&&_, _||_}
+use mathlib.Core.Bool.{Bool, true, false, not, _&&_, _||_, or-true}
 use mathlib.Core.List.{List}
-use mathlib.Core.Logic.{_⊎_, inl, inr, ⊎-elim}
 use mathlib.Core.Path.{_≡_, refl, sym, ap, _∙_}
 use borrow.Author.Tests.{eqb-true, ne-eqb, lt-ltb, le-ltb}
 use native.Mathlib.Omega.{arith}
 use lib.Dec.{eqb}
 use Rattle.indices.specs.Tests.{any, lead}
-use Rattle.indices.proofs.Steps.{by-equal}
+use Rattle.indices.proofs.Steps.{by-equal, by-truth}
 use Rattle.indices.proofs.Tests.{any-ext, any-front, lead-ext, and-left, and-right}
 use Rattle.sheet.specs.Words.{words, kind}
 use Rattle.sheet.specs.Sections.{isSpan, spansFrom, spanCount, isArc, arcsFrom, arcsAt, arcCount, regionWords}
@@ -17,22 +16,18 @@ use Rattle.sheet.proofs.Bounds.{region-words, region-kind}
 use Rattle.refusals.specs.Form.{noRegionWord, outOfOrder}
 use Rattle.order.specs.Kinds.{regionKind, arcOrRegion, mayFollow, mayEnd, followOn}
 
--- REGION WORDS
-region-cases : (k : ℕ) → regionKind k ≡ true → (k ≡ 6) ⊎ (k ≡ 7)
-unfolding regionKind
-region-cases k e = at (eqb k 6) refl
-  where
-    at : (b : Bool) → eqb k 6 ≡ b → (k ≡ 6) ⊎ (k ≡ 7)
-    at true h = inl (eqb-true k 6 h)
-    at false h = inr (eqb-true k 7 (rw h at e))
+-- to prove P of a kind that is one of two, prove it of each
+by-kind {ℓ} : {P : Type ℓ} (k m n : ℕ) → eqb k m || eqb k n ≡ true → (k ≡ m → P) → (k ≡ n → P) → P
+by-kind k m n e one other = by-truth (eqb k m) (λ h. one (eqb-true k m h)) (λ h. other (eqb-true k n (rw h at e)))
 
+-- REGION WORDS
 pub region-follows : (before k : ℕ) → regionKind before ≡ true → mayFollow before k ≡ regionKind k
-unfolding mayFollow
-region-follows before k e = ⊎-elim (λ (h : before ≡ 6). rw h) (λ (h : before ≡ 7). rw h) (region-cases before e)
+unfolding mayFollow regionKind
+region-follows before k e = by-kind before 6 7 e (λ six. rw six) (λ seven. rw seven)
 
 region-ends : (before : ℕ) → regionKind before ≡ true → mayEnd before ≡ true
-unfolding mayEnd
-region-ends before e = ⊎-elim (λ (h : before ≡ 6). rw h) (λ (h : before ≡ 7). rw h) (region-cases before e)
+unfolding mayEnd regionKind
+region-ends before e = by-kind before 6 7 e (λ six. rw six) (λ seven. rw seven)
 
 -- a kind that is 6 or 7
 pub region-before : (before : ℕ) → 4 ≤ before → before < 8 → (before ≡ 4 → ⊥) → (before ≡ 5 → ⊥) → regionKind before ≡ true
@@ -61,23 +56,14 @@ abbrev regionsOnly : (ℕ → ℕ) → ℕ → Bool
 regionsOnly kinds n = not (any (λ i. not (regionKind (kinds i))) n)
 
 regions-front : (kinds : ℕ → ℕ) (n : ℕ) → regionsOnly kinds (suc n) ≡ regionKind (kinds 0) && regionsOnly (λ i. kinds (suc i)) n
-regions-front kinds n = rw (any-front (λ i. not (regionKind (kinds i))) n) (at (regionKind (kinds 0)) (any (λ i. not (regionKind (kinds (suc i)))) n))
-  where
-    at : (a b : Bool) → not (not a || b) ≡ a && not b
-    at true b = refl
-    at false b = refl
+regions-front kinds n = rw (any-front (λ i. not (regionKind (kinds i))) n) (by-truth (regionKind (kinds 0)) (λ h. rw h) (λ h. rw h))
 
 after-region : (before : ℕ) (kinds : ℕ → ℕ) (n : ℕ) → regionKind before ≡ true → followOn before kinds n ≡ regionsOnly kinds n
 unfolding followOn any
 after-region before kinds zero e = region-ends before e
 after-region before kinds (suc n) e =
     rw (region-follows before (kinds 0) e, regions-front kinds n)
-    (at (regionKind (kinds 0)) refl (λ h. after-region (kinds 0) (λ i. kinds (suc i)) n h))
-  where
-    at : (b : Bool) → regionKind (kinds 0) ≡ b → (regionKind (kinds 0) ≡ true → followOn (kinds 0) (λ i. kinds (suc i)) n ≡ regionsOnly (λ i. kinds (suc i)) n)
-        → b && followOn (kinds 0) (λ i. kinds (suc i)) n ≡ b && regionsOnly (λ i. kinds (suc i)) n
-    at true h ih = ih h
-    at false h ih = refl
+    (by-truth (regionKind (kinds 0)) (λ h. rw h (after-region (kinds 0) (λ i. kinds (suc i)) n h)) (λ h. rw h))
 
 -- ARCS
 abbrev arcAt : (ℕ → ℕ) → ℕ → Bool
@@ -133,27 +119,19 @@ lead-zero kinds n e = let half : suc (suc n) / 2 ≡ suc (n / 2) = omega arith i
 
 -- one word after an arc
 last-word : (k : ℕ) → arcOrRegion k && mayEnd k ≡ regionKind k
-unfolding arcOrRegion regionKind mayEnd
-last-word k = at (eqb k 4) refl (regionKind k) refl
-  where
-    at : (a : Bool) → eqb k 4 ≡ a → (b : Bool) → regionKind k ≡ b → (a || b) && mayEnd k ≡ b
-    at true e b h = rw (← h, eqb-true k 4 e)
-    at false e true h = region-ends k h
-    at false e false h = refl
+unfolding arcOrRegion mayEnd
+last-word k =
+    by-truth (regionKind k) (λ h. rw (h, or-true) (region-ends k h))
+    (λ h. by-truth (eqb k 4) (λ four. rw (h, eqb-true k 4 four)) (λ other. rw (h, other)))
 
 -- where no arc stands at the front, two words and more are in order if they are region words
 no-arc : (kinds : ℕ → ℕ) (n : ℕ) → arcAt kinds 0 ≡ false → followOn 5 kinds (suc (suc n)) ≡ regionsOnly kinds (suc (suc n))
 unfolding followOn mayFollow arcOrRegion
 no-arc kinds n e =
-    rw (regions-front kinds (suc n)) (at (regionKind (kinds 0)) refl (eqb (kinds 0) 4) refl (after-region (kinds 0) (λ i. kinds (suc i)) (suc n)))
-  where
-    at : (b : Bool) → regionKind (kinds 0) ≡ b → (a : Bool) → eqb (kinds 0) 4 ≡ a
-        → (regionKind (kinds 0) ≡ true → followOn (kinds 0) (λ i. kinds (suc i)) (suc n) ≡ regionsOnly (λ i. kinds (suc i)) (suc n))
-        → (a || b) && followOn (kinds 0) (λ i. kinds (suc i)) (suc n) ≡ b && regionsOnly (λ i. kinds (suc i)) (suc n)
-    at true h true g ih = ih h
-    at true h false g ih = ih h
-    at false h true g ih = let unpaired : eqb (kinds 1) 5 ≡ false = rw g at e in rw (eqb-true (kinds 0) 4 g, unpaired)
-    at false h false g ih = refl
+    rw (regions-front kinds (suc n))
+    (by-truth (regionKind (kinds 0)) (λ h. rw (h, or-true) (after-region (kinds 0) (λ i. kinds (suc i)) (suc n) h))
+    (λ h. by-truth (eqb (kinds 0) 4)
+    (λ four. let unpaired : eqb (kinds 1) 5 ≡ false = rw four at e in rw (h, eqb-true (kinds 0) 4 four, unpaired)) (λ other. rw (h, other))))
 
 -- an arc at the front, and the words behind it
 arc-first : (kinds : ℕ → ℕ) (n : ℕ) → arcAt kinds 0 ≡ true → followOn 5 kinds (suc (suc n)) ≡ followOn 5 (λ i. kinds (suc (suc i))) n
@@ -169,22 +147,15 @@ lead-short kinds = (refl, refl)
 
 regions-one : (kinds : ℕ → ℕ) → regionKind (kinds 0) ≡ regionsOnly kinds 1
 unfolding any
-regions-one kinds = at (regionKind (kinds 0))
-  where
-    at : (b : Bool) → b ≡ not (false || not b)
-    at true = refl
-    at false = refl
+regions-one kinds = by-truth (regionKind (kinds 0)) (λ h. rw h) (λ h. rw h)
 
 after-arc : (kinds : ℕ → ℕ) (n : ℕ) → followOn 5 kinds n ≡ arcsThenRegions kinds n
 unfolding followOn mayFollow mayEnd any
 after-arc kinds zero = sym (arcs-none kinds 0 (lead-short kinds .0))
 after-arc kinds (suc zero) = last-word (kinds 0) ∙ regions-one kinds ∙ sym (arcs-none kinds 1 (lead-short kinds .1))
-after-arc kinds (suc (suc n)) = at (arcAt kinds 0) refl (after-arc (λ i. kinds (suc (suc i))) n)
-  where
-    at : (b : Bool) → arcAt kinds 0 ≡ b → followOn 5 (λ i. kinds (suc (suc i))) n ≡ arcsThenRegions (λ i. kinds (suc (suc i))) n
-        → followOn 5 kinds (suc (suc n)) ≡ arcsThenRegions kinds (suc (suc n))
-    at true e ih = arc-first kinds n e ∙ ih ∙ sym (arcs-one kinds n e)
-    at false e ih = no-arc kinds n e ∙ sym (arcs-none kinds (suc (suc n)) (lead-zero kinds n e))
+after-arc kinds (suc (suc n)) =
+    by-truth (arcAt kinds 0) (λ arc. arc-first kinds n arc ∙ after-arc (λ i. kinds (suc (suc i))) n ∙ sym (arcs-one kinds n arc))
+    (λ none. no-arc kinds n none ∙ sym (arcs-none kinds (suc (suc n)) (lead-zero kinds n none)))
 
 -- SPANS
 -- how many spans stand at the front of n words, and that what is behind them is in order
@@ -196,11 +167,7 @@ spansThenArcs kinds n = arcsThenRegions (λ i. kinds (spansLead kinds n + i)) (n
 
 pub span-follows : (before k : ℕ) → eqb before 2 || eqb before 3 ≡ true → mayFollow before k ≡ eqb k 3 || arcOrRegion k
 unfolding mayFollow
-span-follows before k e = at (eqb before 2) refl
-  where
-    at : (b : Bool) → eqb before 2 ≡ b → mayFollow before k ≡ eqb k 3 || arcOrRegion k
-    at true h = rw (eqb-true before 2 h)
-    at false h = let three : before ≡ 3 = eqb-true before 3 (rw h at e) in rw three
+span-follows before k e = by-kind before 2 3 e (λ two. rw two) (λ three. rw three)
 
 -- a kind that is 2 or 3
 pub span-before : (before : ℕ) → before < 4 → (before ≡ 0 → ⊥) → (before ≡ 1 → ⊥) → eqb before 2 || eqb before 3 ≡ true
@@ -208,11 +175,7 @@ span-before before high zero′ one = by-equal before 2 (λ two. rw two) (λ oth
 
 span-ends : (before : ℕ) → eqb before 2 || eqb before 3 ≡ true → mayEnd before ≡ true
 unfolding mayEnd
-span-ends before e = at (eqb before 2) refl
-  where
-    at : (b : Bool) → eqb before 2 ≡ b → mayEnd before ≡ true
-    at true h = rw (eqb-true before 2 h)
-    at false h = let three : before ≡ 3 = eqb-true before 3 (rw h at e) in rw three
+span-ends before e = by-kind before 2 3 e (λ two. rw two) (λ three. rw three)
 
 spans-none : (kinds : ℕ → ℕ) (n : ℕ) → spansLead kinds n ≡ 0 → spansThenArcs kinds n ≡ followOn 5 kinds n
 unfolding spansThenArcs
@@ -241,13 +204,10 @@ after-span : (before : ℕ) (kinds : ℕ → ℕ) (n : ℕ) → eqb before 2 || 
 unfolding followOn mayFollow mayEnd
 after-span before kinds zero e = span-ends before e ∙ sym (spans-none kinds 0 (lead-no-words kinds))
 after-span before kinds (suc n) e =
-    rw (span-follows before (kinds 0) e) (at (eqb (kinds 0) 3) refl (after-span (kinds 0) (λ i. kinds (suc i)) n))
-  where
-    at : (b : Bool) → eqb (kinds 0) 3 ≡ b
-        → (eqb (kinds 0) 2 || eqb (kinds 0) 3 ≡ true → followOn (kinds 0) (λ i. kinds (suc i)) n ≡ spansThenArcs (λ i. kinds (suc i)) n)
-        → (b || arcOrRegion (kinds 0)) && followOn (kinds 0) (λ i. kinds (suc i)) n ≡ spansThenArcs kinds (suc n)
-    at true h ih = let three : kinds 0 ≡ 3 = eqb-true (kinds 0) 3 h in ih (rw three) ∙ sym (spans-one kinds n h)
-    at false h ih = sym (spans-none kinds (suc n) (lead-no-span kinds n h))
+    rw (span-follows before (kinds 0) e)
+    (by-truth (eqb (kinds 0) 3)
+    (λ h. let three : kinds 0 ≡ 3 = eqb-true (kinds 0) 3 h in rw h (after-span (kinds 0) (λ i. kinds (suc i)) n (rw three) ∙ sym (spans-one kinds n h)))
+    (λ h. rw h (sym (spans-none kinds (suc n) (lead-no-span kinds n h)))))
 
 -- THE WHOLE SHEET
 -- a sheet may not end at its front or after kind 1, and after a kind above that it may, but for kind 4
@@ -261,22 +221,15 @@ later-ends before l four = rw (ne-eqb before 0 (λ e. omega arith), ne-eqb befor
 
 from-front : (kinds : ℕ → ℕ) (n : ℕ) → followOn 0 kinds (suc (suc n)) ≡ eqb (kinds 0) 1 && (eqb (kinds 1) 2 && spansThenArcs (λ i. kinds (suc (suc i))) n)
 unfolding followOn mayFollow
-from-front kinds n = at (eqb (kinds 0) 1) refl (eqb (kinds 1) 2) refl (after-span (kinds 1) (λ i. kinds (suc (suc i))) n)
-  where
-    at : (a : Bool) → eqb (kinds 0) 1 ≡ a → (b : Bool) → eqb (kinds 1) 2 ≡ b
-        → (eqb (kinds 1) 2 || eqb (kinds 1) 3 ≡ true → followOn (kinds 1) (λ i. kinds (suc (suc i))) n ≡ spansThenArcs (λ i. kinds (suc (suc i))) n)
-        → a && (mayFollow (kinds 0) (kinds 1) && followOn (kinds 1) (λ i. kinds (suc (suc i))) n) ≡ a && (b && spansThenArcs (λ i. kinds (suc (suc i))) n)
-    at true h true g ih = rw (eqb-true (kinds 0) 1 h, g) (ih (rw g))
-    at true h false g ih = rw (eqb-true (kinds 0) 1 h, g)
-    at false h b g ih = refl
+from-front kinds n =
+    by-truth (eqb (kinds 0) 1)
+    (λ h. let one : kinds 0 ≡ 1 = eqb-true (kinds 0) 1 h in
+    by-truth (eqb (kinds 1) 2) (λ two. rw (one, two) (after-span (kinds 1) (λ i. kinds (suc (suc i))) n (rw two))) (λ other. rw (one, other)))
+    (λ h. rw h)
 
 too-short : (kinds : ℕ → ℕ) → (followOn 0 kinds 0 ≡ false) × (followOn 0 kinds 1 ≡ false)
 unfolding followOn mayFollow mayEnd
-too-short kinds = (refl, at (eqb (kinds 0) 1) refl)
-  where
-    at : (a : Bool) → eqb (kinds 0) 1 ≡ a → a && mayEnd (kinds 0) ≡ false
-    at true h = rw (eqb-true (kinds 0) 1 h)
-    at false h = refl
+too-short kinds = (refl, by-truth (eqb (kinds 0) 1) (λ h. rw (eqb-true (kinds 0) 1 h)) (λ h. rw h))
 
 short : (b : List ℕ) → words b < 2 → not (outOfOrder b) ≡ false
 unfolding outOfOrder
