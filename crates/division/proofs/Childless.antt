@@ -8,7 +8,7 @@ use native.Mathlib.Omega.{arith}
 use lib.ListN.{length, getD, replicate, length-set, length-replicate}
 use lib.Dec.{eqb}
 use Rattle.indices.specs.Tests.{count}
-use Rattle.indices.proofs.Steps.{by-equal}
+use Rattle.indices.proofs.Steps.{by-equal, by-truth}
 use Rattle.indices.proofs.Tests.{any-hit, any-false, count-hit, count-out-all}
 use Rattle.sheet.specs.Limits.{mostRegionWords}
 use Rattle.sheet.specs.Words.{words}
@@ -67,36 +67,30 @@ module _ (d : List ℕ) (ok : wrongParents d ≡ false) (few : words d ≤ mostR
   none-hands : (k : ℕ) → k < words d → count (childOf d (suc k)) (words d) ≡ 0 → handedTo (suc k) ≡ 0
   none-hands k lk none = handed-childless (parent d) (aboveOf d) (regionCount d) (suc (suc k)) (suc k) each
     where
-      no-child : (j : ℕ) → j < words d → (b : Bool) → childOf d (suc k) j ≡ b → childOf d (suc k) j ≡ false
-      no-child j lj true e = absurd (omega (arith, count-hit (childOf d (suc k)) j (words d) lj e))
-      no-child j lj false e = e
-
       each : (c : ℕ) → c < regionCount d → eqb (parent d c) (suc k) ≡ false
       each zero lc = ne-eqb (parent d 0) (suc k) (λ e. omega (arith, nests .alone))
-      each (suc j) lc = no-child j (omega arith) (childOf d (suc k) j) refl
+      each (suc j) lc =
+          by-truth (childOf d (suc k) j) (λ e. absurd (omega (arith, count-hit (childOf d (suc k)) j (words d) (omega arith) e))) (λ e. e)
 
   -- an inner region that holds 0 when its turn comes
   pub found-childless : {best : List ℕ} {r : ℕ} → Passed d best r → 0 < r → holdsNone d best r ≡ true → childlessRegions d ≡ true
   unfolding childlessRegions
   found-childless {best} {r = zero} t pos none = absurd (omega arith)
   found-childless {best} {r = suc k} t pos none =
+      let held : (getD best (suc k) 0 ≡ 0) × (leafWord d k ≡ false) = inner-none (getD best (suc k) 0) (leafWord d k) none in
       any-hit (childless d) k (words d) (omega arith)
-      (rw (held .1, eq-eqb (count (childOf d (suc k)) (words d)) 0 (count-out-all (childOf d (suc k)) (words d) (λ j lj. at j lj (childOf d (suc k) j) refl))))
-    where
-      held : (getD best (suc k) 0 ≡ 0) × (leafWord d k ≡ false)
-      held = inner-none (getD best (suc k) 0) (leafWord d k) none
-
-      at : (j : ℕ) → j < words d → (b : Bool) → childOf d (suc k) j ≡ b → childOf d (suc k) j ≡ false
-      at j lj true e = absurd (omega (arith, held .0, child-hands k j (omega arith) lj e, t .handed .entry (suc k) (omega arith)))
-      at j lj false e = e
+      (rw (
+        held .1,
+        eq-eqb (count (childOf d (suc k)) (words d)) 0 (count-out-all (childOf d (suc k)) (words d) (λ j lj.
+            by-truth (childOf d (suc k) j)
+            (λ e. absurd (omega (arith, held .0, child-hands k j (omega arith) lj e, t .handed .entry (suc k) (omega arith)))) (λ e. e))),
+      ))
 
   -- a region that is a leaf if it holds 0 is not childless
   has-child : (k : ℕ) → k < words d → (handedTo (suc k) ≡ 0 → leafWord d k ≡ true) → childless d k ≡ false
-  has-child k l settled = at (leafWord d k) refl
-    where
-      at : (b : Bool) → leafWord d k ≡ b → not b && eqb (count (childOf d (suc k)) (words d)) 0 ≡ false
-      at true leaf = refl
-      at false inner = ne-eqb (count (childOf d (suc k)) (words d)) 0 (λ e. true≢false (sym (settled (none-hands k l e)) ∙ inner))
+  has-child k l settled =
+      by-truth (leafWord d k) (λ leaf. rw leaf)
+      (λ inner. rw inner (ne-eqb (count (childOf d (suc k)) (words d)) 0 (λ e. true≢false (sym (settled (none-hands k l e)) ∙ inner))))
 
   -- what a region holds is a height at most
   pub passed-le : {best : List ℕ} {r : ℕ} → Passed d best r → getD best r 0 ≤ suc (regionCount d)
@@ -109,8 +103,8 @@ module _ (d : List ℕ) (ok : wrongParents d ≡ false) (few : words d ≤ mostR
     inside = omega arith;
     long = simp length-set (t .long);
     handed =
-        held-turn (isLeaf d) (parent d) (regionCount d) nests best (suc k) (parent d (suc k)) _ pos (omega arith) (omega arith)
-        (omega (arith, nests .lower (suc k) pos (omega arith))) refl settled refl (t .handed);
+        held-turn (isLeaf d) (parent d) (regionCount d) nests (t .handed) pos (omega arith) (omega arith)
+        (omega (arith, nests .lower (suc k) pos (omega arith))) settled;
     with-child = λ j lj mj. by-equal j k (λ e. rw e (has-child k (omega arith) (λ z. settled (t .handed .entry (suc k) (omega arith) ∙ z))))
         (λ ne. t .with-child j (omega arith) mj);
   }

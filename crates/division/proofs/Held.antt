@@ -7,6 +7,7 @@ use mathlib.Core.Path.{_≡_, refl, sym, ap, _∙_}
 use borrow.Author.Tests.{ne-eqb}
 use native.Mathlib.Omega.{arith}
 use lib.ListN.{length, getD, set}
+use Rattle.indices.proofs.Steps.{by-truth}
 use Rattle.sheet.specs.Heights.{Nesting, heightOf}
 use Rattle.sheet.proofs.Heights.{height-most, leaf-height}
 use Rattle.sheet.proofs.Handed.{handedFrom, Handed, handed-le, handed-childless, handed-suc, handed-turn, height-handed}
@@ -38,21 +39,18 @@ module _ (leaf : ℕ → Bool) (parent : ℕ → ℕ) (n : ℕ) where
 
     -- what a region holds is its height, where it is a leaf if it holds 0
     own-height : (r : ℕ) → r < n → (heldBy r ≡ 0 → leaf r ≡ true) → heldBy r ≡ heightOf leaf parent n r
-    own-height r lr settled = at (leaf r) refl
-      where
-        at : (b : Bool) → leaf r ≡ b → heldBy r ≡ heightOf leaf parent n r
-        at true lf =
-            handed-childless parent above n (suc r) r (λ c lc. ne-eqb (parent c) r (no-child r c lr lc lf))
-            ∙ sym (leaf-height leaf parent n nests r lr lf)
-        at false inner =
-            let held : (heldBy r ≡ 0 → ⊥) = λ z. true≢false (sym (settled z) ∙ inner) in
-            omega (arith, inner-high r lr inner)
+    own-height r lr settled =
+        by-truth (leaf r)
+        (λ lf. handed-childless parent above n (suc r) r (λ c lc. ne-eqb (parent c) r (no-child r c lr lc lf)) ∙ sym (leaf-height leaf parent n nests r lr lf))
+        (λ inner.
+        let held : (heldBy r ≡ 0 → ⊥) = λ z. true≢false (sym (settled z) ∙ inner) in
+        omega (arith, inner-high r lr inner))
 
-    -- region r hands up to its parent p
-    pub held-turn : (best : List ℕ) (r p x : ℕ) → 0 < r → r < n → r < length best → p < length best → p ≡ parent r
-        → (getD best r 0 ≡ 0 → leaf r ≡ true) → x ≡ max (getD best p 0) (getD best r 0 + 1) → Handed parent above n best r
-        → Handed parent above n (set best p x) (r - 1)
-    held-turn best r p x pos l lr lp ep settled ex t =
+    -- region r hands what it holds, and one more, to its parent
+    pub held-turn : {best : List ℕ} {r : ℕ} → Handed parent above n best r → 0 < r → r < n → r < length best → parent r < length best
+        → (getD best r 0 ≡ 0 → leaf r ≡ true)
+        → Handed parent above n (set best (parent r) (max (getD best (parent r) 0) (getD best r 0 + 1))) (r - 1)
+    held-turn {best} {r} t pos l lr lp settled =
         let held = t .entry r lr in
         let own : getD best r 0 ≡ heightOf leaf parent n r = held ∙ own-height r l (λ z. settled (held ∙ z)) in
-        handed-turn parent above n best r p x pos l lp ep (omega arith) t
+        handed-turn parent above n best r (parent r) _ pos l lp refl (omega arith) t

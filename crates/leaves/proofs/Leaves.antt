@@ -1,14 +1,14 @@
 -- The leaves of each arc number: refusal 12 does not apply where each of the arcs has one and no number beyond them has any.
 use Prim.Native.Nat.{ℕ, _<_, _≤_}
-use mathlib.Core.Bool.{Bool, true, false, not, _&&_, or-true}
+use mathlib.Core.Bool.{Bool, true, false, not, or-true}
 use mathlib.Core.List.{List}
 use mathlib.Core.Path.{_≡_, refl, sym, _∙_}
 use borrow.Author.Tests.{eqb-true, eq-eqb, ne-eqb, lt-ltb, le-ltb, le-leb, lt-leb, not-false}
 use native.Mathlib.Omega.{arith}
 use mir.Val.{boolByte}
-use lib.Dec.{ltb, leb, eqb}
+use lib.Dec.{ltb, eqb}
 use Rattle.indices.specs.Tests.{any, count}
-use Rattle.indices.proofs.Steps.{by-order}
+use Rattle.indices.proofs.Steps.{by-order, by-truth}
 use Rattle.indices.proofs.Tests.{and-left, and-right, any-at, any-hit, any-false, count-hit, count-some}
 use Rattle.sheet.specs.Words.{words}
 use Rattle.sheet.specs.Regions.{leafWord, arcWord}
@@ -72,15 +72,13 @@ module _ (d : List ℕ) where
         once a l = rw (eq-eqb (count (leafOfArc d a) (words d)) 1 (right a (omega arith) ∙ one-wanted a l))
 
         there : (k : ℕ) → k < words d → noSuchArc d arcs k ≡ false
-        there k l = at (leafWord d k) refl
-          where
-            at : (b : Bool) → leafWord d k ≡ b → b && leb arcs (arcWord d k) ≡ false
-            at true leaf =
-                by-order (arcWord d k) arcs (λ lt. lt-leb arcs (arcWord d k) lt)
-                (λ le. absurd (omega (
-                  arith,
-                  count-hit (leafOfArc d (arcWord d k)) k (words d) l (leaf-counts d k (arcWord d k) leaf refl),
-                  right (arcWord d k) (arc-below k),
-                  none-wanted (arcWord d k) le,
-                )))
-            at false inner = refl
+        there k l =
+            by-truth (leafWord d k)
+            (λ leaf. rw leaf (by-order (arcWord d k) arcs (λ lt. lt-leb arcs (arcWord d k) lt)
+            (λ le. absurd (omega (
+              arith,
+              count-hit (leafOfArc d (arcWord d k)) k (words d) l (leaf-counts d k (arcWord d k) leaf refl),
+              right (arcWord d k) (arc-below k),
+              none-wanted (arcWord d k) le,
+            )))))
+            (λ inner. rw inner)

@@ -1,11 +1,12 @@
 -- The pass over the kinds: what is left of it decides as the whole does.
 use Prim.Native.Nat.{ℕ, zero, suc, _+_, _-_, _<_, _≤_}
-use mathlib.Core.Bool.{Bool, true, false, cond, not, _&&_}
+use mathlib.Core.Bool.{Bool, true, false, not, _&&_}
 use mathlib.Core.List.{List}
 use mathlib.Core.Path.{_≡_, refl, sym, ap, _∙_}
 use borrow.Author.Tests.{ltb-true, ltb-false, not-false}
 use native.Mathlib.Omega.{arith}
 use lib.Dec.{ltb}
+use Rattle.indices.proofs.Steps.{by-truth}
 use Rattle.sheet.specs.declared.Cursor.{Cursor}
 use Rattle.sheet.specs.declared.Step.the-variants.{Word, End}
 use Rattle.sheet.specs.Words.{words, word, kindOf, kind}
@@ -21,14 +22,14 @@ pub record Stepped (b : List ℕ) (c : Cursor) (w : ℕ) (next : Cursor) : Type 
   pub moved : next .at ≡ c .at + 1
 
 pub step-word : (b : List ℕ) (c : Cursor) (w : ℕ) (next : Cursor) → stepAt b c ≡ Word w next → Stepped b c w next
-step-word b c w next e = go (ltb (c .at) (words b)) refl e
-  where
-    go : (t : Bool) → ltb (c .at) (words b) ≡ t → cond t (Word (word b (c .at)) (record { at = c .at + 1 })) End ≡ Word w next → Stepped b c w next
-    go true h e =
-        let after : Cursor = record { at = c .at + 1 } in
-        let same : after ≡ next = cc in
-        record { inside = ltb-true (c .at) (words b) h; read = cc; moved = ap (λ (x : Cursor). x .at) (sym same) }
-    go false h e = let z : _≡_ {A = ℕ} 0 1 = cc in absurd (omega arith)
+step-word b c w next e =
+    by-truth (ltb (c .at) (words b))
+    (λ h.
+    let after : Cursor = record { at = c .at + 1 } in
+    let read : Word (word b (c .at)) after ≡ Word w next = rw h at e in
+    let same : after ≡ next = cc in
+    record { inside = ltb-true (c .at) (words b) h; read = cc; moved = ap (λ (x : Cursor). x .at) (sym same) })
+    (λ h. let none : End ≡ Word w next = rw h at e in let z : _≡_ {A = ℕ} 0 1 = cc in absurd (omega arith))
 
 -- the kind that was read
 pub step-kind : {b : List ℕ} {c next : Cursor} {w k : ℕ} → Stepped b c w next → k ≡ kindOf w → k ≡ kind b (c .at)
@@ -36,11 +37,10 @@ unfolding kind
 step-kind st e = e ∙ ap kindOf (st .read)
 
 pub step-end : (b : List ℕ) (c : Cursor) → stepAt b c ≡ End → words b ≤ c .at
-step-end b c e = go (ltb (c .at) (words b)) refl e
-  where
-    go : (t : Bool) → ltb (c .at) (words b) ≡ t → cond t (Word (word b (c .at)) (record { at = c .at + 1 })) End ≡ End → words b ≤ c .at
-    go true h e = let z : _≡_ {A = ℕ} 0 1 = cc in absurd (omega arith)
-    go false h e = ltb-false (c .at) (words b) h
+step-end b c e =
+    by-truth (ltb (c .at) (words b))
+    (λ h. let some : Word (word b (c .at)) (record { at = c .at + 1 }) ≡ End = rw h at e in let z : _≡_ {A = ℕ} 0 1 = cc in absurd (omega arith))
+    (λ h. ltb-false (c .at) (words b) h)
 
 follow-ext : (before : ℕ) (kinds kinds′ : ℕ → ℕ) (n : ℕ) → ((i : ℕ) → kinds i ≡ kinds′ i) → followOn before kinds n ≡ followOn before kinds′ n
 unfolding followOn
@@ -103,8 +103,4 @@ module _ {b : List ℕ} {before at : ℕ} (p : Passing b before at) where
   pass-end l =
       let none : words b - at ≡ 0 = omega arith in
       let same : mayEnd before ≡ not (outOfOrder b) = rw none at (p .same) in
-      rw same (twice (outOfOrder b))
-    where
-      twice : (t : Bool) → not (not t) ≡ t
-      twice true = refl
-      twice false = refl
+      rw same (by-truth (outOfOrder b) (λ h. rw h) (λ h. rw h))
