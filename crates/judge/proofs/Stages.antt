@@ -46,13 +46,13 @@ module _ (b : List ℕ) (form : lowest (formRefusals b) accepted ≡ accepted) w
   later : judgement b ≡ lowest (countRefusals b) (lowest (arcRefusals b) (lowest (divisionRefusals (regionWords b) (arcCount b) (spanCount b)) accepted))
   later = staged b ∙ lowest-clear (formRefusals b) _ form
 
-  pub count-stops : (n : ℕ) → (n ≡ 0 → ⊥) → numbered n ≡ lowest (countRefusals b) accepted → numbered n ≡ judgement b
-  count-stops n ne e = stage-stops (countRefusals b) _ n ne e ∙ sym later
+  pub count-stops : {n : ℕ} → (n ≡ 0 → ⊥) → numbered n ≡ lowest (countRefusals b) accepted → numbered n ≡ judgement b
+  count-stops {n} ne e = stage-stops (countRefusals b) _ n ne e ∙ sym later
 
   module _ (count : lowest (countRefusals b) accepted ≡ accepted) where
-    pub arc-stops : (n : ℕ) → (n ≡ 0 → ⊥) → numbered n ≡ lowest (arcRefusals b) accepted → numbered n ≡ judgement b
-    arc-stops n ne e = stage-stops (arcRefusals b) _ n ne e ∙ sym (later ∙ lowest-clear (countRefusals b) _ count)
+    pub arc-stops : {n : ℕ} → (n ≡ 0 → ⊥) → numbered n ≡ lowest (arcRefusals b) accepted → numbered n ≡ judgement b
+    arc-stops {n} ne e = stage-stops (arcRefusals b) _ n ne e ∙ sym (later ∙ lowest-clear (countRefusals b) _ count)
 
-    pub division-decides : lowest (arcRefusals b) accepted ≡ accepted → (d : List ℕ) (arcs spans : ℕ) → d ≡ regionWords b → arcs ≡ arcCount b
+    pub division-decides : lowest (arcRefusals b) accepted ≡ accepted → {d : List ℕ} {arcs spans : ℕ} → d ≡ regionWords b → arcs ≡ arcCount b
         → spans ≡ spanCount b → lowest (divisionRefusals d arcs spans) accepted ≡ judgement b
-    division-decides arc d arcs spans ed ea es = rw (ed, ea, es) (sym (later ∙ lowest-clear (countRefusals b) _ count ∙ lowest-clear (arcRefusals b) _ arc))
+    division-decides arc ed ea es = rw (ed, ea, es) (sym (later ∙ lowest-clear (countRefusals b) _ count ∙ lowest-clear (arcRefusals b) _ arc))

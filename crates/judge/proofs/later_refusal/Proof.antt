@@ -46,8 +46,7 @@ returns-4 c =
     let past : tie.Else2 = search needs in
     let at = begun past .pre .0 in
     c .division-refusal .ensures
-    ∙ division-decides _ (formed (search needs)) (counted past) (arced (search needs)) _ _ _
-    (c .before .before .region-words .ensures) (at .arcs-all) (at .spans-all)
+    ∙ division-decides _ (formed (search needs)) (counted past) (arced (search needs)) (c .before .before .region-words .ensures) (at .arcs-all) (at .spans-all)
 
 pub later-refusal-spec : {M : Type 1} → statement M
 later-refusal-spec =
@@ -55,9 +54,9 @@ later-refusal-spec =
     (λ c κs. (c .before .pre .0, omega (arith, few-words (c .before .args .s .now) (c .before .pre .1))))
     returns
     (λ c κs. search needs)
-    (λ c. count-stops _ (formed (search needs)) _ (c .if2 .taken) (c .before .count-refusal .ensures))
+    (λ c. count-stops _ (formed (search needs)) (c .if2 .taken) (c .before .count-refusal .ensures))
     (λ c κs. (begun c .pre .0, count-arcs _ (counted c), count-nodes _ (counted c)))
-    (λ c. arc-stops _ (formed (search needs)) (counted (search needs)) _ (c .if3 .taken) (c .before .arc-refusal .ensures))
+    (λ c. arc-stops _ (formed (search needs)) (counted (search needs)) (c .if3 .taken) (c .before .arc-refusal .ensures))
     (λ c κs. search needs)
     (λ c. omega (arith, few-arcs (search needs)))
     division-refusal-requires
