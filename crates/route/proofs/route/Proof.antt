@@ -1,25 +1,17 @@
 -- `route` meets its contract: the sheet's refusal, or the answer for an accepted sheet.
 use mathlib.Core.Path.{sym, ap, _∙_}
+use borrow.Author.Needs.{needs}
 use Rattle.judge_answer.specs.Said.{said as saidByJudge}
 use Rattle.answers.proofs.Routes.{sheet-stops}
 use Rattle.found_route.proofs.Found.{left-refused}
 use Rattle.route.proofs.Stages.{left-after, answer-known}
-use borrow.Author.Needs.{needs}
 use Rattle.route.proofs.route.Statement.{statement}
 use Rattle.route.proofs.route.Tie as tie
 
-enum-told : tie.Need-enum-told
-enum-told c = search needs
-
-answer-requires : tie.Need-answer-requires
-answer-requires c κs =
-    let judge = c .before .before .before .judge in
-    sym (judge .ensures) ∙ ap saidByJudge (c .before .enum-told .given .1)
-
 returns : tie.Need-returns
 returns c =
-    let same = c .before .before .answer .ensures .0 in
-    (same, c .before .before .answer .ensures .1 ∙ left-after _ _ _ _ _ same, answer-known _ _ _ _ _ same)
+    let told = c .before .before .answer .ensures in
+    (told .0, told .1 ∙ left-after _ _ _ _ _ (told .0), answer-known _ _ _ _ _ (told .0))
 
 returns-2 : tie.Need-returns-2
 returns-2 c =
@@ -32,8 +24,8 @@ route-spec =
     tie.close
     (tie.spec
     (λ c κs. search needs)
-    enum-told
-    answer-requires
+    (λ c. search needs)
+    (λ c κs. sym (c .before .before .before .judge .ensures) ∙ ap saidByJudge (c .before .enum-told .given .1))
     (λ c. search needs)
     (λ c. search needs)
     returns
