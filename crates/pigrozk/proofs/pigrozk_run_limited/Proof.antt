@@ -4,19 +4,10 @@ use Rattle.pigrozk.proofs.Told.{same-code}
 use Rattle.pigrozk.proofs.pigrozk_run_limited.Statement.{statement}
 use Rattle.pigrozk.proofs.pigrozk_run_limited.Tie as tie
 
-run-limited-requires : tie.Need-run-limited-requires
-run-limited-requires c κs = search needs
-
-ran-code-requires : tie.Need-ran-code-requires
-ran-code-requires c κs = search needs
-
-same-length : tie.Need-same-length
-same-length c = search needs
-
 returns : tie.Need-returns
 returns c =
     let done = c .before .before .before .run-limited .ensures in
     (same-code (c .ran-code .ensures) (done .0), done .1, done .2)
 
 pub pigrozk-run-limited-spec : {M : Type 1} → statement M
-pigrozk-run-limited-spec = tie.close (tie.spec run-limited-requires ran-code-requires same-length returns)
+pigrozk-run-limited-spec = tie.close (tie.spec (λ c κs. search needs) (λ c κs. search needs) (λ c. search needs) returns)
