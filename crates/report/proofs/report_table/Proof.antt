@@ -1,7 +1,7 @@
 -- `report_table` meets its contract: the run leaves the table of its end, whose listing is written.
 use mathlib.Core.Path.{_≡_}
 use borrow.Author.Needs.{needs}
-use Rattle.report.specs.Report.{endTable}
+use Rattle.listing.specs.Printed.{endTable}
 use Rattle.report.proofs.Outcomes.{run-leaves}
 use Rattle.report.proofs.report_table.Statement.{statement}
 use Rattle.report.proofs.report_table.Tie as tie
