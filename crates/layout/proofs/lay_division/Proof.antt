@@ -1,8 +1,7 @@
 -- `lay_division` meets its contract: the fronts in use are as long as the parts of the division ask, and what is left of a slice stays.
 use borrow.Author.Needs.{needs}
-use mathlib.Core.Path.{_∙_}
+use mathlib.Core.Path.{sym, _∙_}
 use lib.Seq.{length-take-le}
-use Rattle.sizes.proofs.Parts.{part-length}
 use Rattle.layout.proofs.Fronts.{regions-lent, division-laid}
 use Rattle.layout.proofs.lay_division.Statement.{statement}
 use Rattle.layout.proofs.lay_division.Tie as tie
@@ -25,17 +24,17 @@ lay-division-spec =
     tie.close
     (tie.spec
     (λ c. search needs)
-    (λ c. search (needs, part-length))
+    (λ c. let start : tie.Start = search needs in sym (length-take-le _ _ (start .pre .span-room)))
     enter-spans-requires
     (λ c. search needs)
-    (λ c. search (needs, part-length))
+    (λ c. let start : tie.Start = search needs in sym (length-take-le _ _ (start .pre .in-use .few-regions)))
     (λ c. search needs)
     (λ c. search needs)
-    (λ c. search (needs, part-length))
+    (λ c. let start : tie.Start = search needs in sym (length-take-le _ _ (start .pre .row-room)))
     (λ c. search needs)
     (λ c. search needs)
-    (λ c. search (needs, part-length))
-    (λ c κs. search (needs, regions-lent))
+    (λ c. let start : tie.Start = search needs in sym (length-take-le _ _ (start .pre .region-room)))
+    (λ c κs. let start : tie.Start = search needs in regions-lent _ (start .pre) (start .pre .in-use .few-regions))
     (λ c. search needs)
     (λ c. search needs)
     (λ c. search needs)

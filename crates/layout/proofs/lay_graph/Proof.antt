@@ -1,9 +1,8 @@
 -- `lay_graph` meets its contract: the fronts in use are as long as the parts of the graph ask, and what is left of a slice stays.
 use borrow.Author.Needs.{needs}
-use mathlib.Core.Path.{_∙_}
+use mathlib.Core.Path.{sym, _∙_}
 use lib.Seq.{length-take-le}
 use Rattle.refusals.proofs.Accepted.{few-arcs}
-use Rattle.sizes.proofs.Parts.{part-length}
 use Rattle.layout.proofs.Fronts.{arcs-lent, graph-laid}
 use Rattle.layout.proofs.lay_graph.Statement.{statement}
 use Rattle.layout.proofs.lay_graph.Tie as tie
@@ -26,12 +25,12 @@ lay-graph-spec =
     (tie.spec
     (λ c. search needs)
     (λ c. search needs)
-    (λ c. search (needs, part-length))
+    (λ c. let start : tie.Start = search needs in sym (length-take-le _ _ (start .pre .arc-room)))
     (λ c. search needs)
-    (λ c. search (needs, part-length))
-    (λ c κs. search (needs, arcs-lent))
+    (λ c. let start : tie.Start = search needs in sym (length-take-le _ _ (start .pre .node-room)))
+    (λ c κs. let start : tie.Start = search needs in arcs-lent (start .pre))
     (λ c. search needs)
-    (λ c. search (needs, part-length))
+    (λ c. let start : tie.Start = search needs in sym (length-take-le _ _ (start .pre .length-room)))
     enter-lengths-requires
     (λ c. search needs)
     (λ c. search needs)
