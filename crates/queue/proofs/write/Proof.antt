@@ -45,14 +45,15 @@ abbrev called : At-loop → Start
 called c = search needs
 
 -- THE CHILD'S PLACE, for queues that are valid at the call, and for those given
-abbrev Valid : Start → Division → List ℕ → Type 0
-Valid s d keys = QueuesOk d (s .args .rows .now) keys (s .args .winners .now) × (s .args .child .0 < regions d)
+record Valid (s : Start) (d : Division) (keys : List ℕ) : Type 0 where
+  queues : QueuesOk d (s .args .rows .now) keys (s .args .winners .now)
+  inside : s .args .child .0 < regions d
 
 given : (s : Start) → Valid s (s .pre .0) (s .pre .1)
-given s = (s .pre .2, s .pre .4)
+given s = record { queues = s .pre .2; inside = s .pre .4 }
 
 over : (c : After-parent-of) (d : Division) (keys : List ℕ) → Valid (entry c) d keys → c .parent-of .result .0 ≡ parent d (entry c .args .child .0)
-over c d keys Q = c .parent-of .ensures d (Q .0 .entered .laid .planned .counted) (Q .1)
+over c d keys Q = c .parent-of .ensures d (Q .queues .entered .laid .planned .counted) (Q .inside)
 
 lies : (c : After-seat-of) → let up = c .before .before in
     (d : Division) (keys : List ℕ) → Valid (entry up) d keys
@@ -61,14 +62,14 @@ lies c d keys Q = record { over = over (c .before .before) d keys Q; row = c .be
 
 start-of-requires : tie.Need-start-of-requires Inv-loop μ-loop
 start-of-requires c κs =
-    let pre = entry c .pre in
-    up-row (pre .2 .entered .laid .planned) (pre .3) (pre .4) (over c _ _ (given (entry c)))
+    let Q = given (entry c) in
+    up-row (Q .queues .entered .laid .planned) (entry c .pre .3) (Q .inside) (over c _ _ Q)
 
 slice-write-winners : tie.Need-slice-write-winners Inv-loop μ-loop
 slice-write-winners c =
     let start : Start = search needs in
-    let laid = start .pre .2 .entered .laid in
-    seat-inside (laid .planned) (lies (c .before) _ _ (given start)) (start .pre .3) (start .pre .4) laid
+    let Q = given start in
+    seat-inside (Q .queues .entered .laid .planned) (lies (c .before) _ _ Q) (start .pre .3) (Q .inside) (Q .queues .entered .laid)
 
 -- THE REPAIR has come to the loop's place
 repairing : (c : At-loop) → let args = called c .args in
@@ -77,7 +78,7 @@ repairing : (c : At-loop) → let args = called c .args in
     (seated c .before .start-of .result) (c .loop .place) (c .loop .best)
 repairing c d keys Q =
     c .loop .inv .1 d _ _
-    (repair-start _ (Q .0) (lies (seated c) d keys Q) (called c .pre .3) (Q .1) (omega (arith, called c .fits)) (c .before .entry-of .ensures))
+    (repair-start _ (Q .queues) (lies (seated c) d keys Q) (called c .pre .3) (Q .inside) (omega (arith, called c .fits)) (c .before .entry-of .ensures))
 
 long : (c : At-loop) → length (c .loop .winners) ≡ length (called c .args .winners .now)
 long c = simp length-set at (c .loop .inv .0)
@@ -94,14 +95,16 @@ returns c =
     let pass : tie.In-loop Inv-loop μ-loop = search needs in
     let sibling : After-sibling = search needs in
     λ d keys Q inside.
-    repair-done (repairing (pass .before) d keys (Q, inside)) (pass .loop-test .taken) (sibling .sibling .ensures) (c .before .before .lower .ensures) (c .if1 .taken)
+    let R = repairing (pass .before) d keys (record { queues = Q; inside = inside }) in
+    repair-done R (pass .loop-test .taken) (sibling .sibling .ensures) (c .before .before .lower .ensures) (c .if1 .taken)
 
 loop-again : tie.Need-loop-again Inv-loop μ-loop
 loop-again c =
     let pass : tie.In-loop Inv-loop μ-loop = search needs in
     let sibling : After-sibling = search needs in (
       simp length-set (long (pass .before)),
-      λ d keys r R. repair-step (pass .before .loop .inv .1 d keys r R) (pass .loop-test .taken) (sibling .sibling .ensures) (c .before .before .lower .ensures),
+      λ d keys r R.
+          repair-step (pass .before .loop .inv .1 d keys r R) (pass .loop-test .taken) (sibling .sibling .ensures) (c .before .before .lower .ensures),
     )
 
 pub write-spec : {M : Type 1} → statement M
@@ -136,4 +139,4 @@ write-spec =
     (λ c. search needs)
     loop-again
     (λ c. long (c .before))
-    (λ c d keys Q inside. repair-end (repairing (c .before) d keys (Q, inside)) (c .loop-test .left)))
+    (λ c d keys Q inside. repair-end (repairing (c .before) d keys (record { queues = Q; inside = inside })) (c .loop-test .left)))

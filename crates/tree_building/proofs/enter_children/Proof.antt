@@ -34,20 +34,21 @@ abbrev entry : In-loop → Start
 entry c = search needs
 
 -- THE LOOP'S REGION, for a division that is laid out at the call, and for the given one
-abbrev Laid : Start → Division → Type 0
-Laid s d = LaidOut d (s .args .rows .now) (s .args .winners .now) × (s .args .count ≡ regions d)
+record Laid (s : Start) (d : Division) : Type 0 where
+  trees : LaidOut d (s .args .rows .now) (s .args .winners .now)
+  all : s .args .count ≡ regions d
 
 given : (s : Start) → Laid s (s .pre .0)
-given s = (s .pre .1, s .pre .2)
+given s = record { trees = s .pre .1; all = s .pre .2 }
 
 entering : (c : In-loop) (d : Division) → Laid (entry c) d → Entering d (entry c .args .rows .now) (c .before .loop .winners) (c .before .loop .c)
-entering c d L = c .before .loop .inv .1 d (L .0) (L .1)
+entering c d L = c .before .loop .inv .1 d (L .trees) (L .all)
 
 inside : (c : In-loop) (d : Division) → Laid (entry c) d → c .before .loop .c < regions d
-inside c d L = omega (arith, c .loop-test .taken, L .1)
+inside c d L = omega (arith, c .loop-test .taken, L .all)
 
 over : (c : After-parent-of) (d : Division) → Laid (entry (c .before)) d → c .parent-of .result .0 ≡ parent d (c .before .before .loop .c)
-over c d L = c .parent-of .ensures d (L .0 .planned .counted) (inside (c .before) d L)
+over c d L = c .parent-of .ensures d (L .trees .planned .counted) (inside (c .before) d L)
 
 lies : (c : After-seat-of) → let up = c .before .before in
     (d : Division) → Laid (entry (up .before)) d
@@ -57,24 +58,26 @@ lies c d L = record { over = over (c .before .before) d L; row = c .before .star
 parent-of-requires : tie.Need-parent-of-requires Inv-loop μ-loop
 parent-of-requires c κs =
     let L = given (entry c) in
-    (_, L .0 .planned .counted, entering c _ L .above, inside c _ L)
+    (_, L .trees .planned .counted, entering c _ L .above, inside c _ L)
 
 start-of-requires : tie.Need-start-of-requires Inv-loop μ-loop
 start-of-requires c κs =
     let L = given (entry (c .before)) in
-    up-row (L .0 .planned) (entering (c .before) _ L .above) (inside (c .before) _ L) (over c _ L)
+    up-row (L .trees .planned) (entering (c .before) _ L .above) (inside (c .before) _ L) (over c _ L)
 
 slice-write-winners : tie.Need-slice-write-winners Inv-loop μ-loop
 slice-write-winners c =
     let pass : In-loop = search needs in
     let L = given (entry pass) in
-    seat-inside (L .0 .planned) (lies (c .before) _ L) (entering pass _ L .above) (inside pass _ L) (entering pass _ L .laid)
+    seat-inside (L .trees .planned) (lies (c .before) _ L) (entering pass _ L .above) (inside pass _ L) (entering pass _ L .laid)
 
 loop-again : tie.Need-loop-again Inv-loop μ-loop
 loop-again c =
     let pass : In-loop = search needs in (
       simp length-set (pass .before .loop .inv .0),
-      λ d L e. entering-step (entering pass d (L, e)) (inside pass d (L, e)) (lies (c .before) d (L, e)) (c .entry-of .ensures),
+      λ d T e.
+          let L : Laid (entry pass) d = record { trees = T; all = e } in
+          entering-step (entering pass d L) (inside pass d L) (lies (c .before) d L) (c .entry-of .ensures),
     )
 
 pub enter-children-spec : {M : Type 1} → statement M
