@@ -10,15 +10,14 @@ use lib.Dec.{eqb}
 use Rattle.indices.specs.Tests.{count}
 use Rattle.indices.proofs.Steps.{by-equal, by-truth}
 use Rattle.indices.proofs.Tests.{any-hit, any-false, count-hit, count-out-all}
-use Rattle.sheet.specs.Limits.{mostRegionWords}
 use Rattle.sheet.specs.Words.{words}
 use Rattle.sheet.specs.Heights.{Nesting}
 use Rattle.sheet.specs.Regions.{regionCount, leafWord, isLeaf, parent, height}
 use Rattle.sheet.proofs.Heights.{child-after}
 use Rattle.sheet.proofs.Handed.{Handed, handed-start, handed-ge, handed-childless}
-use Rattle.refusals.specs.Nesting.{wrongParents, childOf, childless, childlessRegions}
+use Rattle.refusals.specs.Nesting.{childOf, childless, childlessRegions}
 use Rattle.refusals.proofs.Parents.{nesting}
-use Rattle.region_turn.specs.Turn.{handedUp, holdsNone}
+use Rattle.region_turn.specs.Turn.{Passable, handedUp, holdsNone}
 use Rattle.division.proofs.Held.{above, heldBy, held-le, inner-high, held-turn}
 
 -- what the test at a region's turn tells
@@ -49,9 +48,9 @@ passed-start d r e = record {
   with-child = λ k l m. absurd (omega arith);
 }
 
-module _ (d : List ℕ) (ok : wrongParents d ≡ false) (few : words d ≤ mostRegionWords) where
+module _ {d : List ℕ} (ok : Passable d) where
   nests : Nesting (isLeaf d) (parent d) (regionCount d)
-  nests = nesting d ok few
+  nests = nesting d (ok .parents) (ok .few)
 
   -- what the regions above r hand to r
   abbrev handedTo : ℕ → ℕ

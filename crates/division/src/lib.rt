@@ -8,15 +8,16 @@ ghost use Rattle.sheet.specs.Limits.{mostArcs, mostRegionWords};
 ghost use Rattle.sheet.specs.Words.{words};
 ghost use Rattle.sheet.specs.Regions.{height};
 ghost use Rattle.sheet.specs.Answer.{numbered, accepted, lowest};
-ghost use Rattle.refusals.specs.Nesting.{wrongParents, childlessRegions};
+ghost use Rattle.refusals.specs.Nesting.{childlessRegions};
 ghost use Rattle.refusals.specs.Judgement.{divisionRefusals};
+ghost use Rattle.region_turn.specs.Turn.{Passable};
 ghost use Rattle.division.specs.Nesting.{nestingRefusals};
 use sheet::Region;
 
 // Refusal 13, in one pass from the last region back, where refusal 11 does not apply. Each region hands its height and one more to its parent, which keeps
 // the largest, so that a region whose turn comes with 0 has no child.
 fn childless_regions(d: &[u8], best: &mut [u16; 4096]) -> bool
-    requires { ⌜ (words (now d) ≤ mostRegionWords) × (wrongParents (now d) ≡ false) × (now best ≡ replicate 4096 0) ⌝ }
+    requires { ⌜ Passable (now d) × (now best ≡ replicate 4096 0) ⌝ }
     ensures { λ r. ⌜ (r ≡ childlessRegions (now (d .entry))) × (r ≡ false → max 1 (getD (now (best .exit)) 0 0) ≡ height (now (d .entry)) 0) ⌝ }
 {
     let mut r = (d.len() / 4) as u16;
@@ -31,7 +32,7 @@ fn childless_regions(d: &[u8], best: &mut [u16; 4096]) -> bool
 
 // Refusals 13 and 14, where refusal 11 does not apply: the number, or 0.
 fn nesting_refusal(d: &[u8], spans: usize) -> u8
-    requires { ⌜ (words (now d) ≤ mostRegionWords) × (wrongParents (now d) ≡ false) ⌝ }
+    requires { ⌜ Passable (now d) ⌝ }
     ensures { λ r. ⌜ numbered r ≡ lowest (nestingRefusals (now (d .entry)) spans) accepted ⌝ }
 {
     let mut best = [0u16; 4096];

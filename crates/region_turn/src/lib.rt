@@ -4,10 +4,8 @@ ghost use mathlib.Core.Path.{_≡_};
 ghost use mathlib.Core.Bool.{true, false};
 ghost use Prim.Native.Nat.{max, _≤_, _<_};
 ghost use lib.ListN.{getD};
-ghost use Rattle.sheet.specs.Limits.{mostRegionWords};
 ghost use Rattle.sheet.specs.Words.{words};
-ghost use Rattle.refusals.specs.Nesting.{wrongParents};
-ghost use Rattle.region_turn.specs.Turn.{raised, handedUp, holdsNone};
+ghost use Rattle.region_turn.specs.Turn.{Passable, raised, handedUp, holdsNone};
 use sheet::Region;
 
 // The larger of two numbers.
@@ -31,8 +29,7 @@ fn hand_to(best: &mut [u16; 4096], r: Region, x: u16)
 
 // The turn of region r: whether it is inner and holds 0. If not, it hands what it holds and one more to its parent; if so, nothing is handed up.
 pub fn without_child(d: &[u8], best: &mut [u16; 4096], r: Region) -> bool
-    requires { ⌜ (0 < r .0) × (r .0 ≤ words (now d)) × (words (now d) ≤ mostRegionWords) × (wrongParents (now d) ≡ false)
-        × (getD (now best) (r .0) 0 < 65535) ⌝ }
+    requires { ⌜ Passable (now d) × (0 < r .0) × (r .0 ≤ words (now d)) × (getD (now best) (r .0) 0 < 65535) ⌝ }
     ensures { λ x. ⌜ (x ≡ holdsNone (now (d .entry)) (now (best .entry)) (r .0))
         × (x ≡ false → now (best .exit) ≡ handedUp (now (d .entry)) (now (best .entry)) (r .0))
         × (x ≡ true → now (best .exit) ≡ now (best .entry)) ⌝ }

@@ -23,7 +23,7 @@ Turn = tie.At-loop Inv-loop μ-loop
 without-child-requires : tie.Need-without-child-requires Inv-loop μ-loop
 without-child-requires c κs =
     let start : Start = search needs in
-    let held = passed-le _ (start .pre .1) (start .pre .0) (c .before .before .loop .inv) in
+    let held = passed-le (start .pre .0) (c .before .before .loop .inv) in
     search needs
 
 returns : tie.Need-returns Inv-loop μ-loop
@@ -31,21 +31,21 @@ returns c =
     let start : Start = search needs in
     let turn : Turn = search needs in
     let none = sym (c .before .without-child .ensures .0) ∙ c .if1 .taken in
-    (sym (found-childless _ (start .pre .1) (start .pre .0) (turn .loop .inv) (omega arith) none), λ e. absurd (true≢false e))
+    (sym (found-childless (start .pre .0) (turn .loop .inv) (omega arith) none), λ e. absurd (true≢false e))
 
 loop-again : tie.Need-loop-again Inv-loop μ-loop
 loop-again c =
     let start : Start = search needs in
     let turn : Turn = search needs in
     let told = c .before .without-child .ensures in
-    rw (told .1 (c .if1 .left)) (passed-turn _ (start .pre .1) (start .pre .0) (turn .loop .inv) (omega arith) (sym (told .0) ∙ c .if1 .left))
+    rw (told .1 (c .if1 .left)) (passed-turn (start .pre .0) (turn .loop .inv) (omega arith) (sym (told .0) ∙ c .if1 .left))
 
 returns-2 : tie.Need-returns-2 Inv-loop μ-loop
 returns-2 c =
     let start : Start = search needs in
     let done : c .before .loop .r ≡ 0 = omega arith in
     let all : Passed (start .args .d .now) (c .before .loop .best) 0 = rw done at (c .before .loop .inv) in
-    (sym (all-passed _ (start .pre .1) (start .pre .0) all), λ _. root-height _ (start .pre .1) (start .pre .0) all)
+    (sym (all-passed (start .pre .0) all), λ _. root-height (start .pre .0) all)
 
 pub childless-regions-spec : {M : Type 1} → statement M
 childless-regions-spec =
@@ -53,7 +53,7 @@ childless-regions-spec =
     Inv-loop
     μ-loop
     (λ c. omega arith)
-    (λ c. rw (c .before .pre .2) (passed-start _ _ (omega arith)))
+    (λ c. rw (c .before .pre .1) (passed-start _ _ (omega arith)))
     without-child-requires
     returns
     (λ c. omega arith)
