@@ -5,18 +5,12 @@ use lib.ListN.{length}
 use Rattle.cases.proofs.print_words.Statement.{statement}
 use Rattle.cases.proofs.print_words.Tie as tie
 
-abbrev Inv-loop : tie.InvT-loop
-Inv-loop words i₀ i = Unit {0}
-
-abbrev μ-loop : tie.MeasureT-loop
-μ-loop words i₀ i = length words - i
-
 pub print-words-spec : {M : Type 1} → statement M
 print-words-spec =
     tie.close
     (tie.spec
-    Inv-loop
-    μ-loop
+    (λ words i₀ i. Unit {0})
+    (λ words i₀ i. length words - i)
     (λ c. search needs)
     (λ c. search needs)
     (λ c. search needs)

@@ -5,18 +5,12 @@ use lib.ListN.{length}
 use Rattle.cases.proofs.take_block.Statement.{statement}
 use Rattle.cases.proofs.take_block.Tie as tie
 
-abbrev Inv-loop : tie.InvT-loop
-Inv-loop line₀ digits block digits₀ i₀ line digits' i = Unit {0}
-
-abbrev μ-loop : tie.MeasureT-loop
-μ-loop line₀ digits block digits₀ i₀ line digits' i = length block - i
-
 pub take-block-spec : {M : Type 1} → statement M
 take-block-spec =
     tie.close
     (tie.spec
-    Inv-loop
-    μ-loop
+    (λ line₀ digits block digits₀ i₀ line digits' i. Unit {0})
+    (λ line₀ digits block digits₀ i₀ line digits' i. length block - i)
     (λ c. search needs)
     (λ c. search needs)
     (λ c κs. search needs)

@@ -8,19 +8,13 @@ use Rattle.node_lines.proofs.NodeLines.{line-room, line-more, all-lines
 use Rattle.node_lines.proofs.put_node_lines.Statement.{statement}
 use Rattle.node_lines.proofs.put_node_lines.Tie as tie
 
-abbrev Inv-loop : tie.InvT-loop
-Inv-loop table nodes out₀ at next₀ v₀ out next v = (v ≤ nodes) × Wrote out₀ at (nodeLines table v) out next
-
-abbrev μ-loop : tie.MeasureT-loop
-μ-loop table nodes out₀ at next₀ v₀ out next v = nodes - v
-
 pub put-node-lines-spec : {M : Type 1} → statement M
 unfolding nodeLines
 put-node-lines-spec =
     tie.close
     (tie.spec
-    Inv-loop
-    μ-loop
+    (λ table nodes out₀ at next₀ v₀ out next v. (v ≤ nodes) × Wrote out₀ at (nodeLines table v) out next)
+    (λ table nodes out₀ at next₀ v₀ out next v. nodes - v)
     (λ c. search needs)
     (λ c κs. search (needs, line-room))
     (λ c. search needs)

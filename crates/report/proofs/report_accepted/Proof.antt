@@ -12,7 +12,7 @@ use Rattle.report.proofs.report_accepted.Tie as tie
 
 -- an accepted sheet has few nodes
 few : (c : tie.After-node-count) → c .node-count .result ≤ 1024
-few c = let start : tie.Start = search needs in omega (arith, few-nodes _ (start .pre .0))
+few c = omega (arith, few-nodes)
 
 -- so the words lent have room for its table
 long-enough : (c : tie.After-table-length) → let start : tie.Start = search needs in c .table-length .result ≤ length (start .args .table .now)

@@ -8,18 +8,12 @@ use Rattle.text.specs.Written.{Wrote}
 use Rattle.text.proofs.put_text.Statement.{statement}
 use Rattle.text.proofs.put_text.Tie as tie
 
-abbrev Inv-loop : tie.InvT-loop
-Inv-loop text out₀ at i₀ out i = (i ≤ length text) × Wrote out₀ at (take i text) out (at + i)
-
-abbrev μ-loop : tie.MeasureT-loop
-μ-loop text out₀ at i₀ out i = length text - i
-
 pub put-text-spec : {M : Type 1} → statement M
 put-text-spec =
     tie.close
     (tie.spec
-    Inv-loop
-    μ-loop
+    (λ text out₀ at i₀ out i. (i ≤ length text) × Wrote out₀ at (take i text) out (at + i))
+    (λ text out₀ at i₀ out i. length text - i)
     (λ c. search (needs, wrote-none))
     (λ c. search needs)
     (λ c. search needs)
