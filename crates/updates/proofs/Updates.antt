@@ -266,9 +266,6 @@ spread-start {g} {d} {rows} {arcRows} {firsts} {own} {keys} {winners} {count} {v
 module _ {g : Graph} {d : Division} {rows arcRows firsts : List ℕ} {v k : ℕ} {q₀ : Queues} {own keys winners : List ℕ} {n a : ℕ}
     (S : Spread g d rows arcRows firsts v k q₀ own keys winners n a) where
   module _ (arc-in : a < arcs g) where
-    pub spread-row-in : a < rowCount arcRows
-    spread-row-in = omega (arith, arc-in, S .updatable .arc-rows .all)
-
     pub spread-asks : UpdatingArc g d rows arcRows (queuesIn g own keys n) winners a k
     spread-asks =
         let part = walk-part (rowTail arcRows) (updateBy d k) v q₀ (λ q. q .updates) (updateArc-grows d k) (S .walk) arc-in in

@@ -31,10 +31,10 @@ abbrev sheet : Turn → List ℕ
 sheet c = c .before .before .before .args .s .now
 
 -- the two ends of the arc that are read
-tail : (c : tie.After-end-at Inv-loop μ-loop) → let turn = c .before .before in c .end-at .result .0 ≡ endOf false (sheet turn) (turn .loop .a)
+tail : (c : tie.After-end-at Inv-loop μ-loop) → let turn : Turn = search needs in c .end-at .result .0 ≡ endOf false (sheet turn) (turn .loop .a)
 tail c = c .end-at .ensures .0
 
-head : (c : tie.After-end-at2 Inv-loop μ-loop) → let turn = c .before .before .before in c .end-at2 .result .0 ≡ endOf true (sheet turn) (turn .loop .a)
+head : (c : tie.After-end-at2 Inv-loop μ-loop) → let turn : Turn = search needs in c .end-at2 .result .0 ≡ endOf true (sheet turn) (turn .loop .a)
 head c = c .end-at2 .ensures .0
 
 -- a node that has no room for one of them

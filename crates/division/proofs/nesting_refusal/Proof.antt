@@ -9,7 +9,7 @@ use Rattle.division.proofs.nesting_refusal.Statement.{statement}
 use Rattle.division.proofs.nesting_refusal.Tie as tie
 
 -- where the pass found no childless region, the larger number is the height of region 0
-passed : (c : tie.After-larger) → let pass = c .before .before in let d = pass .before .before .before .args .d .now in
+passed : (c : tie.After-larger) → let start : tie.Start = search needs in let d = start .args .d .now in
     (childlessRegions d ≡ false) × (c .larger .result ≡ height d 0)
 passed c =
     let pass = c .before .before .childless-regions .ensures in

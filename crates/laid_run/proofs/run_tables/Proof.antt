@@ -121,7 +121,7 @@ slice-aggregate-write-table-2 c =
 returns : tie.Need-returns
 returns c =
     let told : tie.After-has-ended = search needs in
-    let made = told .before .before in
+    let made : tie.After-rounds = search needs in
     let start = outset made in
     let R = ran made in
     outcome (R .1) (told .has-ended .ensures (graphOf (start .args .s .now)) _ _ _ _ (R .0) _ (R .2) (start .pre .laid .tabled .ok .division .root-inner))

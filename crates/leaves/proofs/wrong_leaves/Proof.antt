@@ -20,7 +20,9 @@ abbrev μ-loop : tie.MeasureT-loop
 μ-loop d arcs seen a₀ a = 2048 - a
 
 -- the counter that is read says how many leaves the number has
-counted : (c : tie.In-loop Inv-loop μ-loop) → let made = c .before .before .before in let d = made .before .before .args .d .now in
+counted : (c : tie.In-loop Inv-loop μ-loop) → let start : tie.Start Inv-loop μ-loop = search needs in
+    let made : tie.After-count-leaves Inv-loop μ-loop = search needs in
+    let d = start .args .d .now in
     let a = c .before .loop .a in
     getD (made .count-leaves .result .n) a 0 ≡ count (leafOfArc d a) (words d)
 counted c = let leaves = c .before .before .before .count-leaves .ensures in leaves .1 .counts (c .before .loop .a) (omega (arith, leaves .0))

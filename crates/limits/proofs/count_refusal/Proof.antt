@@ -16,10 +16,10 @@ sheet c = c .before .before .before .args .s .now
 nodes-in : (c : tie.Else1) → nodesOutside (sheet c) ≡ false
 nodes-in c = sym (c .before .nodes-outside .ensures) ∙ c .if1 .left
 
-source-in : (c : tie.Else2) → sourceOutside (sheet (c .before .before)) ≡ false
+source-in : (c : tie.Else2) → let past : tie.Else1 = search needs in sourceOutside (sheet past) ≡ false
 source-in c = sym (c .before .source-outside .ensures) ∙ c .if2 .left
 
-spans-in : (c : tie.Else3) → let past = c .before .before in spansOutside (sheet (past .before .before)) ≡ false
+spans-in : (c : tie.Else3) → let past : tie.Else1 = search needs in spansOutside (sheet past) ≡ false
 spans-in c = sym (c .before .spans-outside .ensures) ∙ c .if3 .left
 
 pub count-refusal-spec : {M : Type 1} → statement M

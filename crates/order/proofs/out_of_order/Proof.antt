@@ -61,9 +61,8 @@ returns-2 c =
 loop-again : tie.Need-loop-again Inv-loop μ-loop
 loop-again c =
     let here : Turn = search needs in
-    let told = c .before .before in
-    let word = stepped (told .before .before) in
-    rw (word .moved, kind-read told) (pass-on (here .loop .inv) (word .inside) (sym (tested (c .before)) ∙ not-false _ (c .if1 .left)))
+    let word = stepped (search needs) in
+    rw (word .moved, kind-read (search needs)) (pass-on (here .loop .inv) (word .inside) (sym (tested (c .before)) ∙ not-false _ (c .if1 .left)))
 
 pub out-of-order-spec : {M : Type 1} → statement M
 out-of-order-spec =

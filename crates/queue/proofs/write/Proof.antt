@@ -55,7 +55,7 @@ given s = record { queues = s .pre .2; inside = s .pre .4 }
 over : (c : After-parent-of) (d : Division) (keys : List ℕ) → Valid (entry c) d keys → c .parent-of .result .0 ≡ parent d (entry c .args .child .0)
 over c d keys Q = c .parent-of .ensures d (Q .queues .entered .laid .planned .counted) (Q .inside)
 
-lies : (c : After-seat-of) → let up = c .before .before in
+lies : (c : After-seat-of) → let up : After-parent-of = search needs in
     (d : Division) (keys : List ℕ) → Valid (entry up) d keys
     → Lies d (entry up .args .rows .now) (entry up .args .child .0) (up .parent-of .result .0) (c .before .start-of .result) (c .seat-of .result)
 lies c d keys Q = record { over = over (c .before .before) d keys Q; row = c .before .start-of .ensures; own = c .seat-of .ensures }

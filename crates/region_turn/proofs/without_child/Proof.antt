@@ -8,11 +8,10 @@ use Rattle.region_turn.proofs.without_child.Statement.{statement}
 use Rattle.region_turn.proofs.without_child.Tie as tie
 
 -- whether the region is inner and holds 0, as the test tells
-abbrev begin : tie.After-is-leaf → tie.Start
-begin c = let read = c .before in read .before .before .before
-
 abbrev none-held : tie.After-is-leaf → Bool
-none-held c = let args = begin c .args in holdsNone (args .d .now) (args .best .now) (args .r .0)
+none-held c =
+    let start : tie.Start = search needs in
+    holdsNone (start .args .d .now) (start .args .best .now) (start .args .r .0)
 
 none : (c : tie.Then1) → none-held (c .before) ≡ true
 none c = rw (← c .before .is-leaf .ensures) (holds-none _ (c .before .is-leaf .result) (c .if1 .taken))

@@ -88,7 +88,7 @@ asked c = let pre = entry (looped (c .before)) .pre in going c (pre .graph) (pre
 
 has-ended-requires : tie.Need-has-ended-requires Inv-loop μ-loop
 has-ended-requires c κs =
-    let loop = c .before .before in
+    let loop : At-loop = search needs in
     let pre = entry loop .pre in
     let L = loop .loop .inv (pre .graph) (pre .division) (pre .made) (pre .keys) (pre .represents) (pre .sofar) in
     (pre .division, L .0, L .1 .represents .queues)

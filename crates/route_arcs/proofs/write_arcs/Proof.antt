@@ -17,7 +17,7 @@ Start = tie.Start Inv-loop μ-loop
 loop-again : tie.Need-loop-again Inv-loop μ-loop
 loop-again c =
     let start : Start = search needs in
-    let turn = c .before .before in
+    let turn : tie.In-loop Inv-loop μ-loop = search needs in
     rw (c .previous .ensures .0, c .before .predecessor-of .ensures) (write-on (start .pre .0) (turn .before .loop .inv) (turn .loop-test .taken))
 
 pub write-arcs-spec : {M : Type 1} → statement M

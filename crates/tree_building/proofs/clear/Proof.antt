@@ -38,7 +38,7 @@ valid c d L e =
 
 build-tree-requires : tie.Need-build-tree-requires Inv-loop μ-loop
 build-tree-requires c κs =
-    let pass = c .before in
+    let pass : tie.In-loop Inv-loop μ-loop = search needs in
     let pre = entry (pass .before) .pre in
     record { division = _; keys = _; below = valid (pass .before) _ (pre .1) (pre .2); inside = omega (arith, pass .loop-test .taken, pre .2) }
 

@@ -50,7 +50,7 @@ inside c d L = omega (arith, c .loop-test .taken, L .all)
 over : (c : After-parent-of) (d : Division) → Laid (entry (c .before)) d → c .parent-of .result .0 ≡ parent d (c .before .before .loop .c)
 over c d L = c .parent-of .ensures d (L .trees .planned .counted) (inside (c .before) d L)
 
-lies : (c : After-seat-of) → let up = c .before .before in
+lies : (c : After-seat-of) → let up : After-parent-of = search needs in
     (d : Division) → Laid (entry (up .before)) d
     → Lies d (entry (up .before) .args .rows .now) (up .before .before .loop .c) (up .parent-of .result .0) (c .before .start-of .result) (c .seat-of .result)
 lies c d L = record { over = over (c .before .before) d L; row = c .before .start-of .ensures; own = c .seat-of .ensures }
