@@ -21,7 +21,7 @@ use Rattle.procedure.specs.WellFormed.{DivisionOk}
 use Rattle.theory.proofs.Chosen.{minKey-leaf}
 use Rattle.theory.proofs.Update.{write-leaf, write-inner, write-counts, update-grows, update-rises, update-stops, update-elim}
 use Rattle.theory.proofs.Outgoing.{arc-leaf-test, arc-updated}
-use Rattle.rows.specs.Rows.{rowCount, rowTail, rowLeaf, rowNext}
+use Rattle.rows.specs.Rows.{rowTail, rowLeaf, rowNext}
 use Rattle.tree_places.specs.Trees.{QueuesOk}
 use Rattle.rows.specs.Links.{stepAt}
 use Rattle.rows.proofs.Links.{Walk, walk-start, walk-step, walk-end, walk-part, walk-falls}
