@@ -19,13 +19,17 @@ module _ (table : List ℕ) (v : ℕ) where
   abbrev toArc : List ℕ
   toArc = toDistance ++ spaced (predecessorIn table v)
 
+-- so much is written, from the entry on
 abbrev Written : tie.Start → (List ℕ → ℕ → List ℕ) → List ℕ → ℕ → Type 0
 Written c text out end = Wrote (c .args .out .now) (c .args .at) (text (c .args .table .now) (c .args .v)) out end
 
-distance : (c : tie.After-put-payload) → let start : tie.Start = search needs in Written start toDistance (c .put-payload .last .1 .1 .0) (c .put-payload .result)
+-- each part is written behind the one before it
+distance : (c : tie.After-put-payload) → let start : tie.Start = search needs in
+    Written start toDistance (c .put-payload .last .1 .1 .0) (c .put-payload .result)
 distance c = search (needs, wrote-then)
 
-arc : (c : tie.After-put-payload2) → let start : tie.Start = search needs in Written start toArc (c .put-payload2 .last .1 .1 .0) (c .put-payload2 .result)
+arc : (c : tie.After-put-payload2) → let start : tie.Start = search needs in
+    Written start toArc (c .put-payload2 .last .1 .1 .0) (c .put-payload2 .result)
 arc c = wrote-then (distance (search needs)) (c .put-payload2 .ensures)
 
 pub put-node-line-spec : {M : Type 1} → statement M

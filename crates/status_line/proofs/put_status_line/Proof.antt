@@ -22,10 +22,11 @@ module _ (table : List ℕ) where
   abbrev toUpdates : List ℕ
   toUpdates = toInner ++ counted table " updates " 3
 
+-- so much is written, from the entry on
 abbrev Written : tie.Start → (List ℕ → List ℕ) → List ℕ → ℕ → Type 0
 Written c text out end = Wrote (c .args .out .now) (c .args .at) (text (c .args .table .now)) out end
 
--- each count is written behind what is written before it
+-- each count is written behind what stands before it
 rounds : (c : tie.After-put-count) → let start : tie.Start = search needs in Written start toRounds (c .put-count .last .1 .1 .1 .0) (c .put-count .result)
 unfolding counted
 rounds c = search (needs, wrote-then)
