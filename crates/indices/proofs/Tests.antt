@@ -1,12 +1,12 @@
 -- Laws of `any`, `all`, `count` and `lead`, in the forms that a loop asks: no index, one index more, a stop, the end.
 use Prim.Native.Nat.{ℕ, zero, suc, _+_, _<_, _≤_}
-use mathlib.Core.Bool.{Bool, true, false, not, cond, _&&_, _||_, true≢false, or-true, and-false}
+use mathlib.Core.Bool.{Bool, true, false, not, cond, _&&_, _||_, true≢false, or-true}
 use mathlib.Core.Path.{_≡_, refl, sym, ap, _∙_}
 use mathlib.Core.Logic.{⊎-elim}
 use native.Mathlib.Nat.{eq-or-lt-of-le, le-of-suc-le-suc, not-suc-le-zero}
 use native.Mathlib.Numerals.{add-one}
 use native.Mathlib.Omega.{arith}
-use borrow.Author.Tests.{eq-eqb}
+use borrow.Author.Tests.{eq-eqb, not-true, not-false}
 use lib.Dec.{eqb}
 use Rattle.indices.specs.Tests.{all, any, count, lead}
 
@@ -96,7 +96,16 @@ any-front p zero = or-false (p 0)
     or-false false = refl
 any-front p (suc n) = ap (λ (b : Bool). b || p (suc n)) (any-front p n) ∙ or-assoc (p 0) (any (λ i. p (suc i)) n) (p (suc n))
 
--- ALL
+-- ALL: no index fails
+not-and : (a b : Bool) → not (a && b) ≡ not a || not b
+not-and true b = refl
+not-and false b = refl
+
+none-fails : (p : ℕ → Bool) (n : ℕ) → not (all p n) ≡ any (λ i. not (p i)) n
+unfolding all any
+none-fails p zero = refl
+none-fails p (suc n) = not-and (all p n) (p n) ∙ ap (λ (b : Bool). b || not (p n)) (none-fails p n)
+
 pub all-none : (p : ℕ → Bool) → all p 0 ≡ true
 unfolding all
 all-none p = refl
@@ -106,24 +115,16 @@ unfolding all
 all-more p i before here = rw (add-one, all, before, here)
 
 pub all-miss : (p : ℕ → Bool) (i n : ℕ) → i < n → p i ≡ false → all p n ≡ false
-unfolding all
-all-miss p i zero l h = absurd (not-suc-le-zero l)
-all-miss p i (suc n) l h = ⊎-elim (λ e. rw (← e, h, and-false)) (λ lt. rw (all-miss p i n lt h)) (eq-or-lt-of-le (le-of-suc-le-suc l))
+all-miss p i n l h = not-true _ (none-fails p n ∙ any-hit (λ i. not (p i)) i n l (ap not h))
 
 pub all-end : (p : ℕ → Bool) (i n : ℕ) → i ≡ n → all p i ≡ true → all p n ≡ true
 all-end p i n e h = rw (← e) h
 
 pub all-at : (p : ℕ → Bool) (n i : ℕ) → all p n ≡ true → i < n → p i ≡ true
-unfolding all
-all-at p zero i e l = absurd (not-suc-le-zero l)
-all-at p (suc n) i e l =
-    ⊎-elim (λ q. rw (q) (and-right (all p n) (p n) e)) (λ lt. all-at p n i (and-left (all p n) (p n) e) lt)
-    (eq-or-lt-of-le (le-of-suc-le-suc l))
+all-at p n i e l = not-false _ (any-at (λ i. not (p i)) n i (sym (none-fails p n) ∙ ap not e) l)
 
 pub all-true : (p : ℕ → Bool) (n : ℕ) → ((i : ℕ) → i < n → p i ≡ true) → all p n ≡ true
-unfolding all
-all-true p zero h = refl
-all-true p (suc n) h = rw (all-true p n (λ i l. h i (omega arith))) (h n (omega arith))
+all-true p n h = not-false _ (none-fails p n ∙ any-false (λ i. not (p i)) n (λ i l. ap not (h i l)))
 
 -- COUNT
 pub count-none : (p : ℕ → Bool) → count p 0 ≡ 0

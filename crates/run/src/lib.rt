@@ -41,7 +41,7 @@ fn run_rounds(sheet: &[u8], limit: u64, table: &mut [u32]) -> Ran
 }
 
 // Runs a sheet to its end: the answer, and every word of the table afterwards. Where the sheet is accepted and the table has the right length, the
-// run has ended, its counts are small and its distances are shortest.
+// run has ended, its table is left as ended, its counts are small and its distances are shortest.
 pub fn run(sheet: &[u8], table: &mut [u32]) -> Ran
     ensures { λ r. ⌜ (said r ≡ runAnswer (now (sheet .entry)) enoughRounds (now (table .entry)))
         × (now (table .exit) ≡ tableAfter (now (sheet .entry)) enoughRounds (now (table .entry)))
@@ -52,7 +52,7 @@ pub fn run(sheet: &[u8], table: &mut [u32]) -> Ran
 }
 
 // Runs a sheet for at most so many rounds: the answer, and every word of the table afterwards. Where the sheet is accepted and the table has the
-// right length, its counts are small, and where it is left as ended its distances are shortest.
+// right length, the table is what those rounds have reached, its counts are small, and where it is left as ended its distances are shortest.
 pub fn run_limited(sheet: &[u8], rounds: u32, table: &mut [u32]) -> Ran
     ensures { λ r. ⌜ (said r ≡ runAnswer (now (sheet .entry)) rounds (now (table .entry)))
         × (now (table .exit) ≡ tableAfter (now (sheet .entry)) rounds (now (table .entry)))
