@@ -16,7 +16,7 @@ abbrev pub settled : List ℕ → List ℕ → ℕ → List ℕ
 settled d regionRows r = set regionRows (2 * r + 1) (ownHeight d regionRows r)
 
 -- h is r's height, and the rows have it now
-pub record Settled (d regionRows : List ℕ) (r h : ℕ) (regionRows′ : List ℕ) : Type 0 where
+pub record RowSettled (d regionRows : List ℕ) (r h : ℕ) (regionRows′ : List ℕ) : Type 0 where
   pub height : h ≡ ownHeight d regionRows r
   pub rows : regionRows′ ≡ settled d regionRows r
 

@@ -1,17 +1,17 @@
 // The height in a region's row: settled from what its children have handed up, and handed up to its parent.
 ghost use mathlib.Core.Path.{_≡_};
-ghost use mathlib.Core.Bool.{cond};
 ghost use Prim.Native.Nat.{suc, _+_, _*_, _≤_, _<_};
 ghost use lib.ListN.{length};
+ghost use Rattle.indices.specs.Steps.{if_then_else_};
 ghost use Rattle.sheet.specs.Words.{words};
 ghost use Rattle.slices.specs.Tables.{heightEntry};
-ghost use Rattle.heights.specs.Heights.{Settled, handedUp};
+ghost use Rattle.heights.specs.Heights.{RowSettled, handedUp};
 use sheet::Region;
 
 // The height of a leaf, or of a region whose highest child has the given height.
 fn above(leaf: bool, highest: u16) -> u16
     requires { ⌜ highest < 65535 ⌝ }
-    ensures { λ r. ⌜ r ≡ cond leaf 0 (suc highest) ⌝ }
+    ensures { λ r. ⌜ r ≡ (if leaf then 0 else suc highest) ⌝ }
 {
     if leaf {
         return 0;
@@ -22,7 +22,7 @@ fn above(leaf: bool, highest: u16) -> u16
 // A region's height, into its row, which holds the largest height that a child has handed up.
 pub fn settle_height(d: &[u8], r: Region, regions: &mut [u16]) -> u16
     requires { ⌜ (r .0 ≤ words (now d)) × (2 * r .0 + 1 < length (now regions)) × (heightEntry (now regions) (r .0) < 65535) ⌝ }
-    ensures { λ h. ⌜ Settled (now (d .entry)) (now (regions .entry)) (r .0) h (now (regions .exit)) ⌝ }
+    ensures { λ h. ⌜ RowSettled (now (d .entry)) (now (regions .entry)) (r .0) h (now (regions .exit)) ⌝ }
 {
     let i = 2 * (r.0 as usize) + 1;
     let height = above(fields::is_leaf(d, r), regions[i]);

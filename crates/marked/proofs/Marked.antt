@@ -128,7 +128,7 @@ rows =
     )
     -- "Without its third word: 14."
     ∷ judge spanless is refused (input 14)
-    ∷ run spanless enoughRounds (7 ∷ 8 ∷ []) is refused (input 14) leaving (7 ∷ 8 ∷ [])
+    ∷ run spanless enoughRounds (replicate (tableLength 1) 7) is refused (input 14) leaving replicate (tableLength 1) 7
     ∷ print spanless is refused (input 14) leaving ascii "refused 14\n"
     -- "Node count 0: 4. 1,024 keeps the limit, 1,025: 4."
     ∷ judge (startingWith 0x10000000) is refused (input 4)

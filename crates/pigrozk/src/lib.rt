@@ -5,7 +5,7 @@ ghost use Rattle.sheet.specs.Sections.{nodeCount};
 ghost use Rattle.sheet.specs.Answer.{ended};
 ghost use Rattle.refusals.specs.Judgement.{judgement, Accepted};
 ghost use Rattle.procedure.specs.Procedure.{enoughRounds};
-ghost use Rattle.answers.specs.Tables.{tableLength, statusIn};
+ghost use Rattle.answers.specs.Tables.{tableLength, statusSays, statusIn};
 ghost use Rattle.answers.specs.Runs.{runAnswer, tableAfter, Delivered};
 ghost use Rattle.answers.specs.Routes.{routeAnswer, bufferAfter, TableKnown};
 ghost use Rattle.codes.specs.Codes.{codeOf};
@@ -19,7 +19,7 @@ pub extern "C" fn pigrozk_judge(sheet: &[u8]) -> u32
 }
 
 // Runs a sheet to its end: the answer's code, and every word of the table afterwards. Where the sheet is accepted and the table has the right length,
-// the run has ended, its counts are small and its distances are shortest.
+// the run has ended, its table is left as ended, its counts are small and its distances are shortest.
 #[no_mangle]
 pub extern "C" fn pigrozk_run(sheet: &[u8], table: &mut [u32]) -> u32
     ensures { λ r. ⌜ (r ≡ codeOf (runAnswer (now (sheet .entry)) enoughRounds (now (table .entry))))
@@ -31,13 +31,14 @@ pub extern "C" fn pigrozk_run(sheet: &[u8], table: &mut [u32]) -> u32
 }
 
 // Runs a sheet for at most so many rounds: the answer's code, and every word of the table afterwards. Where the sheet is accepted and the table has
-// the right length, its counts are small, and where it is left as ended its distances are shortest.
+// the right length, the table is what those rounds have reached and the answer what it says, its counts are small, and where it is left as ended its
+// distances are shortest.
 #[no_mangle]
 pub extern "C" fn pigrozk_run_limited(sheet: &[u8], rounds: u32, table: &mut [u32]) -> u32
     ensures { λ r. ⌜ (r ≡ codeOf (runAnswer (now (sheet .entry)) rounds (now (table .entry))))
         × (now (table .exit) ≡ tableAfter (now (sheet .entry)) rounds (now (table .entry)))
         × (Accepted (now (sheet .entry)) → length (now (table .entry)) ≡ tableLength (nodeCount (now (sheet .entry)))
-        → Delivered (now (sheet .entry)) rounds (now (table .exit))) ⌝ }
+        → Delivered (now (sheet .entry)) rounds (now (table .exit)) × (r ≡ codeOf (statusSays (statusIn (now (table .exit)))))) ⌝ }
 {
     codes::ran_code(run::run_limited(sheet, rounds, table))
 }

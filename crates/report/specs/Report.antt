@@ -1,4 +1,4 @@
--- What `marks` prints of a sheet, and what it leaves in the table that the run writes. Definitions.
+-- What the report of a sheet leaves: the text that is printed, in the buffer, and the table, in the words lent for it. Definitions.
 use Prim.Native.Nat.{ℕ}
 use mathlib.Core.Path.{_≡_}
 use mathlib.Core.List.{List, _++_}

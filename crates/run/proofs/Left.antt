@@ -9,15 +9,22 @@ use Rattle.sheet.specs.Sections.{nodeCount}
 use Rattle.sheet.specs.Answer.{Answer, ended, paused}
 use Rattle.refusals.specs.Judgement.{Accepted}
 use Rattle.procedure.specs.Procedure.{enoughRounds}
-use Rattle.answers.specs.Tables.{tableLength, statusIn}
+use Rattle.answers.specs.Tables.{tableLength, statusSays, statusIn}
 use Rattle.answers.specs.Runs.{runAnswer, tableAfter, Delivered}
-use Rattle.answers.proofs.Outcome.{made}
+use Rattle.answers.proofs.Outcome.{table-says, made}
 use Rattle.runs.proofs.Delivered.{delivered, run-ends}
 
 module _ (b : List ℕ) (ok : Accepted b) where
   -- the table at exit
   pub left-table : (k : ℕ) (table : List ℕ) {table′ : List ℕ} → length table ≡ tableLength (nodeCount b) → table′ ≡ tableAfter b k table → Delivered b k table′
   left-table k table room e = subst (λ (t : List ℕ). Delivered b k t) (made b k table ok room .1 ∙ sym e) (delivered b ok k)
+
+  -- the answer is what the table at exit says
+  pub as-it-says : (k : ℕ) (table : List ℕ) {table′ : List ℕ} {answer : Answer} → length table ≡ tableLength (nodeCount b)
+      → answer ≡ runAnswer b k table → table′ ≡ tableAfter b k table → answer ≡ statusSays (statusIn table′)
+  as-it-says k table room says e =
+      says ∙ sym (made b k table ok room .0) ∙ sym (table-says b k)
+      ∙ ap (λ (t : List ℕ). statusSays (statusIn t)) (made b k table ok room .1 ∙ sym e)
 
   -- the table at exit and the answer of the run to its end
   pub ended-run : (table : List ℕ) {table′ : List ℕ} {answer : Answer} → length table ≡ tableLength (nodeCount b)

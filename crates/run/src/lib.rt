@@ -5,7 +5,7 @@ ghost use Rattle.sheet.specs.Sections.{nodeCount};
 ghost use Rattle.sheet.specs.Answer.{ended};
 ghost use Rattle.refusals.specs.Judgement.{Accepted};
 ghost use Rattle.procedure.specs.Procedure.{enoughRounds};
-ghost use Rattle.answers.specs.Tables.{tableLength, statusIn};
+ghost use Rattle.answers.specs.Tables.{tableLength, statusSays, statusIn};
 ghost use Rattle.answers.specs.Runs.{runAnswer, tableAfter, Delivered};
 ghost use Rattle.run_answer.specs.Said.{said};
 use judge::Judged;
@@ -52,12 +52,13 @@ pub fn run(sheet: &[u8], table: &mut [u32]) -> Ran
 }
 
 // Runs a sheet for at most so many rounds: the answer, and every word of the table afterwards. Where the sheet is accepted and the table has the
-// right length, the table is what those rounds have reached, its counts are small, and where it is left as ended its distances are shortest.
+// right length, the table is what those rounds have reached and the answer what it says, its counts are small, and where it is left as ended its
+// distances are shortest.
 pub fn run_limited(sheet: &[u8], rounds: u32, table: &mut [u32]) -> Ran
     ensures { λ r. ⌜ (said r ≡ runAnswer (now (sheet .entry)) rounds (now (table .entry)))
         × (now (table .exit) ≡ tableAfter (now (sheet .entry)) rounds (now (table .entry)))
         × (Accepted (now (sheet .entry)) → length (now (table .entry)) ≡ tableLength (nodeCount (now (sheet .entry)))
-        → Delivered (now (sheet .entry)) rounds (now (table .exit))) ⌝ }
+        → Delivered (now (sheet .entry)) rounds (now (table .exit)) × (said r ≡ statusSays (statusIn (now (table .exit))))) ⌝ }
 {
     run_rounds(sheet, rounds as u64, table)
 }
