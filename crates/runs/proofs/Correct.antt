@@ -1,5 +1,6 @@
 -- Demand 3, whole, holds of every accepted sheet. The run to its end ends, by the theory's potential; every table says what its rounds have reached; two sheets
 -- of one hall agree because the tables left as ended are shortest.
+use Prim.Native.Nat.{ℕ}
 use mathlib.Core.Path.{sym, _∙_}
 use mathlib.Core.List.{List}
 use Rattle.refusals.specs.Judgement.{Accepted}
