@@ -1,5 +1,7 @@
 -- `write_arcs` meets its contract: what is written and what is to come make the route.
+use mathlib.Core.Path.{refl}
 use borrow.Author.Needs.{needs}
+use native.Mathlib.Nat.{le-refl}
 use native.Mathlib.Omega.{arith}
 use Rattle.route_arcs.proofs.Following.{arc-there, Writing, write-away, write-on, write-end}
 use Rattle.route_arcs.proofs.write_arcs.Statement.{statement}
@@ -26,7 +28,9 @@ write-arcs-spec =
     (tie.spec
     Inv-loop
     μ-loop
-    (λ c. search needs)
+    (λ c.
+    let start : Start = search needs in
+    record { reached = start .pre .1; left = start .pre .2; long = refl; few = le-refl _; room = start .pre .3; same = refl })
     (λ c. search needs)
     (λ c κs. search needs)
     (λ c. search needs)
