@@ -1,16 +1,13 @@
 // Refusal 10: how many arcs leave each node and enter it.
 ghost use mathlib.Core.Path.{_≡_};
-ghost use mathlib.Core.Bool.{false};
-ghost use Prim.Native.Nat.{_≤_};
-ghost use Rattle.sheet.specs.Limits.{mostNodes, mostArcs};
-ghost use Rattle.sheet.specs.Sections.{Located, nodeCount, arcCount};
-ghost use Rattle.refusals.specs.Fields.{endsOutside, tooManyAtNode};
+ghost use Rattle.refusals.specs.Fields.{tooManyAtNode};
+ghost use Rattle.degrees.specs.Joined.{Joined};
 use sheet::Arc;
 use sheet::Sections;
 
 // Refusal 10: some node is the tail of more arcs than it may be, or the head.
 pub fn crowded_nodes(s: &[u8], at: Sections) -> bool
-    requires { ⌜ Located (now s) at × (arcCount (now s) ≤ mostArcs) × (nodeCount (now s) ≤ mostNodes) × (endsOutside (now s) ≡ false) ⌝ }
+    requires { ⌜ Joined (now s) at ⌝ }
     ensures { λ r. ⌜ r ≡ tooManyAtNode (now (s .entry)) ⌝ }
 {
     let mut tails = [0u8; 1024];

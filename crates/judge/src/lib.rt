@@ -1,13 +1,13 @@
 // Judges a sheet: accepted, or the lowest number of a refusal that applies to it.
 ghost use mathlib.Core.Path.{_≡_};
-ghost use mathlib.Core.Bool.{false};
 ghost use Prim.Native.Nat.{_<_};
 ghost use Rattle.sheet.specs.Words.{words};
 ghost use Rattle.sheet.specs.Sections.{Located};
 ghost use Rattle.sheet.specs.Answer.{numbered};
-ghost use Rattle.refusals.specs.Form.{wrongSize, outOfOrder, bitSet};
+ghost use Rattle.refusals.specs.Form.{wrongSize, bitSet};
 ghost use Rattle.refusals.specs.Judgement.{judgement};
 ghost use Rattle.judge_answer.specs.Said.{said};
+ghost use Rattle.judge.specs.Stages.{InOrder};
 pub use judge_answer::Judged;
 use sheet::Sections;
 
@@ -34,7 +34,7 @@ fn bit_set(s: &[u8], at: Sections) -> bool
 
 // Refusals 3 to 14, of a sheet to which neither 1 nor 2 applies: the number, or 0.
 fn later_refusal(s: &[u8], at: Sections) -> u8
-    requires { ⌜ Located (now s) at × (wrongSize (now s) ≡ false) × (outOfOrder (now s) ≡ false) ⌝ }
+    requires { ⌜ InOrder (now s) at ⌝ }
     ensures { λ r. ⌜ numbered r ≡ judgement (now (s .entry)) ⌝ }
 {
     if bit_set(s, at) {

@@ -1,21 +1,27 @@
 -- What the functions over a sheet and a table ask of the two, and the table's columns for the sheet. Definitions.
-use Prim.Native.Nat.{ℕ}
+use Prim.Native.Nat.{ℕ, _<_}
 use mathlib.Core.Path.{_≡_}
 use mathlib.Core.List.{List}
 use lib.ListN.{length}
 use Rattle.indices.specs.Columns.{at}
 use Rattle.sheet.specs.declared.Sections.{Sections}
-use Rattle.sheet.specs.Sections.{Located, nodeCount}
+use Rattle.sheet.specs.Sections.{Located, nodeCount, arcCount}
 use Rattle.refusals.specs.Judgement.{Accepted}
 use Rattle.procedure.specs.Graph.{tail}
 use Rattle.procedure.specs.OfSheet.{graphOf}
-use Rattle.answers.specs.Tables.{tableLength, labelsIn, predecessorsIn}
+use Rattle.answers.specs.Tables.{tableLength, predecessorIn, labelsIn, predecessorsIn}
 
 -- an accepted sheet whose sections are found, and a table of its length
 pub record Fitting (b : List ℕ) (at : Sections) (table : List ℕ) : Type 0 where
   pub located : Located b at
   pub accepted : Accepted b
   pub sized : length table ≡ tableLength (nodeCount b)
+
+-- and a node of the sheet whose predecessor is one of its arcs
+pub record Fed (b : List ℕ) (at : Sections) (table : List ℕ) (v : ℕ) : Type 0 where
+  pub fitting : Fitting b at table
+  pub inside : v < nodeCount b
+  pub by-arc : predecessorIn table v < arcCount b
 
 -- the labels and predecessors of the sheet's nodes
 module _ (b table : List ℕ) where

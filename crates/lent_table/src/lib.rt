@@ -3,9 +3,8 @@ ghost use mathlib.Core.Path.{_≡_};
 ghost use Prim.Native.Nat.{_+_, _≤_, _<_};
 ghost use lib.ListN.{length};
 ghost use Rattle.sheet.specs.Words.{words};
-ghost use Rattle.sheet.specs.Sections.{nodeCount, arcCount};
 ghost use Rattle.answers.specs.Tables.{tableLength, wrongLength, labelIn, predecessorIn};
-ghost use Rattle.lent_table.specs.Fitting.{Fitting, nodeBefore};
+ghost use Rattle.lent_table.specs.Fitting.{Fed, nodeBefore};
 use sheet::Arc;
 use sheet::Node;
 use sheet::Sections;
@@ -42,7 +41,7 @@ pub fn wrong_length(s: &[u8], table: &[u32]) -> bool
 
 // The node that a node's predecessor, an arc, leads from.
 pub fn previous(s: &[u8], at: Sections, table: &[u32], v: Node) -> Node
-    requires { ⌜ Fitting (now s) at (now table) × (v .0 < nodeCount (now s)) × (predecessorIn (now table) (v .0) < arcCount (now s)) ⌝ }
+    requires { ⌜ Fed (now s) at (now table) (v .0) ⌝ }
     ensures { λ u. ⌜ (u .0 ≡ nodeBefore (now (s .entry)) (now (table .entry)) (v .0)) × (u .0 < 1024) ⌝ }
 {
     fields::end_at(s, at, Arc(predecessor_of(table, v) as u16), false)

@@ -1,3 +1,4 @@
+pub mod Lent
 pub mod Listing
 pub mod Printed
 pub mod Written

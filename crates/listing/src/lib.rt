@@ -1,9 +1,8 @@
 // The text that `marks` prints, written into a lent buffer: the listing of an answer table, or a refusal.
-ghost use mathlib.Core.Path.{_≡_};
 ghost use Prim.Native.Nat.{_≤_};
 ghost use lib.ListN.{length};
-ghost use Rattle.answers.specs.Tables.{tableLength};
-ghost use Rattle.listing.specs.Listing.{listingOf, mostListing, refusedLine};
+ghost use Rattle.listing.specs.Lent.{ListingLent};
+ghost use Rattle.listing.specs.Listing.{listingOf, refusedLine};
 ghost use Rattle.listing.specs.Written.{Filled};
 
 // No listing has more bytes, as specs/Listing.antt says.
@@ -11,7 +10,7 @@ pub const MOST_LISTING: usize = 25707;
 
 // Writes the listing of a table of so many nodes to the front of the buffer, and returns how many bytes it has.
 pub fn write_listing(table: &[u32], nodes: usize, out: &mut [u8]) -> usize
-    requires { ⌜ (length (now table) ≡ tableLength nodes) × (nodes ≤ 1024) × (mostListing ≤ length (now out)) ⌝ }
+    requires { ⌜ ListingLent (now table) nodes (now out) ⌝ }
     ensures { λ r. ⌜ Filled (now (out .entry)) (listingOf (now (table .entry)) nodes) (now (out .exit)) r ⌝ }
 {
     let at = status_line::put_status_line(table, out, 0);

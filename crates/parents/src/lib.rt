@@ -1,10 +1,10 @@
 // The parents that region words name: refusal 11. Word k of the region words is region k + 1.
 ghost use mathlib.Core.Path.{_≡_};
-ghost use mathlib.Core.Bool.{false};
-ghost use Prim.Native.Nat.{_≤_, _<_};
+ghost use Prim.Native.Nat.{_<_};
 ghost use Rattle.sheet.specs.Words.{words};
 ghost use Rattle.sheet.specs.Regions.{parent};
 ghost use Rattle.refusals.specs.Nesting.{wrongParent, wrongParents};
+ghost use Rattle.parents.specs.Parents.{HasParent};
 use sheet::Region;
 
 // Refusal 11 at word k: its parent is not a lower region, or is a leaf.
@@ -38,7 +38,7 @@ pub fn wrong_parents(d: &[u8]) -> bool
 
 // The parent of a region other than 0, where refusal 11 does not apply.
 pub fn parent_of(d: &[u8], r: Region) -> Region
-    requires { ⌜ (0 < r .0) × (r .0 ≤ words (now d)) × (wrongParents (now d) ≡ false) ⌝ }
+    requires { ⌜ HasParent (now d) (r .0) ⌝ }
     ensures { λ p. ⌜ (p .0 ≡ parent (now (d .entry)) (r .0)) × (p .0 < r .0) ⌝ }
 {
     let i = r.0 as usize;

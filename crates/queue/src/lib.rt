@@ -5,7 +5,7 @@ ghost use Prim.Native.Nat.{ℕ, _<_};
 ghost use lib.ListN.{set};
 ghost use Rattle.procedure.specs.Division.{Division, regions};
 ghost use Rattle.procedure.specs.Queues.{minItem};
-ghost use Rattle.tree_places.specs.Trees.{IsMinKey, QueuesOk};
+ghost use Rattle.tree_places.specs.Trees.{IsMinKey, QueuesOk, SomeQueue, SomeItem};
 use sheet::Region;
 
 // The key 'none'.
@@ -13,7 +13,7 @@ pub const NONE: u32 = 268435455;
 
 // The first-chosen child of r; 0, which is nobody's child, where it has none.
 pub fn min_item(rows: &[u16], winners: &[u64], r: Region) -> Region
-    requires { ⌜ ((d : Division) × (keys : List ℕ) × QueuesOk d (now rows) keys (now winners) × (r .0 < regions d)) ⌝ }
+    requires { ⌜ SomeQueue (now rows) (now winners) (r .0) ⌝ }
     ensures { λ c. ⌜ ((d : Division) (keys : List ℕ) → QueuesOk d (now (rows .entry)) keys (now (winners .entry)) → r .0 < regions d
         → c .0 ≡ minItem d keys (r .0)) ⌝ }
 {
@@ -26,7 +26,7 @@ pub fn min_item(rows: &[u16], winners: &[u64], r: Region) -> Region
 
 // The smallest key of an inner region.
 pub fn min_key(rows: &[u16], winners: &[u64], r: Region) -> u32
-    requires { ⌜ ((d : Division) × (keys : List ℕ) × QueuesOk d (now rows) keys (now winners) × (r .0 < regions d)) ⌝ }
+    requires { ⌜ SomeQueue (now rows) (now winners) (r .0) ⌝ }
     ensures { λ k. ⌜ ((d : Division) (keys : List ℕ) → QueuesOk d (now (rows .entry)) keys (now (winners .entry)) → r .0 < regions d
         → IsMinKey d keys (r .0) k) ⌝ }
 {
@@ -39,7 +39,7 @@ pub fn min_key(rows: &[u16], winners: &[u64], r: Region) -> u32
 
 // Writes the key of a region other than 0 and repairs its parent's tree, from its place up, until a place does not change.
 pub fn write(rows: &[u16], winners: &mut [u64], child: Region, key: u32)
-    requires { ⌜ ((d : Division) × (keys : List ℕ) × QueuesOk d (now rows) keys (now winners) × (0 < child .0) × (child .0 < regions d)) ⌝ }
+    requires { ⌜ SomeItem (now rows) (now winners) (child .0) ⌝ }
     ensures { λ _. ⌜ ((d : Division) (keys : List ℕ) → QueuesOk d (now (rows .entry)) keys (now (winners .entry)) → child .0 < regions d
         → QueuesOk d (now (rows .entry)) (set keys (child .0) key) (now (winners .exit))) ⌝ }
 {

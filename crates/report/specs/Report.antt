@@ -6,8 +6,9 @@ use lib.ListN.{drop}
 use Rattle.indices.specs.Steps.{if_then_else_}
 use Rattle.sheet.specs.Sections.{nodeCount}
 use Rattle.sheet.specs.Answer.{isRefused}
-use Rattle.refusals.specs.Judgement.{judgement}
+use Rattle.refusals.specs.Judgement.{judgement, Accepted}
 use Rattle.answers.specs.Tables.{tableLength}
+use Rattle.listing.specs.Lent.{ListingLent}
 use Rattle.listing.specs.Printed.{endTable, printed}
 use Rattle.listing.specs.Written.{Filled}
 
@@ -20,3 +21,9 @@ wordsAfter b table =
 pub record Reported (b table out tableAfter outAfter : List ℕ) (n : ℕ) : Type 0 where
   pub text : Filled out (printed b) outAfter n
   pub words : tableAfter ≡ wordsAfter b table
+
+-- what is asked where an accepted sheet is run and listed: its node count, and what the listing asks
+pub record TableLent (b : List ℕ) (nodes : ℕ) (table out : List ℕ) : Type 0 where
+  pub accepted : Accepted b
+  pub counted : nodes ≡ nodeCount b
+  pub lent : ListingLent table nodes out

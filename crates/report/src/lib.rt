@@ -3,13 +3,12 @@ ghost use mathlib.Core.Path.{_≡_};
 ghost use Prim.Native.Nat.{_≤_};
 ghost use lib.ListN.{length};
 ghost use Rattle.io.specs.Counts.{Counts};
-ghost use Rattle.sheet.specs.Sections.{nodeCount};
 ghost use Rattle.refusals.specs.Judgement.{Accepted};
 ghost use Rattle.answers.specs.Tables.{tableLength};
 ghost use Rattle.listing.specs.Listing.{listingOf, mostListing};
 ghost use Rattle.listing.specs.Printed.{endTable};
 ghost use Rattle.listing.specs.Written.{Filled};
-ghost use Rattle.report.specs.Report.{Reported};
+ghost use Rattle.report.specs.Report.{Reported, TableLent};
 use judge::Judged;
 use libc::STDOUT_FILENO;
 
@@ -18,8 +17,7 @@ pub const MOST_TABLE: usize = 2057;
 
 // Runs an accepted sheet to its end in a table of its size, and writes the listing.
 fn report_table(sheet: &[u8], nodes: usize, table: &mut [u32], out: &mut [u8]) -> usize
-    requires { ⌜ Accepted (now sheet) × (nodes ≡ nodeCount (now sheet)) × (length (now table) ≡ tableLength nodes) × (nodes ≤ 1024)
-        × (mostListing ≤ length (now out)) ⌝ }
+    requires { ⌜ TableLent (now sheet) nodes (now table) (now out) ⌝ }
     ensures { λ r. ⌜ (now (table .exit) ≡ endTable (now (sheet .entry)))
         × Filled (now (out .entry)) (listingOf (endTable (now (sheet .entry))) nodes) (now (out .exit)) r ⌝ }
 {

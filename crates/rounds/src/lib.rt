@@ -7,7 +7,7 @@ ghost use Rattle.indices.specs.Steps.{times};
 ghost use Rattle.procedure.specs.Graph.{Graph};
 ghost use Rattle.procedure.specs.Division.{Division, regions, isLeaf};
 ghost use Rattle.procedure.specs.Procedure.{ended, start, round, after};
-ghost use Rattle.tree_places.specs.Trees.{QueuesOk};
+ghost use Rattle.tree_places.specs.Trees.{QueuesOk, SomeQueue};
 ghost use Rattle.slices.specs.Tables.{tablesOf};
 ghost use Rattle.slices.specs.States.{stateOf, stateIn, Represents, Computed, Blank, SomeBlank, SomeRounds};
 use counts::Counts;
@@ -57,7 +57,7 @@ pub fn start(
 
 // Whether the run has ended.
 pub fn has_ended(rows: &[u16; ROWS], winners: &[u64; PLACES]) -> bool
-    requires { ⌜ ((d : Division) × (keys : List ℕ) × QueuesOk d (now rows) keys (now winners)) ⌝ }
+    requires { ⌜ SomeQueue (now rows) (now winners) 0 ⌝ }
     ensures { λ b. ⌜ ((g : Graph) (d : Division) (labels predecessors own keys : List ℕ) (c : Counts)
         → QueuesOk d (now (rows .entry)) keys (now (winners .entry)) → isLeaf d 0 ≡ false → b ≡ ended g d (stateOf labels predecessors own keys c)) ⌝ }
 {

@@ -1,10 +1,10 @@
 // The arcs of the route to a reached node: counted, and written into a lent buffer.
 ghost use mathlib.Core.Path.{_≡_};
 ghost use mathlib.Core.List.{_++_};
-ghost use Prim.Native.Nat.{_≤_, _<_};
+ghost use Prim.Native.Nat.{_<_};
 ghost use lib.ListN.{length, drop};
 ghost use Rattle.answers.specs.Routes.{routeTo};
-ghost use Rattle.route_arcs.specs.Ready.{Ready, Reached};
+ghost use Rattle.route_arcs.specs.Ready.{Ready, Reached, RouteLent};
 use sheet::Node;
 use sheet::Sections;
 
@@ -25,8 +25,7 @@ pub fn count_arcs(s: &[u8], at: Sections, table: &[u32], v: Node) -> usize
 
 // Writes the route to a reached node, of so many arcs, at the front of the buffer, from its last arc to its first.
 pub fn write_arcs(s: &[u8], at: Sections, table: &[u32], v: Node, arcs: usize, buffer: &mut [u32])
-    requires { ⌜ Ready (now s) at (now table) × Reached (now s) (now table) (v .0) × (arcs ≡ length (routeTo (now s) (now table) (v .0)))
-        × (arcs ≤ length (now buffer)) ⌝ }
+    requires { ⌜ RouteLent (now s) at (now table) (v .0) arcs (now buffer) ⌝ }
     ensures { λ _. ⌜ now (buffer .exit) ≡ routeTo (now (s .entry)) (now (table .entry)) (v .0) ++ drop arcs (now (buffer .entry)) ⌝ }
 {
     let mut u = v;

@@ -2,16 +2,16 @@
 ghost use mathlib.Core.Path.{_≡_};
 ghost use Prim.Native.Nat.{_<_};
 ghost use Rattle.indices.specs.Tests.{all};
-ghost use Rattle.sheet.specs.Sections.{nodeCount, arcCount};
+ghost use Rattle.sheet.specs.Sections.{nodeCount};
 ghost use Rattle.lent_table.specs.Fitting.{Fitting};
-ghost use Rattle.table_nodes.specs.Checks.{feeds, nodeFits};
+ghost use Rattle.table_nodes.specs.Checks.{feeds, nodeFits, Tried};
 use sheet::Arc;
 use sheet::Node;
 use sheet::Sections;
 
 // Whether an arc leads to v from a reached node, and v's label allows for just that arc.
 fn feeds(s: &[u8], at: Sections, table: &[u32], a: Arc, v: Node) -> bool
-    requires { ⌜ Fitting (now s) at (now table) × (a .0 < arcCount (now s)) × (v .0 < nodeCount (now s)) ⌝ }
+    requires { ⌜ Tried (now s) at (now table) (a .0) (v .0) ⌝ }
     ensures { λ r. ⌜ r ≡ feeds (now (s .entry)) (now (table .entry)) (a .0) (v .0) ⌝ }
 {
     let to = fields::end_at(s, at, a, true);

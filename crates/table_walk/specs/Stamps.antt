@@ -30,3 +30,9 @@ pub record Stamped (b table stamps : List ℕ) (v : ℕ) : Type 0 where
   pub home : at stamps (source b) ≡ 1
   pub low : (w : ℕ) → w < nodeCount b → at stamps w ≤ v + 1
   pub led : (w : ℕ) → w < nodeCount b → at stamps w ≢ 0 → leads b table w ≡ true
+
+-- a node from which a walk is to go, with the stamps of the walks from the nodes below it
+pub record Walkable (b : List ℕ) (at : Sections) (table stamps : List ℕ) (v : ℕ) : Type 0 where
+  pub followable : Followable b at table
+  pub inside : v < nodeCount b
+  pub stamped : Stamped b table stamps v

@@ -5,7 +5,7 @@ ghost use Prim.Native.Nat.{ℕ, _+_, _<_};
 ghost use lib.ListN.{replicate};
 ghost use Rattle.sheet.specs.Words.{top};
 ghost use Rattle.procedure.specs.Division.{Division, regions};
-ghost use Rattle.tree_places.specs.Trees.{LaidOut, QueuesOk, Entered, ValidBelow};
+ghost use Rattle.tree_places.specs.Trees.{LaidOut, QueuesOk, Entered, ValidBelow, SomeLaidOut};
 ghost use Rattle.tree_building.specs.Trees.{ToBuild};
 use sheet::Region;
 
@@ -25,7 +25,7 @@ fn build_tree(rows: &[u16], winners: &mut [u64], r: Region)
 
 // Enters each region but 0 at its place in its parent's tree, with key none.
 fn enter_children(rows: &[u16], winners: &mut [u64], count: u16)
-    requires { ⌜ ((d : Division) × LaidOut d (now rows) (now winners) × (count ≡ regions d)) ⌝ }
+    requires { ⌜ SomeLaidOut (now rows) (now winners) count ⌝ }
     ensures { λ _. ⌜ ((d : Division) → LaidOut d (now (rows .entry)) (now (winners .entry)) → count ≡ regions d
         → Entered d (now (rows .entry)) (replicate (regions d) top) (now (winners .exit))) ⌝ }
 {
@@ -41,7 +41,7 @@ fn enter_children(rows: &[u16], winners: &mut [u64], count: u16)
 
 // All keys become none, in valid queues. There are `count` regions.
 pub fn clear(rows: &[u16], winners: &mut [u64], count: u16)
-    requires { ⌜ ((d : Division) × LaidOut d (now rows) (now winners) × (count ≡ regions d)) ⌝ }
+    requires { ⌜ SomeLaidOut (now rows) (now winners) count ⌝ }
     ensures { λ _. ⌜ ((d : Division) → LaidOut d (now (rows .entry)) (now (winners .entry)) → count ≡ regions d
         → QueuesOk d (now (rows .entry)) (replicate (regions d) top) (now (winners .exit))) ⌝ }
 {

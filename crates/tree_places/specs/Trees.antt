@@ -116,3 +116,30 @@ pub record QueuesOk (d : Division) (rows keys winners : List ℕ) : Type 0 where
 pub record ValidBelow (d : Division) (rows keys winners : List ℕ) (n : ℕ) : Type 0 where
   pub entered : Entered d rows keys winners
   pub wins : (r p : ℕ) → r < n → 0 < p → p < childCount d r → Wins d winners r p
+
+-- WHAT A CALL ASKS: that some division, and keys, stand behind the rows and the places
+
+-- a region other than 0, whose row has its parent
+pub record SomeParent (rows : List ℕ) (c : ℕ) : Type 0 where
+  pub division : Division
+  pub counted : Counted division rows
+  pub positive : 0 < c
+  pub inside : c < regions division
+
+-- room for the trees of so many regions
+pub record SomeLaidOut (rows winners : List ℕ) (count : ℕ) : Type 0 where
+  pub division : Division
+  pub laid : LaidOut division rows winners
+  pub all-regions : count ≡ regions division
+
+-- valid queues, and one of the regions
+pub record SomeQueue (rows winners : List ℕ) (r : ℕ) : Type 0 where
+  pub division : Division
+  pub keys : List ℕ
+  pub queues : QueuesOk division rows keys winners
+  pub inside : r < regions division
+
+-- valid queues, and a region that is an item of one
+pub record SomeItem (rows winners : List ℕ) (c : ℕ) : Type 0 where
+  pub queue : SomeQueue rows winners c
+  pub positive : 0 < c

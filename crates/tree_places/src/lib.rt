@@ -4,7 +4,7 @@ ghost use Prim.Native.Nat.{min, _+_, _*_, _<_};
 ghost use lib.ListN.{length};
 ghost use Rattle.procedure.specs.Division.{Division, regions, parent};
 ghost use Rattle.rows.specs.Rows.{field, rowCount};
-ghost use Rattle.tree_places.specs.Trees.{Siblings, Decided, Counted};
+ghost use Rattle.tree_places.specs.Trees.{Siblings, Decided, Counted, SomeParent};
 use sheet::Region;
 
 // The entries of a region's row.
@@ -18,7 +18,7 @@ pub const SEAT: usize = 3;
 
 // The parent of a region other than 0.
 pub fn parent_of(rows: &[u16], r: Region) -> Region
-    requires { ⌜ ((d : Division) × Counted d (now rows) × (0 < r .0) × (r .0 < regions d)) ⌝ }
+    requires { ⌜ SomeParent (now rows) (r .0) ⌝ }
     ensures { λ p. ⌜ ((d : Division) → Counted d (now (rows .entry)) → r .0 < regions d → p .0 ≡ parent d (r .0)) ⌝ }
 {
     Region(rows::field(rows, r.0, PARENT))

@@ -42,13 +42,13 @@ returns : tie.Need-returns Inv-loop μ-loop
 returns c =
     let start : Start = search needs in
     let turn : Turn = search needs in
-    sym (one-too-many _ false (turn .loop .inv .out) (tail (search needs)) (omega arith) (start .pre .3) (omega arith) (c .if1 .taken))
+    sym (one-too-many _ false (turn .loop .inv .out) (tail (search needs)) (omega arith) (start .pre .ends-in) (omega arith) (c .if1 .taken))
 
 returns-2 : tie.Need-returns-2 Inv-loop μ-loop
 returns-2 c =
     let start : Start = search needs in
     let turn : Turn = search needs in
-    sym (one-too-many _ true (turn .loop .inv .into) (head (search needs)) (omega arith) (start .pre .3) (omega arith) (c .if2 .taken))
+    sym (one-too-many _ true (turn .loop .inv .into) (head (search needs)) (omega arith) (start .pre .ends-in) (omega arith) (c .if2 .taken))
 
 -- both have room
 loop-again : tie.Need-loop-again Inv-loop μ-loop
@@ -67,7 +67,7 @@ loop-again c =
 returns-3 : tie.Need-returns-3 Inv-loop μ-loop
 returns-3 c =
     let start : Start = search needs in
-    sym (none-too-many _ (c .before .loop .inv) (start .pre .2) (omega (arith, start .pre .0 .arcs-all)))
+    sym (none-too-many _ (c .before .loop .inv) (start .pre .few-nodes) (omega (arith, start .pre .located .arcs-all)))
 
 pub crowded-nodes-spec : {M : Type 1} → statement M
 crowded-nodes-spec =

@@ -11,9 +11,9 @@ use native.Mathlib.Omega.{arith}
 use lib.ListN.{take}
 use Rattle.sheet.specs.Words.{top}
 use Rattle.procedure.specs.Graph.{Graph, arcs}
-use Rattle.procedure.specs.Division.{Division, regions, isLeaf}
+use Rattle.procedure.specs.Division.{Division, isLeaf}
 use Rattle.procedure.specs.Procedure.{alive, process}
-use Rattle.tree_places.specs.Trees.{QueuesOk}
+use Rattle.tree_places.specs.Trees.{SomeQueue}
 use Rattle.slices.specs.Tables.{Tables, tablesOf, heightEntry}
 use Rattle.slices.specs.States.{stateIn, Processing}
 use Rattle.engine.proofs.Loops.{
@@ -166,12 +166,11 @@ module _ (t : ℕ) where
   frame c = let pre = entry c .pre .1 in framed (opened c (pre .processing) (pre .inner))
 
   -- the queues are valid in every turn
-  queues : (c : At-loop) → let a = entry (c .before) .args in
-      (d : Division) × (keys : List ℕ) × QueuesOk d (a .rows .now) keys (c .loop .winners) × (a .r .0 < regions d)
+  queues : (c : At-loop) → let a = entry (c .before) .args in SomeQueue (a .rows .now) (c .loop .winners) (a .r .0)
   queues c =
       let pre = entry (c .before) .pre .1 in
       let L = c .loop .inv (pre .graph) (pre .division) (pre .keys) (frame (c .before)) in
-      (pre .division, L .0, L .1 .represents .queues, pre .processing .in-range)
+      record { division = pre .division; keys = L .0; queues = L .1 .represents .queues; inside = pre .processing .in-range }
 
   -- A TURN begins where one is left to make
   some-left : (c : Found) → 0 < looped c .loop .left
@@ -240,7 +239,10 @@ module _ (t : ℕ) where
       let pre = entry (looped found .before) .pre .1 in
       let T = asked found in
       let W = worked .process-region .ensures (pre .graph) (pre .division) (T .0) (child-asks (T .1)) in
-      (pre .division, W .0, W .1 .represents .queues, child-positive (T .1), child-in (T .1))
+      record {
+        queue = record { division = pre .division; keys = W .0; queues = W .1 .represents .queues; inside = child-in (T .1) };
+        positive = child-positive (T .1);
+      }
 
   loop-again : here inner-lts.Need-loop-again
   loop-again c g d keys F =

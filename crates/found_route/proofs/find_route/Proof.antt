@@ -23,6 +23,6 @@ find-route-spec =
     (λ c κs. (search needs, reached (search needs)))
     (λ c. search (needs, found-short, left-refused))
     (λ c. search needs)
-    (λ c κs. (search needs, reached (search needs), search needs, search needs))
+    (λ c κs. record { ready = search needs; reached = reached (search needs); counted = search needs; room = search needs })
     (λ c. search needs)
     (λ c. (search (needs, found-route), c .before .before .write-arcs .ensures ∙ search (needs, left-route))))

@@ -20,7 +20,7 @@ begun c = begin (c .before .before)
 
 -- 1 to 3 do not apply, nor 4 to 7, nor 8 to 10
 formed : (c : tie.Else1) → lowest (formRefusals (begin c .args .s .now)) accepted ≡ accepted
-formed c = form-clear _ (begin c .pre .1) (begin c .pre .2) (sym (c .before .bit-set .ensures) ∙ c .if1 .left)
+formed c = form-clear _ (begin c .pre .sized) (begin c .pre .ordered) (sym (c .before .bit-set .ensures) ∙ c .if1 .left)
 
 counted : (c : tie.Else2) → lowest (countRefusals (begun c .args .s .now)) accepted ≡ accepted
 counted c = sym (c .before .count-refusal .ensures) ∙ ap numbered (c .if2 .left)
@@ -30,13 +30,13 @@ arced c = sym (c .before .arc-refusal .ensures) ∙ ap numbered (c .if3 .left)
 
 -- so the arcs that were found are few
 few-arcs : (c : tie.Else2) → begun c .args .at .arcs ≤ mostArcs
-few-arcs c = omega (arith, begun c .pre .0 .arcs-all, count-arcs (begun c .args .s .now) (counted c))
+few-arcs c = omega (arith, begun c .pre .located .arcs-all, count-arcs (begun c .args .s .now) (counted c))
 
 returns : tie.Need-returns
 unfolding judgement refusals formRefusals
 returns c =
     let pre = c .before .before .before .pre in
-    rw (pre .1, pre .2, sym (c .before .bit-set .ensures) ∙ c .if1 .taken)
+    rw (pre .sized, pre .ordered, sym (c .before .bit-set .ensures) ∙ c .if1 .taken)
 
 division-refusal-requires : tie.Need-division-refusal-requires
 division-refusal-requires c κs = (rw (c .before .region-words .ensures) (count-region-words _ (counted (search needs))), few-arcs (search needs))
@@ -44,18 +44,18 @@ division-refusal-requires c κs = (rw (c .before .region-words .ensures) (count-
 returns-4 : tie.Need-returns-4
 returns-4 c =
     let past : tie.Else2 = search needs in
-    let at = begun past .pre .0 in
+    let at = begun past .pre .located in
     c .division-refusal .ensures
     ∙ division-decides _ (formed (search needs)) (counted past) (arced (search needs)) (c .before .before .region-words .ensures) (at .arcs-all) (at .spans-all)
 
 pub later-refusal-spec : {M : Type 1} → statement M
 later-refusal-spec =
     tie.close (tie.spec
-    (λ c κs. (c .before .pre .0, omega (arith, few-words (c .before .args .s .now) (c .before .pre .1))))
+    (λ c κs. (c .before .pre .located, omega (arith, few-words (c .before .args .s .now) (c .before .pre .sized))))
     returns
     (λ c κs. search needs)
     (λ c. count-stops _ (formed (search needs)) (c .if2 .taken) (c .before .count-refusal .ensures))
-    (λ c κs. (begun c .pre .0, count-arcs _ (counted c), count-nodes _ (counted c)))
+    (λ c κs. (begun c .pre .located, count-arcs _ (counted c), count-nodes _ (counted c)))
     (λ c. arc-stops _ (formed (search needs)) (counted (search needs)) (c .if3 .taken) (c .before .arc-refusal .ensures))
     (λ c κs. search needs)
     (λ c. omega (arith, few-arcs (search needs)))

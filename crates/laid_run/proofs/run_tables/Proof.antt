@@ -135,7 +135,7 @@ run-tables-spec =
     (λ c. search needs)
     start-requires
     rounds-requires
-    (λ c κs. let R = ran (c .before) in (_, R .0, R .2))
+    (λ c κs. let R = ran (c .before) in record { division = _; keys = R .0; queues = R .2; inside = R .2 .entered .laid .planned .counted .numbered .root })
     (λ c. parts (search needs) .0)
     slice-aggregate-write-table
     (λ c. parts (search needs) .1)

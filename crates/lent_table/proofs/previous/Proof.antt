@@ -10,7 +10,7 @@ use Rattle.lent_table.proofs.previous.Tie as tie
 returns : tie.Need-returns
 returns c =
     let start : tie.Start = search needs in
-    let tail = before-tail (start .args .s .now) _ _ (start .pre .1) (start .pre .2) in
+    let tail = before-tail (start .args .s .now) _ _ (start .pre .inside) (start .pre .by-arc) in
     (c .end-at .ensures .0 ∙ rw (c .before .predecessor-of .ensures) tail, search needs)
 
 pub previous-spec : {M : Type 1} → statement M

@@ -10,7 +10,7 @@ use Rattle.listing.proofs.write_listing.Tie as tie
 
 -- the whole listing has room
 room : (c : tie.Start) → Room (c .args .out .now) 0 (listingOf (c .args .table .now) (c .args .nodes))
-room c = listing-room _ (c .pre .2) _ (c .pre .1)
+room c = listing-room _ (c .pre .room) _ (c .pre .few)
 
 pub write-listing-spec : {M : Type 1} → statement M
 unfolding listingOf

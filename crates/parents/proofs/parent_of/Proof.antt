@@ -11,12 +11,12 @@ use Rattle.parents.proofs.parent_of.Tie as tie
 
 -- the parent is a lower region
 lower : (c : tie.Start) → let k = c .args .r .0 - 1 in parentWord (c .args .d .now) k ≤ k
-lower c = parent-le (c .args .d .now) (c .pre .2) (c .args .r .0 - 1) (omega arith)
+lower c = parent-le (c .args .d .now) (c .pre .parents) (c .args .r .0 - 1) (omega arith)
 
 returns : tie.Need-returns
 returns c =
     let start : tie.Start = search needs in
-    (c .parent-word .ensures ∙ parent-of-word _ _ (start .pre .0), omega (arith, c .parent-word .ensures, lower start))
+    (c .parent-word .ensures ∙ parent-of-word _ _ (start .pre .positive), omega (arith, c .parent-word .ensures, lower start))
 
 pub parent-of-spec : {M : Type 1} → statement M
 parent-of-spec =

@@ -68,7 +68,9 @@ seat-children-spec =
     μ-loop
     (λ c. search needs)
     (λ c. (refl, λ d S _. seating-start S))
-    (λ c κs. (_, seating (c .before) .counted, seating (c .before) .above, inside (c .before)))
+    (λ c κs.
+    let now = seating (c .before) in
+    record { division = _; counted = now .counted; positive = now .above; inside = inside (c .before) })
     (λ c κs. seat-row (seating (turn (c .before))) (inside (turn (c .before))) (over (c .before)))
     (λ c κs. search needs)
     add-place

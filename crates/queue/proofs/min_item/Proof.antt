@@ -24,6 +24,6 @@ min-item-spec =
     (λ c. search needs)
     (λ c. search needs)
     (λ c. search needs)
-    (λ c. let pre = entry (c .before .before) .pre in first-in (pre .2) (pre .3) (some (search needs)) (c .before .start-of .ensures))
+    (λ c. let pre = entry (c .before .before) .pre in first-in (pre .queues) (pre .inside) (some (search needs)) (c .before .start-of .ensures))
     (λ c. search needs)
     (λ c d keys Q inside. item-some Q inside (some (search needs)) (c .before .start-of .ensures)))

@@ -30,6 +30,6 @@ min-key-spec =
     (λ c. search needs)
     (λ c. search needs)
     (λ c. search needs)
-    (λ c. let pre = entry (c .before .before) .pre in first-in (pre .2) (pre .3) (some (search needs)) (c .before .start-of .ensures))
-    (λ c. let pre = entry (c .before .before) .pre in omega (arith, key-fits (pre .2) (pre .3) (some (search needs)) (c .before .start-of .ensures)))
+    (λ c. let pre = entry (c .before .before) .pre in first-in (pre .queues) (pre .inside) (some (search needs)) (c .before .start-of .ensures))
+    (λ c. let pre = entry (c .before .before) .pre in omega (arith, key-fits (pre .queues) (pre .inside) (some (search needs)) (c .before .start-of .ensures)))
     (λ c d keys Q inside. key-some Q inside (some (search needs)) (c .before .start-of .ensures)))

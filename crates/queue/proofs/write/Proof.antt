@@ -49,8 +49,8 @@ record Valid (s : Start) (d : Division) (keys : List ℕ) : Type 0 where
   queues : QueuesOk d (s .args .rows .now) keys (s .args .winners .now)
   inside : s .args .child .0 < regions d
 
-given : (s : Start) → Valid s (s .pre .0) (s .pre .1)
-given s = record { queues = s .pre .2; inside = s .pre .4 }
+given : (s : Start) → Valid s (s .pre .queue .division) (s .pre .queue .keys)
+given s = record { queues = s .pre .queue .queues; inside = s .pre .queue .inside }
 
 over : (c : After-parent-of) (d : Division) (keys : List ℕ) → Valid (entry c) d keys → c .parent-of .result .0 ≡ parent d (entry c .args .child .0)
 over c d keys Q = c .parent-of .ensures d (Q .queues .entered .laid .planned .counted) (Q .inside)
@@ -63,13 +63,13 @@ lies c d keys Q = record { over = over (c .before .before) d keys Q; row = c .be
 start-of-requires : tie.Need-start-of-requires Inv-loop μ-loop
 start-of-requires c κs =
     let Q = given (entry c) in
-    up-row (Q .queues .entered .laid .planned) (entry c .pre .3) (Q .inside) (over c _ _ Q)
+    up-row (Q .queues .entered .laid .planned) (entry c .pre .positive) (Q .inside) (over c _ _ Q)
 
 slice-write-winners : tie.Need-slice-write-winners Inv-loop μ-loop
 slice-write-winners c =
     let start : Start = search needs in
     let Q = given start in
-    seat-inside (Q .queues .entered .laid .planned) (lies (c .before) _ _ Q) (start .pre .3) (Q .inside) (Q .queues .entered .laid)
+    seat-inside (Q .queues .entered .laid .planned) (lies (c .before) _ _ Q) (start .pre .positive) (Q .inside) (Q .queues .entered .laid)
 
 -- THE REPAIR has come to the loop's place
 repairing : (c : At-loop) → let args = called c .args in
@@ -78,7 +78,7 @@ repairing : (c : At-loop) → let args = called c .args in
     (seated c .before .start-of .result) (c .loop .place) (c .loop .best)
 repairing c d keys Q =
     c .loop .inv .1 d _ _
-    (repair-start _ (Q .queues) (lies (seated c) d keys Q) (called c .pre .3) (Q .inside) (omega (arith, called c .fits)) (c .before .entry-of .ensures))
+    (repair-start _ (Q .queues) (lies (seated c) d keys Q) (called c .pre .positive) (Q .inside) (omega (arith, called c .fits)) (c .before .entry-of .ensures))
 
 long : (c : At-loop) → length (c .loop .winners) ≡ length (called c .args .winners .now)
 long c = simp length-set at (c .loop .inv .0)

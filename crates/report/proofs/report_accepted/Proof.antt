@@ -21,7 +21,11 @@ long-enough c = omega (arith, few (search needs))
 report-table-requires : tie.Need-report-table-requires
 report-table-requires c κs =
     let sized : tie.After-table-length = search needs in
-    (search needs, search needs, length-take-le _ _ (long-enough sized) ∙ sized .table-length .ensures, few (search needs), search needs)
+    record {
+      accepted = search needs;
+      counted = search needs;
+      lent = record { sized = length-take-le _ _ (long-enough sized) ∙ sized .table-length .ensures; few = few (search needs); room = search needs };
+    }
 
 returns : tie.Need-returns
 returns c =

@@ -91,7 +91,8 @@ has-ended-requires c κs =
     let loop : At-loop = search needs in
     let pre = entry loop .pre in
     let L = loop .loop .inv (pre .graph) (pre .division) (pre .made) (pre .keys) (pre .represents) (pre .sofar) in
-    (pre .division, L .0, L .1 .represents .queues)
+    let valid = L .1 .represents .queues in
+    record { division = pre .division; keys = L .0; queues = valid; inside = valid .entered .laid .planned .counted .numbered .root }
 
 returns : tie.Need-returns Inv-loop μ-loop
 returns c g d k keys R e =

@@ -20,7 +20,7 @@ loop-again : tie.Need-loop-again Inv-loop μ-loop
 loop-again c =
     let start : Start = search needs in
     let turn : tie.In-loop Inv-loop μ-loop = search needs in
-    rw (c .previous .ensures .0, c .before .predecessor-of .ensures) (write-on (start .pre .0) (turn .before .loop .inv) (turn .loop-test .taken))
+    rw (c .previous .ensures .0, c .before .predecessor-of .ensures) (write-on (start .pre .ready) (turn .before .loop .inv) (turn .loop-test .taken))
 
 pub write-arcs-spec : {M : Type 1} → statement M
 write-arcs-spec =
@@ -30,7 +30,7 @@ write-arcs-spec =
     μ-loop
     (λ c.
     let start : Start = search needs in
-    record { reached = start .pre .1; left = start .pre .2; long = refl; few = le-refl _; room = start .pre .3; same = refl })
+    record { reached = start .pre .reached; left = start .pre .counted; long = refl; few = le-refl _; room = start .pre .room; same = refl })
     (λ c. search needs)
     (λ c κs. search needs)
     (λ c. search needs)
@@ -40,4 +40,4 @@ write-arcs-spec =
     (λ c. search needs)
     loop-again
     (λ c. search needs)
-    (λ c. let start : Start = search needs in write-end (start .pre .0) (c .before .loop .inv) (omega arith)))
+    (λ c. let start : Start = search needs in write-end (start .pre .ready) (c .before .loop .inv) (omega arith)))

@@ -13,4 +13,7 @@ write-count-spec =
     (λ c κs. search needs)
     (λ c κs. search needs)
     (λ c. search needs)
-    (λ c. cc))
+    (λ c.
+    let high : tie.After-word = search needs in
+    let low : tie.After-word2 = search needs in
+    rw (← high .word .ensures, ← low .word2 .ensures) (c .before .before .write-pair .ensures)))

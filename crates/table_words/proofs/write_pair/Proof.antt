@@ -12,4 +12,4 @@ write-pair-spec =
     (λ c. search needs)
     (λ c κs. search needs)
     (λ c. search needs)
-    (λ c. let start : tie.Start = search needs in cc (add-one (start .args .i))))
+    (λ c. let first : tie.After-write-word = search needs in rw (c .before .before .write-word2 .ensures, first .write-word .ensures, add-one)))

@@ -40,7 +40,7 @@ build-tree-requires : tie.Need-build-tree-requires Inv-loop μ-loop
 build-tree-requires c κs =
     let pass : tie.In-loop Inv-loop μ-loop = search needs in
     let pre = entry (pass .before) .pre in
-    record { division = _; keys = _; below = valid (pass .before) _ (pre .1) (pre .2); inside = omega (arith, pass .loop-test .taken, pre .2) }
+    record { division = _; keys = _; below = valid (pass .before) _ (pre .laid) (pre .all-regions); inside = omega (arith, pass .loop-test .taken, pre .all-regions) }
 
 loop-again : tie.Need-loop-again Inv-loop μ-loop
 loop-again c =

@@ -38,8 +38,8 @@ record Laid (s : Start) (d : Division) : Type 0 where
   trees : LaidOut d (s .args .rows .now) (s .args .winners .now)
   all : s .args .count ≡ regions d
 
-given : (s : Start) → Laid s (s .pre .0)
-given s = record { trees = s .pre .1; all = s .pre .2 }
+given : (s : Start) → Laid s (s .pre .division)
+given s = record { trees = s .pre .laid; all = s .pre .all-regions }
 
 entering : (c : In-loop) (d : Division) → Laid (entry c) d → Entering d (entry c .args .rows .now) (c .before .loop .winners) (c .before .loop .c)
 entering c d L = c .before .loop .inv .1 d (L .trees) (L .all)
@@ -58,7 +58,7 @@ lies c d L = record { over = over (c .before .before) d L; row = c .before .star
 parent-of-requires : tie.Need-parent-of-requires Inv-loop μ-loop
 parent-of-requires c κs =
     let L = given (entry c) in
-    (_, L .trees .planned .counted, entering c _ L .above, inside c _ L)
+    record { division = _; counted = L .trees .planned .counted; positive = entering c _ L .above; inside = inside c _ L }
 
 start-of-requires : tie.Need-start-of-requires Inv-loop μ-loop
 start-of-requires c κs =

@@ -7,5 +7,5 @@ use Rattle.tree_places.proofs.parent_of.Tie as tie
 
 pub parent-of-spec : {M : Type 1} → statement M
 parent-of-spec = tie.close (tie.spec
-    (λ c κs. (omega arith, row-in _ (c .before .pre .1) (c .before .pre .3)))
-    (λ c d C inside. c .field .ensures ∙ C .parents _ (c .before .before .pre .2) inside))
+    (λ c κs. (omega arith, row-in _ (c .before .pre .counted) (c .before .pre .inside)))
+    (λ c d C inside. c .field .ensures ∙ C .parents _ (c .before .before .pre .positive) inside))

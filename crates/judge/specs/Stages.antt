@@ -1,0 +1,14 @@
+-- What the stages of the judge after the first two ask. Definitions.
+use Prim.Native.Nat.{ℕ}
+use mathlib.Core.Bool.{false}
+use mathlib.Core.Path.{_≡_}
+use mathlib.Core.List.{List}
+use Rattle.sheet.specs.declared.Sections.{Sections}
+use Rattle.sheet.specs.Sections.{Located}
+use Rattle.refusals.specs.Form.{wrongSize, outOfOrder}
+
+-- a sheet whose sections are found, and to which neither 1 nor 2 applies
+pub record InOrder (b : List ℕ) (at : Sections) : Type 0 where
+  pub located : Located b at
+  pub sized : wrongSize b ≡ false
+  pub ordered : outOfOrder b ≡ false
