@@ -64,7 +64,16 @@ weighed : (c : tie.After-wide3) {g : Graph} {d : Division} {spans keys : List �
     → Weighed g d (tables start spans) (a .labels .now) (a .predecessors .now) (a .own .now) keys (a .winners .now) (a .c) (a .r .0)
     (found c .arc-of .result .0) (from c .tail-of .result .0) (to c .head-of .result .0) (summed c .wide .result) (c .before .before .wide2 .result)
     (c .wide3 .result)
-weighed c P leaf = search needs
+weighed c P leaf = record {
+  processing = P;
+  leaf = leaf;
+  row = found c .arc-of .ensures;
+  from = from c .tail-of .ensures;
+  to = to c .head-of .ensures;
+  tail-label = summed c .wide .ensures .0;
+  arc-length = c .before .before .wide2 .ensures .0;
+  head-label = c .wide3 .ensures .0;
+}
 
 update-outgoing-requires : tie.Need-update-outgoing-requires
 update-outgoing-requires c κs =

@@ -21,6 +21,7 @@ source-fits-spec =
     (λ c κs. search needs)
     (λ c. omega (arith, few-nodes, inside (search needs)))
     (λ c κs. omega (arith, inside (search needs)))
-    (λ c. search (needs, source-not-zero))
+    (λ c. let start : tie.Start = search needs in let source : tie.After-source-number = search needs in
+    source-not-zero (start .pre) (source .source-number .ensures) (c .before .label-of .ensures) (c .if1 .taken))
     (λ c κs. omega (arith, inside (search needs)))
     (λ c. search (needs, source-zero)))
