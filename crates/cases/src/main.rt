@@ -6,13 +6,13 @@
 ghost use Prim.Native.Nat.{_≤_};
 ghost use lib.ListN.{length};
 ghost use Rattle.io.specs.Counts.{Counts};
+use answer::Fault;
+use answer::ran::Ran;
+use answer::routed::Routed;
+use cases_lent::FILLING;
 use judge::Judged;
-use lent_words::FILLING;
 use libc::STDIN_FILENO;
 use libc::STDOUT_FILENO;
-use route_answer::Routed;
-use run_answer::Ran;
-use sheet::Fault;
 
 // The bytes of the longest line: its four words, and a sheet.
 const ROOM: usize = 65552;
@@ -126,7 +126,7 @@ fn print_words(words: &[u32]) {
 // Prints the answer's word and, where a lent word has changed, the lent words up to the last changed one.
 fn print_answer(word: u32, lent: &[u32]) {
     print_word(word);
-    let used = lent_words::used(lent);
+    let used = cases_lent::used(lent);
     if used > 0 {
         io::write_all(STDOUT_FILENO, b" ");
         print_words(&lent[0..used]);

@@ -6,11 +6,11 @@ use mathlib.Core.Path.{_≡_, sym, ap, _∙_}
 use Rattle.sheet.specs.Limits.{mostNodes, mostArcs, mostRegionWords}
 use Rattle.sheet.specs.Words.{words}
 use Rattle.sheet.specs.Sections.{nodeCount, spanCount, arcCount, regionWords}
-use Rattle.sheet.specs.Answer.{accepted, lowest, numbered}
-use Rattle.sheet.proofs.Lowest.{lowest-append, lowest-clear, stage-stops, clear-at}
-use Rattle.refusals.specs.Form.{wrongSize, outOfOrder, bitSet}
-use Rattle.refusals.specs.Judgement.{formRefusals, countRefusals, arcRefusals, divisionRefusals, refusals, judgement}
-use Rattle.refusals.proofs.Clear.{few-nodes, few-arcs, few-region-words}
+use Rattle.answer.specs.Answer.{accepted, lowest, numbered}
+use Rattle.answer.proofs.Lowest.{lowest-append, lowest-clear, stage-stops, clear-at}
+use Rattle.judgement.specs.Form.{wrongSize, outOfOrder, bitSet}
+use Rattle.judgement.specs.Judgement.{formRefusals, countRefusals, arcRefusals, divisionRefusals, refusals, judgement}
+use Rattle.judgement.proofs.Clear.{few-nodes, few-arcs, few-region-words}
 
 -- none of 1 to 3 applies
 pub form-clear : (b : List ℕ) → wrongSize b ≡ false → outOfOrder b ≡ false → bitSet b ≡ false → lowest (formRefusals b) accepted ≡ accepted

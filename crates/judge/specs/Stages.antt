@@ -5,7 +5,7 @@ use mathlib.Core.Path.{_≡_}
 use mathlib.Core.List.{List}
 use Rattle.sheet.specs.declared.Sections.{Sections}
 use Rattle.sheet.specs.Sections.{Located}
-use Rattle.refusals.specs.Form.{wrongSize, outOfOrder}
+use Rattle.judgement.specs.Form.{wrongSize, outOfOrder}
 
 -- a sheet whose sections are found, and to which neither 1 nor 2 applies
 pub record InOrder (b : List ℕ) (at : Sections) : Type 0 where

@@ -3,12 +3,12 @@ ghost use mathlib.Core.Path.{_≡_};
 ghost use Prim.Native.Nat.{_<_};
 ghost use Rattle.sheet.specs.Words.{words};
 ghost use Rattle.sheet.specs.Sections.{Located};
-ghost use Rattle.sheet.specs.Answer.{numbered};
-ghost use Rattle.refusals.specs.Form.{wrongSize, bitSet};
-ghost use Rattle.refusals.specs.Judgement.{judgement};
-ghost use Rattle.judge_answer.specs.Said.{said};
+ghost use Rattle.answer.specs.Answer.{numbered};
+ghost use Rattle.judgement.specs.Form.{wrongSize, bitSet};
+ghost use Rattle.judgement.specs.Judgement.{judgement};
+ghost use Rattle.answer.specs.JudgeSaid.{said};
 ghost use Rattle.judge.specs.Stages.{InOrder};
-pub use judge_answer::Judged;
+pub use answer::judged::Judged;
 use sheet::Sections;
 
 // Refusal 1: the byte count is no multiple of 4, or too high.
@@ -26,10 +26,10 @@ fn bit_set(s: &[u8], at: Sections) -> bool
     requires { ⌜ Located (now s) at × (words (now s) < 65536) ⌝ }
     ensures { λ r. ⌜ r ≡ bitSet (now (s .entry)) ⌝ }
 {
-    if arcs::bit_set(s, at) {
+    if judge_arcs::bit_set(s, at) {
         return true;
     }
-    leaf_words::bit_set(reader::region_words(s, at))
+    judge_division::leaf_words::bit_set(sheet_reader::region_words(s, at))
 }
 
 // Refusals 3 to 14, of a sheet to which neither 1 nor 2 applies: the number, or 0.
@@ -40,15 +40,15 @@ fn later_refusal(s: &[u8], at: Sections) -> u8
     if bit_set(s, at) {
         return 3;
     }
-    let count = limits::count_refusal(s, at);
+    let count = judge_form::limits::count_refusal(s, at);
     if count != 0 {
         return count;
     }
-    let arc = arcs::arc_refusal(s, at);
+    let arc = judge_arcs::arc_refusal(s, at);
     if arc != 0 {
         return arc;
     }
-    division::division_refusal(reader::region_words(s, at), at.arcs as u16, at.spans)
+    judge_division::division_refusal(sheet_reader::region_words(s, at), at.arcs as u16, at.spans)
 }
 
 // The lowest number of a refusal that applies to the sheet, or 0. The sections are found once, for all that is looked at after the order of kinds.
@@ -58,15 +58,15 @@ fn lowest_refusal(s: &[u8]) -> u8
     if wrong_size(s) {
         return 1;
     }
-    if order::out_of_order(s) {
+    if judge_form::order::out_of_order(s) {
         return 2;
     }
-    later_refusal(s, sections::find_sections(s))
+    later_refusal(s, sheet::scan::find_sections(s))
 }
 
 // Judges a sheet.
 pub fn judge(sheet: &[u8]) -> Judged
     ensures { λ r. ⌜ said r ≡ judgement (now (sheet .entry)) ⌝ }
 {
-    judge_answer::answer(lowest_refusal(sheet))
+    answer::judged::answer(lowest_refusal(sheet))
 }

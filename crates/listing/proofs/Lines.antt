@@ -3,14 +3,14 @@ use Prim.Native.Nat.{ℕ, _+_, _*_, _≤_, _<_}
 use mathlib.Core.List.{List}
 use native.Mathlib.Omega.{arith}
 use lib.ListN.{length, length-append}
-use Rattle.status_line.specs.StatusLine.{statusLine}
-use Rattle.node_lines.specs.NodeLines.{nodeLines}
+use Rattle.listing.specs.StatusLine.{statusLine}
+use Rattle.listing.specs.NodeLines.{nodeLines}
 use Rattle.listing.specs.Listing.{listingOf, mostListing, refusedLine}
-use Rattle.text.specs.Written.{Room, Wrote}
-use Rattle.text.proofs.Writing.{length-wrote}
-use Rattle.text.proofs.Numbers.{decimal-within}
-use Rattle.status_line.proofs.StatusLine.{status-line-within}
-use Rattle.node_lines.proofs.NodeLines.{node-lines-within}
+use Rattle.listing.specs.Written.{Room, Wrote}
+use Rattle.listing.proofs.text.Writing.{length-wrote}
+use Rattle.listing.proofs.text.Numbers.{decimal-within}
+use Rattle.listing.proofs.status_line.StatusLine.{status-line-within}
+use Rattle.listing.proofs.node_lines.NodeLines.{node-lines-within}
 
 -- what a buffer for the longest listing has room for
 module _ (table : List ℕ) {buffer : List ℕ} (long : mostListing ≤ length buffer) where

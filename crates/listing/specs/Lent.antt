@@ -3,7 +3,7 @@ use Prim.Native.Nat.{ℕ, _≤_}
 use mathlib.Core.Path.{_≡_}
 use mathlib.Core.List.{List}
 use lib.ListN.{length}
-use Rattle.answers.specs.Tables.{tableLength}
+use Rattle.calls.specs.Tables.{tableLength}
 use Rattle.listing.specs.Listing.{mostListing}
 
 -- a table of so many nodes, and room for its listing

@@ -1,9 +1,9 @@
 -- What `marks` prints, as bytes: the listing of an answer table, and a refusal. Definitions.
 use Prim.Native.Nat.{ℕ}
 use mathlib.Core.List.{List, _++_}
-use Rattle.text.specs.Text.{ascii, decimal}
-use Rattle.status_line.specs.StatusLine.{statusLine}
-use Rattle.node_lines.specs.NodeLines.{nodeLines}
+use Rattle.listing.specs.Text.{ascii, decimal}
+use Rattle.listing.specs.StatusLine.{statusLine}
+use Rattle.listing.specs.NodeLines.{nodeLines}
 
 -- the listing of a table of n nodes
 unfoldable pub listingOf : List ℕ → ℕ → List ℕ

@@ -2,10 +2,10 @@
 use mathlib.Core.List.{List}
 use Prim.Native.Nat.{ℕ}
 use Rattle.sheet.specs.Sections.{nodeCount}
-use Rattle.sheet.specs.Answer.{numberOf, Answer, accepted, ended, paused, route, noRoute, refused}
-use Rattle.refusals.specs.Judgement.{judgement}
+use Rattle.answer.specs.Answer.{numberOf, Answer, accepted, ended, paused, route, noRoute, refused}
+use Rattle.judgement.specs.Judgement.{judgement}
 use Rattle.procedure.specs.Procedure.{enoughRounds}
-use Rattle.answers.specs.Runs.{runTable}
+use Rattle.calls.specs.Runs.{runTable}
 use Rattle.listing.specs.Listing.{listingOf, refusedLine}
 
 -- the line of a refusal; of any other answer the listing

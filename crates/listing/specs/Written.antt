@@ -1,10 +1,15 @@
--- What a lent buffer holds after a whole text is written to its front. Definitions.
-use Prim.Native.Nat.{ℕ}
+-- What a writing function leaves in a lent buffer. Definitions.
+use Prim.Native.Nat.{ℕ, _+_, _≤_}
 use mathlib.Core.Path.{_≡_}
-use mathlib.Core.List.{List, _++_}
-use lib.ListN.{length, drop}
+use mathlib.Core.List.{List}
+use lib.ListN.{length}
+use lib.Seq.{sets}
 
--- the text stands at the front of the buffer, the rest is as it was, and n is the number of its bytes
-pub record Filled (before text after : List ℕ) (n : ℕ) : Type 0 where
-  pub bytes : after ≡ text ++ drop (length text) before
-  pub count : n ≡ length text
+-- a text has room in a buffer from a place on
+pub record Room (buffer : List ℕ) (at : ℕ) (text : List ℕ) : Type 0 where
+  pub fits : at + length text ≤ length buffer
+
+-- `after` is `before` with the text stored from a place on, and `next` is the place after the text
+pub record Wrote (before : List ℕ) (at : ℕ) (text after : List ℕ) (next : ℕ) : Type 0 where
+  pub bytes : after ≡ sets before at text
+  pub place : next ≡ at + length text

@@ -1,7 +1,7 @@
 // Reads a sheet on standard input, runs it to its end and prints its listing, or its refusal.
 ghost use Prim.Native.Nat.{_≤_};
 ghost use lib.ListN.{length};
-ghost use Rattle.answers.specs.Tables.{tableLength};
+ghost use Rattle.calls.specs.Tables.{tableLength};
 ghost use Rattle.listing.specs.Listing.{mostListing};
 use libc::STDIN_FILENO;
 

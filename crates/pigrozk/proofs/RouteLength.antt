@@ -9,14 +9,14 @@ use Rattle.indices.specs.Columns.{at}
 use Rattle.indices.specs.Steps.{if_then_else_}
 use Rattle.sheet.specs.Words.{top, payload}
 use Rattle.sheet.specs.Sections.{nodeCount}
-use Rattle.sheet.specs.Answer.{state, Answer, route, noRoute, refused, Case, lowest}
+use Rattle.answer.specs.Answer.{state, Answer, route, noRoute, refused, Case, lowest}
 use Rattle.procedure.specs.Graph.{Graph, tail}
 use Rattle.procedure.specs.OfSheet.{graphOf}
 use Rattle.procedure.specs.Routes.{followed}
 use Rattle.procedure.proofs.OfSheet.{graph-nodes}
-use Rattle.answers.specs.Tables.{labelIn}
-use Rattle.answers.specs.Routes.{routeRefusals, routeTo, foundRoute, routeAnswer}
-use Rattle.codes.specs.Codes.{arcsOf}
+use Rattle.calls.specs.Tables.{labelIn}
+use Rattle.calls.specs.Routes.{routeRefusals, routeTo, foundRoute, routeAnswer}
+use Rattle.answer.specs.Codes.{arcsOf}
 
 -- followed back for n steps, at most n arcs are met
 followed-within : (g : Graph) (predecessors : List ℕ) (n v : ℕ) → length (followed g predecessors n v) ≤ n

@@ -10,12 +10,12 @@ use lib.Dec.{ltb, eqb}
 use Rattle.indices.specs.Steps.{if_then_else_}
 use Rattle.indices.proofs.Tests.{and-left, and-right}
 use Rattle.sheet.specs.Words.{top}
-use Rattle.sheet.specs.Answer.{Refusal, input, state, Answer, accepted, ended, paused, route, noRoute, refused, Case, lowest}
-use Rattle.refusals.specs.Judgement.{formRefusals, countRefusals, arcRefusals, divisionRefusals, refusals, judgement}
-use Rattle.answers.specs.Tables.{statusIn, labelIn}
-use Rattle.answers.specs.Runs.{runRefusals, runAnswer, runTable}
-use Rattle.answers.specs.Routes.{tableRefusals, routeRefusals, routeTo, foundRoute, routeAnswer}
-use Rattle.codes.specs.Codes.{codeOf, answerOf}
+use Rattle.answer.specs.Answer.{Refusal, input, state, Answer, accepted, ended, paused, route, noRoute, refused, Case, lowest}
+use Rattle.judgement.specs.Judgement.{formRefusals, countRefusals, arcRefusals, divisionRefusals, refusals, judgement}
+use Rattle.calls.specs.Tables.{statusIn, labelIn}
+use Rattle.calls.specs.Runs.{runRefusals, runAnswer, runTable}
+use Rattle.calls.specs.Routes.{tableRefusals, routeRefusals, routeTo, foundRoute, routeAnswer}
+use Rattle.answer.specs.Codes.{codeOf, answerOf}
 
 -- equal answers have one code
 pub same-code : {code : ℕ} {a same : Answer} → code ≡ codeOf a → a ≡ same → code ≡ codeOf same

@@ -2,20 +2,20 @@
 ghost use mathlib.Core.Path.{_≡_};
 ghost use lib.ListN.{length};
 ghost use Rattle.sheet.specs.Sections.{nodeCount};
-ghost use Rattle.sheet.specs.Answer.{ended};
-ghost use Rattle.refusals.specs.Judgement.{judgement, Accepted};
+ghost use Rattle.answer.specs.Answer.{ended};
+ghost use Rattle.judgement.specs.Judgement.{judgement, Accepted};
 ghost use Rattle.procedure.specs.Procedure.{enoughRounds};
-ghost use Rattle.answers.specs.Tables.{tableLength, statusSays, statusIn};
-ghost use Rattle.answers.specs.Runs.{runAnswer, tableAfter, Delivered};
-ghost use Rattle.answers.specs.Routes.{routeAnswer, bufferAfter, TableKnown};
-ghost use Rattle.codes.specs.Codes.{codeOf};
+ghost use Rattle.calls.specs.Tables.{tableLength, statusSays, statusIn};
+ghost use Rattle.calls.specs.Runs.{runAnswer, tableAfter, Delivered};
+ghost use Rattle.calls.specs.Routes.{routeAnswer, bufferAfter, TableKnown};
+ghost use Rattle.answer.specs.Codes.{codeOf};
 
 // Judges a sheet.
 #[no_mangle]
 pub extern "C" fn pigrozk_judge(sheet: &[u8]) -> u32
     ensures { λ r. ⌜ r ≡ codeOf (judgement (now (sheet .entry))) ⌝ }
 {
-    codes::judged_code(judge::judge(sheet))
+    answer::codes::judged_code(judge::judge(sheet))
 }
 
 // Runs a sheet to its end: the answer's code, and every word of the table afterwards. Where the sheet is accepted and the table has the right length,
@@ -27,7 +27,7 @@ pub extern "C" fn pigrozk_run(sheet: &[u8], table: &mut [u32]) -> u32
         × (Accepted (now (sheet .entry)) → length (now (table .entry)) ≡ tableLength (nodeCount (now (sheet .entry)))
         → Delivered (now (sheet .entry)) enoughRounds (now (table .exit)) × (r ≡ codeOf ended) × (statusIn (now (table .exit)) ≡ 1)) ⌝ }
 {
-    codes::ran_code(run::run(sheet, table))
+    answer::codes::ran_code(run::run(sheet, table))
 }
 
 // Runs a sheet for at most so many rounds: the answer's code, and every word of the table afterwards. Where the sheet is accepted and the table has
@@ -40,7 +40,7 @@ pub extern "C" fn pigrozk_run_limited(sheet: &[u8], rounds: u32, table: &mut [u3
         × (Accepted (now (sheet .entry)) → length (now (table .entry)) ≡ tableLength (nodeCount (now (sheet .entry)))
         → Delivered (now (sheet .entry)) rounds (now (table .exit)) × (r ≡ codeOf (statusSays (statusIn (now (table .exit)))))) ⌝ }
 {
-    codes::ran_code(run::run_limited(sheet, rounds, table))
+    answer::codes::ran_code(run::run_limited(sheet, rounds, table))
 }
 
 // Reads the route to a node: the answer's code, every word of the buffer afterwards, and what the answer says of the table.
@@ -50,5 +50,5 @@ pub extern "C" fn pigrozk_route(sheet: &[u8], table: &[u32], node: u32, buffer: 
         × (now (buffer .exit) ≡ bufferAfter (now (sheet .entry)) (now (table .entry)) node (now (buffer .entry)))
         × TableKnown (now (sheet .entry)) (now (table .entry)) (routeAnswer (now (sheet .entry)) (now (table .entry)) node (now (buffer .entry))) ⌝ }
 {
-    codes::routed_code(route::route(sheet, table, node, buffer))
+    answer::codes::routed_code(route::route(sheet, table, node, buffer))
 }

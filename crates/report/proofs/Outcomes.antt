@@ -4,15 +4,15 @@ use mathlib.Core.Path.{_≡_, sym, ap, _∙_}
 use mathlib.Core.List.{List, _++_}
 use lib.ListN.{length, drop}
 use Rattle.sheet.specs.Sections.{nodeCount}
-use Rattle.sheet.specs.Answer.{numberOf, Refusal, refused}
-use Rattle.refusals.specs.Judgement.{judgement, Accepted}
+use Rattle.answer.specs.Answer.{numberOf, Refusal, refused}
+use Rattle.judgement.specs.Judgement.{judgement, Accepted}
 use Rattle.procedure.specs.Procedure.{enoughRounds}
-use Rattle.answers.specs.Tables.{tableLength}
-use Rattle.answers.specs.Runs.{tableAfter}
-use Rattle.answers.proofs.Outcome.{made}
+use Rattle.calls.specs.Tables.{tableLength}
+use Rattle.calls.specs.Runs.{tableAfter}
+use Rattle.calls.proofs.Outcome.{made}
 use Rattle.listing.specs.Listing.{listingOf, refusedLine}
 use Rattle.listing.specs.Printed.{endTable, printed}
-use Rattle.listing.specs.Written.{Filled}
+use Rattle.listing.specs.Filled.{Filled}
 use Rattle.report.specs.Report.{wordsAfter, Reported}
 
 module _ (b : List ℕ) {table out outAfter : List ℕ} {n : ℕ} where

@@ -5,12 +5,12 @@ use mathlib.Core.List.{List, _++_}
 use lib.ListN.{drop}
 use Rattle.indices.specs.Steps.{if_then_else_}
 use Rattle.sheet.specs.Sections.{nodeCount}
-use Rattle.sheet.specs.Answer.{isRefused}
-use Rattle.refusals.specs.Judgement.{judgement, Accepted}
-use Rattle.answers.specs.Tables.{tableLength}
+use Rattle.answer.specs.Answer.{isRefused}
+use Rattle.judgement.specs.Judgement.{judgement, Accepted}
+use Rattle.calls.specs.Tables.{tableLength}
 use Rattle.listing.specs.Lent.{ListingLent}
 use Rattle.listing.specs.Printed.{endTable, printed}
-use Rattle.listing.specs.Written.{Filled}
+use Rattle.listing.specs.Filled.{Filled}
 
 -- the words lent for the table afterwards: the table at their front, or of a refusal as they were
 unfoldable pub wordsAfter : List ℕ → List ℕ → List ℕ

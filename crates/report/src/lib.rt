@@ -3,11 +3,11 @@ ghost use mathlib.Core.Path.{_≡_};
 ghost use Prim.Native.Nat.{_≤_};
 ghost use lib.ListN.{length};
 ghost use Rattle.io.specs.Counts.{Counts};
-ghost use Rattle.refusals.specs.Judgement.{Accepted};
-ghost use Rattle.answers.specs.Tables.{tableLength};
+ghost use Rattle.judgement.specs.Judgement.{Accepted};
+ghost use Rattle.calls.specs.Tables.{tableLength};
 ghost use Rattle.listing.specs.Listing.{listingOf, mostListing};
 ghost use Rattle.listing.specs.Printed.{endTable};
-ghost use Rattle.listing.specs.Written.{Filled};
+ghost use Rattle.listing.specs.Filled.{Filled};
 ghost use Rattle.report.specs.Report.{Reported, TableLent};
 use judge::Judged;
 use libc::STDOUT_FILENO;
@@ -33,7 +33,7 @@ fn report_accepted(sheet: &[u8], table: &mut [u32], out: &mut [u8]) -> usize
     report_table(
         sheet,
         nodes,
-        &mut table[..table_length::table_length(nodes)],
+        &mut table[..table::length::table_length(nodes)],
         out,
     )
 }
@@ -47,7 +47,7 @@ pub fn report(sheet: &[u8], table: &mut [u32], out: &mut [u8]) -> usize
 {
     let judged = judge::judge(sheet);
     match judged {
-        Judged::Refused(fault) => listing::write_refused(codes::number_of(fault), out),
+        Judged::Refused(fault) => listing::write_refused(answer::codes::number_of(fault), out),
         Judged::Accepted => report_accepted(sheet, table, out),
     }
 }

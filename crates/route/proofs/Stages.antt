@@ -7,15 +7,15 @@ use mathlib.Core.List.{List}
 use borrow.Author.Tests.{leb-false}
 use Rattle.sheet.specs.declared.Sections.{Sections}
 use Rattle.sheet.specs.Sections.{nodeCount}
-use Rattle.sheet.specs.Answer.{input, state, Answer, accepted, refused, lowest}
-use Rattle.sheet.proofs.Lowest.{lowest-clear, lowest-stop, clear-at}
-use Rattle.refusals.specs.Judgement.{Accepted}
-use Rattle.answers.specs.Tables.{wrongLength}
-use Rattle.answers.specs.Routes.{nodeOutside, tableRefusals, foundRoute, routeAnswer, leftBy, bufferAfter, TableKnown}
-use Rattle.answers.proofs.Routes.{after-sheet, table-known}
-use Rattle.lent_table.specs.Fitting.{Fitting}
-use Rattle.table_test.specs.Numbers.{stateNumbered}
-use Rattle.route_arcs.specs.Ready.{Ready}
+use Rattle.answer.specs.Answer.{input, state, Answer, accepted, refused, lowest}
+use Rattle.answer.proofs.Lowest.{lowest-clear, lowest-stop, clear-at}
+use Rattle.judgement.specs.Judgement.{Accepted}
+use Rattle.calls.specs.Tables.{wrongLength}
+use Rattle.calls.specs.Routes.{nodeOutside, tableRefusals, foundRoute, routeAnswer, leftBy, bufferAfter, TableKnown}
+use Rattle.calls.proofs.Routes.{after-sheet, table-known}
+use Rattle.table.specs.Fitting.{Fitting}
+use Rattle.table_shortest.specs.Numbers.{stateNumbered}
+use Rattle.route.specs.Ready.{Ready}
 
 -- what a stage may take from those before it: the node is one, and the table passed the last test
 pub node-below : (b : List ℕ) (node : ℕ) → nodeOutside b node ≡ false → node < nodeCount b

@@ -1,11 +1,14 @@
 // Reads the route to a node out of a finished table.
+pub mod arcs;
+pub mod found;
+
 ghost use mathlib.Core.Path.{_≡_};
-ghost use Rattle.refusals.specs.Judgement.{Accepted};
-ghost use Rattle.answers.specs.Routes.{routeAnswer, leftBy, bufferAfter, TableKnown};
-ghost use Rattle.route_answer.specs.Said.{said};
+ghost use Rattle.judgement.specs.Judgement.{Accepted};
+ghost use Rattle.calls.specs.Routes.{routeAnswer, leftBy, bufferAfter, TableKnown};
+ghost use Rattle.answer.specs.RouteSaid.{said};
+use answer::Fault;
+pub use answer::routed::Routed;
 use judge::Judged;
-pub use route_answer::Routed;
-use sheet::Fault;
 use sheet::Node;
 
 // The answer for an accepted sheet.
@@ -14,18 +17,18 @@ fn answer(s: &[u8], table: &[u32], node: u32, buffer: &mut [u32]) -> Routed
     ensures { λ r. ⌜ (said r ≡ routeAnswer (now (s .entry)) (now (table .entry)) node (now (buffer .entry)))
         × (now (buffer .exit) ≡ leftBy (now (s .entry)) (now (table .entry)) (said r) node (now (buffer .entry))) ⌝ }
 {
-    if found_route::node_outside(s, node) {
+    if crate::found::node_outside(s, node) {
         return Routed::Refused(Fault::Input(15));
     }
-    if lent_table::wrong_length(s, table) {
+    if table::read::wrong_length(s, table) {
         return Routed::Refused(Fault::State(21));
     }
-    let at = sections::find_sections(s);
-    let number = table_test::table_refusal(s, at, table);
+    let at = sheet::scan::find_sections(s);
+    let number = table_shortest::table_refusal(s, at, table);
     if number != 0 {
         return Routed::Refused(Fault::State(number));
     }
-    found_route::find_route(s, at, table, Node(node as u16), buffer)
+    crate::found::find_route(s, at, table, Node(node as u16), buffer)
 }
 
 // Reads the route to a node: the arcs from the source on, at the front of the buffer.

@@ -6,13 +6,13 @@ use mathlib.Core.List.{List}
 use lib.ListN.{length}
 use Rattle.indices.specs.Steps.{if_then_else_}
 use Rattle.sheet.specs.Sections.{nodeCount}
-use Rattle.sheet.specs.Answer.{Answer, ended, paused}
-use Rattle.refusals.specs.Judgement.{Accepted}
+use Rattle.answer.specs.Answer.{Answer, ended, paused}
+use Rattle.judgement.specs.Judgement.{Accepted}
 use Rattle.procedure.specs.Procedure.{enoughRounds}
-use Rattle.answers.specs.Tables.{tableLength, statusSays, statusIn}
-use Rattle.answers.specs.Runs.{runAnswer, tableAfter, Delivered}
-use Rattle.answers.proofs.Outcome.{table-says, made}
-use Rattle.runs.proofs.Delivered.{delivered, run-ends}
+use Rattle.calls.specs.Tables.{tableLength, statusSays, statusIn}
+use Rattle.calls.specs.Runs.{runAnswer, tableAfter, Delivered}
+use Rattle.calls.proofs.Outcome.{table-says, made}
+use Rattle.theory_calls.proofs.Delivered.{delivered, run-ends}
 
 module _ (b : List ℕ) (ok : Accepted b) where
   -- the table at exit

@@ -1,16 +1,19 @@
 // The two run calls: a sheet run to its end, or for at most so many rounds.
+pub mod execution;
+pub mod laid;
+
 ghost use mathlib.Core.Path.{_≡_};
 ghost use lib.ListN.{length};
 ghost use Rattle.sheet.specs.Sections.{nodeCount};
-ghost use Rattle.sheet.specs.Answer.{ended};
-ghost use Rattle.refusals.specs.Judgement.{Accepted};
+ghost use Rattle.answer.specs.Answer.{ended};
+ghost use Rattle.judgement.specs.Judgement.{Accepted};
 ghost use Rattle.procedure.specs.Procedure.{enoughRounds};
-ghost use Rattle.answers.specs.Tables.{tableLength, statusSays, statusIn};
-ghost use Rattle.answers.specs.Runs.{runAnswer, tableAfter, Delivered};
-ghost use Rattle.run_answer.specs.Said.{said};
+ghost use Rattle.calls.specs.Tables.{tableLength, statusSays, statusIn};
+ghost use Rattle.calls.specs.Runs.{runAnswer, tableAfter, Delivered};
+ghost use Rattle.answer.specs.RunSaid.{said};
+use answer::Fault;
+pub use answer::ran::Ran;
 use judge::Judged;
-pub use run_answer::Ran;
-use sheet::Fault;
 
 // More rounds than any run has: 2^56.
 const ENOUGH_ROUNDS: u64 = 72057594037927936;
@@ -21,11 +24,11 @@ fn run_accepted(sheet: &[u8], limit: u64, table: &mut [u32]) -> Ran
     ensures { λ r. ⌜ (said r ≡ runAnswer (now (sheet .entry)) limit (now (table .entry)))
         × (now (table .exit) ≡ tableAfter (now (sheet .entry)) limit (now (table .entry))) ⌝ }
 {
-    if lent_table::wrong_length(sheet, table) {
+    if table::read::wrong_length(sheet, table) {
         return Ran::Refused(Fault::State(21));
     }
-    let at = sections::find_sections(sheet);
-    run_answer::status(execution::run_accepted(sheet, at, limit, table))
+    let at = sheet::scan::find_sections(sheet);
+    answer::ran::status(crate::execution::run_accepted(sheet, at, limit, table))
 }
 
 // Runs a sheet for at most `limit` rounds.

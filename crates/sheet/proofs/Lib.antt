@@ -2,4 +2,3 @@ pub mod Heights
 pub mod Handed
 pub mod Bounds
 pub mod Regions
-pub mod Lowest

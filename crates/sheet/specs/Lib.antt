@@ -4,5 +4,4 @@ pub mod Sections
 pub mod Arcs
 pub mod Heights
 pub mod Regions
-pub mod Answer
 pub mod Samples

@@ -9,7 +9,7 @@ use native.Mathlib.Omega.{arith}
 use lib.ListN.{length, set, drop-of-length-le, length-append}
 use lib.Seq.{sets, length-sets, sets-eq}
 use Rattle.procedure.specs.Table.{statusWord, countWords, nodeWords, tableOf}
-use Rattle.answers.proofs.Reading.{nodePair, no-node-words, next-node-words, node-words-length}
+use Rattle.calls.proofs.Reading.{nodePair, no-node-words, next-node-words, node-words-length}
 use Rattle.table.specs.Writable.{Listed}
 
 -- words, and then the words after them

@@ -1,1 +1,3 @@
+pub mod Countable
 pub mod Writable
+pub mod Fitting

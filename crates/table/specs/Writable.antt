@@ -5,10 +5,10 @@ use mathlib.Core.Path.{_≡_}
 use mathlib.Core.List.{List}
 use lib.ListN.{length}
 use Rattle.indices.specs.Columns.{at}
-use Rattle.counts.specs.declared.Counts.{Counts}
-use Rattle.answers.specs.Tables.{tableLength}
-use Rattle.table_header.specs.Countable.{Countable}
-pub use Rattle.table_header.specs.Countable.{countsOf}
+use Rattle.run_counts.specs.declared.Counts.{Counts}
+use Rattle.calls.specs.Tables.{tableLength}
+use Rattle.table.specs.Countable.{Countable}
+pub use Rattle.table.specs.Countable.{countsOf}
 
 -- a label and a predecessor for each node, in a table of so many words
 pub record Listed (labels predecessors : List ℕ) (words : ℕ) : Type 0 where

@@ -1,12 +1,17 @@
 // Writes the answer table of a state: its status, its counts, and each node's label and predecessor.
+pub mod header;
+pub mod length;
+pub mod read;
+pub mod words;
+
 ghost use mathlib.Core.Path.{_≡_};
 ghost use lib.ListN.{length};
 ghost use lib.Seq.{sets};
 ghost use Rattle.procedure.specs.Table.{nodeWords, tableOf};
-ghost use Rattle.table_header.specs.Countable.{countsOf};
+ghost use Rattle.table.specs.Countable.{countsOf};
 ghost use Rattle.table.specs.Writable.{Listed, Writable};
-use counts::Counts;
-use table_words::HEADER;
+use crate::words::HEADER;
+use run_counts::Counts;
 
 // Writes the label and the predecessor of each node, after the header.
 fn write_nodes(table: &mut [u32], labels: &[u32], predecessors: &[u32])
@@ -16,9 +21,9 @@ fn write_nodes(table: &mut [u32], labels: &[u32], predecessors: &[u32])
 {
     let mut v = 0;
     while v < labels.len() {
-        let label = table_words::label_word(labels[v]);
-        let predecessor = table_words::predecessor_word(predecessors[v]);
-        table_words::write_pair(table, HEADER + 2 * v, label, predecessor);
+        let label = crate::words::label_word(labels[v]);
+        let predecessor = crate::words::predecessor_word(predecessors[v]);
+        crate::words::write_pair(table, HEADER + 2 * v, label, predecessor);
         v += 1;
     }
 }
@@ -35,6 +40,6 @@ pub fn write_table(
     ensures { λ _. ⌜ now (table .exit) ≡ tableOf ended (countsOf counts) (now (labels .entry)) (now (predecessors .entry))
         (length (now (labels .entry))) ⌝ }
 {
-    table_header::write_header(table, ended, counts);
+    crate::header::write_header(table, ended, counts);
     write_nodes(table, labels, predecessors);
 }

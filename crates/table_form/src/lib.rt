@@ -1,10 +1,12 @@
 // Refusals 22 and 23 of a lent table: its form, and its status.
+pub mod kinds;
+
 ghost use mathlib.Core.Path.{_≡_};
 ghost use Prim.Native.Nat.{_≤_};
 ghost use lib.ListN.{length};
-ghost use Rattle.answers.specs.Tables.{tableLength, statusIn};
-ghost use Rattle.answers.specs.Routes.{malformed, isPaused};
-ghost use Rattle.lent_table.specs.Fitting.{Fitting};
+ghost use Rattle.calls.specs.Tables.{tableLength, statusIn};
+ghost use Rattle.calls.specs.Routes.{malformed, isPaused};
+ghost use Rattle.table.specs.Fitting.{Fitting};
 use sheet::Sections;
 
 // The status.
@@ -20,16 +22,16 @@ pub fn malformed(s: &[u8], at: Sections, table: &[u32]) -> bool
     requires { ⌜ Fitting (now s) at (now table) ⌝ }
     ensures { λ r. ⌜ r ≡ malformed (now (s .entry)) (now (table .entry)) ⌝ }
 {
-    if table_kinds::wrong_kind(table, 0, 8) {
+    if crate::kinds::wrong_kind(table, 0, 8) {
         return true;
     }
-    if table_kinds::wrong_counts(table) {
+    if crate::kinds::wrong_counts(table) {
         return true;
     }
     if status(table) > 1 {
         return true;
     }
-    table_kinds::wrong_nodes(table, sheet::node_count(s) as u16, at.arcs as u32)
+    crate::kinds::wrong_nodes(table, sheet::node_count(s) as u16, at.arcs as u32)
 }
 
 // Refusal 23: the table is paused.

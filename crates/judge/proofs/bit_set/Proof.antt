@@ -3,7 +3,7 @@ use mathlib.Core.Path.{sym, _∙_}
 use borrow.Author.Needs.{needs}
 use native.Mathlib.Omega.{arith}
 use Rattle.sheet.proofs.Bounds.{arcs-few}
-use Rattle.refusals.specs.Form.{bitSet}
+use Rattle.judgement.specs.Form.{bitSet}
 use Rattle.judge.proofs.bit_set.Statement.{statement}
 use Rattle.judge.proofs.bit_set.Tie as tie
 

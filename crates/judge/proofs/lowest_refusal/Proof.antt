@@ -4,9 +4,9 @@ use mathlib.Core.Bool.{false}
 use mathlib.Core.List.{List}
 use mathlib.Core.Path.{_≡_, sym, _∙_}
 use borrow.Author.Needs.{needs}
-use Rattle.refusals.specs.Form.{wrongSize, outOfOrder}
-use Rattle.refusals.specs.Judgement.{formRefusals, refusals, judgement}
-use Rattle.refusals.proofs.Clear.{front-there}
+use Rattle.judgement.specs.Form.{wrongSize, outOfOrder}
+use Rattle.judgement.specs.Judgement.{formRefusals, refusals, judgement}
+use Rattle.judgement.proofs.Clear.{front-there}
 use Rattle.judge.proofs.lowest_refusal.Statement.{statement}
 use Rattle.judge.proofs.lowest_refusal.Tie as tie
 

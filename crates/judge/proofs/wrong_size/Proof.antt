@@ -1,6 +1,6 @@
 -- `wrong_size` meets its contract: the two tests in turn.
 use borrow.Author.Tests.{eq-eqb, ne-eqb}
-use Rattle.refusals.specs.Form.{wrongSize}
+use Rattle.judgement.specs.Form.{wrongSize}
 use Rattle.judge.proofs.wrong_size.Statement.{statement}
 use Rattle.judge.proofs.wrong_size.Tie as tie
 

@@ -1,7 +1,7 @@
 -- `write_listing` meets its contract: the first line, then the lines of the nodes, have room and are written from the front on.
 use borrow.Author.Needs.{needs}
-use Rattle.text.specs.Written.{Room}
-use Rattle.text.proofs.Writing.{wrote-then}
+use Rattle.listing.specs.Written.{Room}
+use Rattle.listing.proofs.text.Writing.{wrote-then}
 use Rattle.listing.specs.Listing.{listingOf}
 use Rattle.listing.proofs.Writing.{filled}
 use Rattle.listing.proofs.Lines.{status-line-room, node-lines-fit, listing-room}

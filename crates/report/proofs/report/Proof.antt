@@ -1,7 +1,7 @@
 -- `report` meets its contract: the line of the judge's refusal, or what is printed of the accepted sheet.
 use mathlib.Core.Path.{sym, ap, _∙_}
 use Rattle.io.proofs.Counting.{counts}
-use Rattle.judge_answer.specs.Said.{said}
+use Rattle.answer.specs.JudgeSaid.{said}
 use Rattle.listing.proofs.Writing.{filled-within}
 use Rattle.report.proofs.Outcomes.{reported-refusal}
 use borrow.Author.Needs.{needs}

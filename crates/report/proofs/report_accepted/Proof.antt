@@ -4,7 +4,7 @@ use mathlib.Core.Path.{sym, _∙_}
 use native.Mathlib.Omega.{arith}
 use lib.ListN.{length}
 use lib.Seq.{length-take-le}
-use Rattle.refusals.proofs.Accepted.{front-there, few-nodes}
+use Rattle.judgement.proofs.Accepted.{front-there, few-nodes}
 use Rattle.report.proofs.Outcomes.{reported-listing}
 use borrow.Author.Needs.{needs}
 use Rattle.report.proofs.report_accepted.Statement.{statement}

@@ -3,14 +3,14 @@ use mathlib.Core.Bool.{false}
 use mathlib.Core.Path.{_≡_, sym, ap, _∙_}
 use borrow.Author.Needs.{needs}
 use native.Mathlib.Omega.{arith}
-use Rattle.sheet.specs.Answer.{accepted, lowest}
-use Rattle.refusals.proofs.Accepted.{front-there, few-nodes}
-use Rattle.answers.specs.Tables.{wrongLength}
-use Rattle.answers.specs.Routes.{nodeOutside, tableRefusals}
-use Rattle.table_test.specs.Numbers.{stateNumbered}
-use Rattle.lent_table.proofs.Fitted.{table-fits}
+use Rattle.answer.specs.Answer.{accepted, lowest}
+use Rattle.judgement.proofs.Accepted.{front-there, few-nodes}
+use Rattle.calls.specs.Tables.{wrongLength}
+use Rattle.calls.specs.Routes.{nodeOutside, tableRefusals}
+use Rattle.table_shortest.specs.Numbers.{stateNumbered}
+use Rattle.table.proofs.read.Fitted.{table-fits}
 use Rattle.route.proofs.Stages.{node-below, table-ready, node-stops, length-stops, table-stops, route-decides}
-use Rattle.found_route.proofs.Found.{left-refused}
+use Rattle.route.proofs.found.Found.{left-refused}
 use Rattle.route.proofs.answer.Statement.{statement}
 use Rattle.route.proofs.answer.Tie as tie
 

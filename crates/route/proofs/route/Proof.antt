@@ -1,9 +1,9 @@
 -- `route` meets its contract: the sheet's refusal, or the answer for an accepted sheet.
 use mathlib.Core.Path.{sym, ap, _∙_}
 use borrow.Author.Needs.{needs}
-use Rattle.judge_answer.specs.Said.{said as saidByJudge}
-use Rattle.answers.proofs.Routes.{sheet-stops}
-use Rattle.found_route.proofs.Found.{left-refused}
+use Rattle.answer.specs.JudgeSaid.{said as saidByJudge}
+use Rattle.calls.proofs.Routes.{sheet-stops}
+use Rattle.route.proofs.found.Found.{left-refused}
 use Rattle.route.proofs.Stages.{left-after, answer-known}
 use Rattle.route.proofs.route.Statement.{statement}
 use Rattle.route.proofs.route.Tie as tie

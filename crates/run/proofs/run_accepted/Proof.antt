@@ -3,11 +3,11 @@ use borrow.Author.Needs.{needs}
 use mathlib.Core.Bool.{Bool, false}
 use mathlib.Core.Path.{_≡_, sym, ap, _∙_}
 use Rattle.indices.specs.Steps.{if_then_else_}
-use Rattle.sheet.specs.Answer.{ended, paused}
-use Rattle.refusals.proofs.Accepted.{front-there}
-use Rattle.answers.specs.Tables.{wrongLength}
-use Rattle.answers.proofs.Outcome.{right-length, refused-table, made}
-use Rattle.lent_table.proofs.Fitted.{table-fits}
+use Rattle.answer.specs.Answer.{ended, paused}
+use Rattle.judgement.proofs.Accepted.{front-there}
+use Rattle.calls.specs.Tables.{wrongLength}
+use Rattle.calls.proofs.Outcome.{right-length, refused-table, made}
+use Rattle.table.proofs.read.Fitted.{table-fits}
 use Rattle.run.proofs.run_accepted.Statement.{statement}
 use Rattle.run.proofs.run_accepted.Tie as tie
 

@@ -1,8 +1,8 @@
 -- `run_rounds` meets its contract: the judge's refusal, or the run of the accepted sheet.
 use borrow.Author.Needs.{needs}
 use mathlib.Core.Path.{sym, ap, _∙_}
-use Rattle.judge_answer.specs.Said.{said as judged-says}
-use Rattle.answers.proofs.Outcome.{refused-sheet}
+use Rattle.answer.specs.JudgeSaid.{said as judged-says}
+use Rattle.calls.proofs.Outcome.{refused-sheet}
 use Rattle.run.proofs.run_rounds.Statement.{statement}
 use Rattle.run.proofs.run_rounds.Tie as tie
 

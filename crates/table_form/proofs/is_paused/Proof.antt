@@ -1,5 +1,5 @@
 -- `is_paused` meets its contract: the status is compared.
-use Rattle.answers.specs.Routes.{isPaused}
+use Rattle.calls.specs.Routes.{isPaused}
 use borrow.Author.Needs.{needs}
 use Rattle.table_form.proofs.is_paused.Statement.{statement}
 use Rattle.table_form.proofs.is_paused.Tie as tie

@@ -4,8 +4,8 @@ use mathlib.Core.Path.{_≡_, sym, _∙_}
 use borrow.Author.Needs.{needs}
 use borrow.Author.Tests.{lt-ltb, le-ltb}
 use native.Mathlib.Omega.{arith}
-use Rattle.refusals.proofs.Accepted.{few-nodes, few-arcs}
-use Rattle.answers.specs.Routes.{wrongKind, malformed}
+use Rattle.judgement.proofs.Accepted.{few-nodes, few-arcs}
+use Rattle.calls.specs.Routes.{wrongKind, malformed}
 use Rattle.table_form.proofs.malformed.Statement.{statement}
 use Rattle.table_form.proofs.malformed.Tie as tie
 

@@ -1,0 +1,43 @@
+-- The lowest refusal that applies: lists of cases one after the other, a list of which none applies, and the number of one that applies.
+use Prim.Native.Nat.{ℕ, zero, suc}
+use mathlib.Core.Bool.{false, cond}
+use mathlib.Core.List.{List, [], _∷_, _++_}
+use mathlib.Core.Path.{_≡_, refl, sym, ap, _∙_}
+use native.Mathlib.Omega.{arith}
+use lib.ListN.{getD}
+use Rattle.indices.proofs.Steps.{by-truth}
+use Rattle.answer.specs.Answer.{Refusal, input, Answer, accepted, refused, Case, _when_, lowest, numbered}
+
+-- the cases of the second list are looked at where none of the first applies
+pub lowest-append : (xs ys : List Case) (answer : Answer) → lowest (xs ++ ys) answer ≡ lowest xs (lowest ys answer)
+lowest-append [] ys answer = refl
+lowest-append (x ∷ xs) ys answer = ap (λ (a : Answer). cond (x .applies) (refused (x .refusal)) a) (lowest-append xs ys answer)
+
+refused≢accepted : (r : Refusal) → refused r ≡ accepted → ⊥
+refused≢accepted r e = let z : _≡_ {A = ℕ} 0 1 = cc in omega arith
+
+-- where no case applies, the answer is what follows
+pub lowest-clear : (xs : List Case) (answer : Answer) → lowest xs accepted ≡ accepted → lowest xs answer ≡ answer
+lowest-clear [] answer e = refl
+lowest-clear (x ∷ xs) answer e =
+    by-truth (x .applies) (λ h. absurd (refused≢accepted (x .refusal) (rw h at e))) (λ h. rw h (lowest-clear xs answer (rw h at e)))
+
+-- where a case applies, what would follow does not matter
+pub lowest-stop : (xs : List Case) (answer : Answer) (r : Refusal) → lowest xs accepted ≡ refused r → lowest xs answer ≡ refused r
+lowest-stop [] answer r e = let z : _≡_ {A = ℕ} 0 1 = cc in absurd (omega arith)
+lowest-stop (x ∷ xs) answer r e = by-truth (x .applies) (λ h. rw h (rw h at e)) (λ h. rw h (lowest-stop xs answer r (rw h at e)))
+
+-- a number other than 0 is a refusal
+a-refusal : (n : ℕ) → (n ≡ 0 → ⊥) → numbered n ≡ refused (input n)
+a-refusal zero ne = absurd (ne refl)
+a-refusal (suc n) ne = refl
+
+-- the number that a stage of the judge hands up stands, whatever is looked at after it
+pub stage-stops : (xs : List Case) (answer : Answer) (n : ℕ) → (n ≡ 0 → ⊥) → numbered n ≡ lowest xs accepted → numbered n ≡ lowest xs answer
+stage-stops xs answer n ne e = a-refusal n ne ∙ sym (lowest-stop xs answer (input n) (sym e ∙ a-refusal n ne))
+
+-- of a list that refuses nothing, the case at place i does not apply; at a written list and place its test is what it computes to
+pub clear-at : (xs : List Case) → lowest xs accepted ≡ accepted → (i : ℕ) → getD xs i (input 0 when false) .applies ≡ false
+clear-at [] e i = refl
+clear-at (x ∷ xs) e zero = by-truth (x .applies) (λ h. absurd (refused≢accepted (x .refusal) (rw h at e))) (λ h. h)
+clear-at (x ∷ xs) e (suc i) = by-truth (x .applies) (λ h. absurd (refused≢accepted (x .refusal) (rw h at e))) (λ h. clear-at xs (rw h at e) i)

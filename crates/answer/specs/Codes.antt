@@ -1,0 +1,34 @@
+-- The number by which the library for C and Rust gives an answer. Definitions.
+use Prim.Native.Nat.{ℕ, _+_, _-_}
+use lib.Dec.{ltb, eqb}
+use Rattle.indices.specs.Steps.{if_then_else_}
+use Rattle.answer.specs.Answer.{input, state, numberOf, Answer, accepted, ended, paused, route, noRoute, refused}
+
+-- 1 to 99 a refusal, 256 to 259 what has no number of its own, from 65,536 on a route with the count of its arcs
+abbrev pub codeOf : Answer → ℕ
+codeOf accepted = 256
+codeOf paused = 257
+codeOf ended = 258
+codeOf noRoute = 259
+codeOf (route arcs) = 65536 + arcs
+codeOf (refused refusal) = numberOf refusal
+
+-- a code read back: every answer of a call is the one that its code says (`judge-told`, `run-told` and `route-told` in crates/pigrozk/proofs/Told.antt)
+unfoldable pub answerOf : ℕ → Answer
+answerOf code =
+    if ltb code 16 then refused (input code)
+    else if ltb code 100 then refused (state code)
+    else if eqb code 256 then accepted
+    else if eqb code 257 then paused
+    else if eqb code 258 then ended
+    else if eqb code 259 then noRoute
+    else route (code - 65536)
+
+-- how many arcs an answer counts
+abbrev pub arcsOf : Answer → ℕ
+arcsOf accepted = 0
+arcsOf paused = 0
+arcsOf ended = 0
+arcsOf noRoute = 0
+arcsOf (route arcs) = arcs
+arcsOf (refused refusal) = 0

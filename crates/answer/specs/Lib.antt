@@ -1,0 +1,5 @@
+pub mod Answer
+pub mod JudgeSaid
+pub mod RunSaid
+pub mod RouteSaid
+pub mod Codes

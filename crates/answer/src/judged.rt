@@ -1,0 +1,20 @@
+// What the judge answers.
+ghost use mathlib.Core.Path.{_≡_};
+ghost use Rattle.answer.specs.Answer.{numbered};
+ghost use Rattle.answer.specs.JudgeSaid.{said};
+use crate::Fault;
+
+pub enum Judged {
+    Accepted,
+    Refused(Fault),
+}
+
+// The answer for the number of a refusal, or for 0.
+pub fn answer(n: u8) -> Judged
+    ensures { λ r. ⌜ said r ≡ numbered n ⌝ }
+{
+    if n == 0 {
+        return Judged::Accepted;
+    }
+    Judged::Refused(Fault::Input(n))
+}

@@ -1,0 +1,150 @@
+-- 24 as it is computed agrees with the paper's, and what the route reader's answer says of the table follows.
+use Prim.Native.Nat.{ℕ, _≤_, _<_}
+use native.Mathlib.Omega.{arith}
+use mathlib.Core.Bool.{Bool, true, false, cond, true≢false, not, _&&_}
+use mathlib.Core.Path.{_≡_, refl, sym, ap, _∙_}
+use mathlib.Core.Logic.{_≢_, _↔_}
+use mathlib.Core.List.{List, [], _∷_}
+use borrow.Author.Tests.{leb-true, not-false}
+use lib.ListN.{length}
+use lib.Dec.{ltb, leb, eqb}
+use Rattle.indices.specs.Steps.{if_then_else_}
+use Rattle.indices.proofs.Tests.{and-left, and-right}
+use Rattle.sheet.specs.Words.{top}
+use Rattle.sheet.specs.Sections.{nodeCount}
+use Rattle.answer.specs.Answer.{Refusal, numberOf, input, state, Answer, accepted, ended, paused, route, noRoute, refused, Case, _when_, isRefused, lowest}
+use Rattle.answer.proofs.Lowest.{lowest-append, lowest-clear, lowest-stop}
+use Rattle.judgement.specs.Judgement.{formRefusals, countRefusals, arcRefusals, divisionRefusals, refusals, judgement, Accepted}
+use Rattle.procedure.specs.OfSheet.{graphOf}
+use Rattle.procedure.proofs.WellFormed.{accepted-well-formed}
+use Rattle.theory_shortest.proofs.TableTest.{test-shortest, shortest-test}
+use Rattle.calls.specs.Tables.{wrongLength, labelIn, labelsIn, predecessorsIn}
+use Rattle.calls.specs.Routes.{nodeOutside, malformed, isPaused, ShortestTable, notShortest, tableRefusals, routeRefusals}
+use Rattle.calls.specs.Routes.{routeTo, foundRoute, routeAnswer, TableKnown}
+
+-- the number of a refusal; other answers come after all of them
+abbrev rank : Answer → ℕ
+rank (refused r) = numberOf r
+rank accepted = 26
+rank ended = 26
+rank paused = 26
+rank (route n) = 26
+rank noRoute = 26
+
+answered-rank : (a : Answer) → isRefused a ≡ false → 24 < rank a
+answered-rank accepted e = omega arith
+answered-rank ended e = omega arith
+answered-rank paused e = omega arith
+answered-rank (route n) e = omega arith
+answered-rank noRoute e = omega arith
+answered-rank (refused r) e = absurd (true≢false e)
+
+-- every refusal of the list is numbered 14 or less
+abbrev within14 : List Case → Bool
+within14 [] = true
+within14 (c ∷ cs) = leb (numberOf (c .refusal)) 14 && within14 cs
+
+-- where the answer comes later, no case of such a list applies
+within-clear : (cs : List Case) (a : Answer) → within14 cs ≡ true → 14 < rank (lowest cs a) → lowest cs accepted ≡ accepted
+within-clear [] a i l = refl
+within-clear (c ∷ cs) a i l =
+    let low = leb (numberOf (c .refusal)) 14 in
+    at (c .applies) (leb-true _ _ (and-left low _ i)) (within-clear cs a (and-right low _ i)) l
+  where
+    at : (t : Bool) → numberOf (c .refusal) ≤ 14 → (14 < rank (lowest cs a) → lowest cs accepted ≡ accepted)
+        → 14 < rank (cond t (refused (c .refusal)) (lowest cs a)) → cond t (refused (c .refusal)) (lowest cs accepted) ≡ accepted
+    at true low rest l = absurd (omega arith)
+    at false low rest l = rest l
+
+sheet-within : (b : List ℕ) → within14 (refusals b) ≡ true
+unfolding refusals formRefusals countRefusals arcRefusals divisionRefusals
+sheet-within b = refl
+
+-- the refusals of a route, those of the sheet left out
+unfoldable later : Bool → Bool → Bool → Bool → Bool → Answer → Answer
+later outside long bad unfinished wrong a =
+    cond outside (refused (input 15))
+    (cond long (refused (state 21)) (cond bad (refused (state 22)) (cond unfinished (refused (state 23)) (cond wrong (refused (state 24)) a))))
+
+-- 24 is answered, and not by what follows: it applies
+later-24 : (o l m u w : Bool) (a : Answer) → rank (later o l m u w a) ≡ 24 → rank a ≢ 24 → w ≡ true
+unfolding later
+later-24 true l m u w a e n = absurd (omega arith)
+later-24 false true m u w a e n = absurd (omega arith)
+later-24 false false true u w a e n = absurd (omega arith)
+later-24 false false false true w a e n = absurd (omega arith)
+later-24 false false false false true a e n = refl
+later-24 false false false false false a e n = absurd (n e)
+
+-- an answer past 24: it does not apply
+later-past : (o l m u w : Bool) (a : Answer) → 24 < rank (later o l m u w a) → w ≡ false
+unfolding later
+later-past true l m u w a p = absurd (omega arith)
+later-past false true m u w a p = absurd (omega arith)
+later-past false false true u w a p = absurd (omega arith)
+later-past false false false true w a p = absurd (omega arith)
+later-past false false false false true a p = absurd (omega arith)
+later-past false false false false false a p = refl
+
+module _ (b table : List ℕ) where
+  -- For an accepted sheet 24 does not apply just where the table is shortest.
+  pub shortest-agrees : Accepted b → (notShortest b table ≡ false) ↔ ShortestTable b table
+  unfolding notShortest
+  shortest-agrees ok =
+      let good = accepted-well-formed b ok .graph in (
+        λ e. test-shortest (graphOf b) good (labelsIn (nodeCount b) table) (predecessorsIn (nodeCount b) table) (not-false _ e),
+        λ s. ap not (shortest-test (graphOf b) good (labelsIn (nodeCount b) table) (predecessorsIn (nodeCount b) table) s),
+      )
+
+  module _ (node : ℕ) (buffer : List ℕ) where
+    -- the answer is the sheet's refusal, or the later ones decide
+    answer-staged : routeAnswer b table node buffer
+        ≡ lowest (refusals b)
+        (lowest (input 15 when nodeOutside b node ∷ state 21 when wrongLength b table ∷ tableRefusals b table) (foundRoute b table node buffer))
+    unfolding routeAnswer routeRefusals
+    answer-staged = lowest-append (refusals b) _ (foundRoute b table node buffer)
+
+    pub sheet-stops : (r : Refusal) → judgement b ≡ refused r → routeAnswer b table node buffer ≡ refused r
+    unfolding judgement
+    sheet-stops r e = answer-staged ∙ lowest-stop (refusals b) _ r e
+
+    pub after-sheet : Accepted b → routeAnswer b table node buffer
+        ≡ lowest (input 15 when nodeOutside b node ∷ state 21 when wrongLength b table ∷ tableRefusals b table) (foundRoute b table node buffer)
+    unfolding judgement
+    after-sheet ok = answer-staged ∙ lowest-clear (refusals b) _ ok
+
+    as-later : Accepted b → routeAnswer b table node buffer
+        ≡ later (nodeOutside b node) (wrongLength b table) (malformed b table) (isPaused table) (notShortest b table) (foundRoute b table node buffer)
+    unfolding tableRefusals later
+    as-later ok = after-sheet ok
+
+    -- a search for a route does not answer 24
+    found-past : rank (foundRoute b table node buffer) ≢ 24
+    unfolding foundRoute
+    found-past = at (eqb (labelIn table node) top) (ltb (length buffer) (length (routeTo b table node)))
+      where
+        at : (u s : Bool) → rank (if u then noRoute else cond s (refused (state 25)) (route (length (routeTo b table node)))) ≢ 24
+        at true s e = omega arith
+        at false true e = omega arith
+        at false false e = omega arith
+
+    -- the answer comes after 14: the sheet is accepted
+    sheet-accepted : 14 < rank (routeAnswer b table node buffer) → Accepted b
+    unfolding judgement
+    sheet-accepted p = within-clear (refusals b) _ (sheet-within b) (rw answer-staged at p)
+
+    past-right : 24 < rank (routeAnswer b table node buffer) → ShortestTable b table
+    past-right p =
+        let ok = sheet-accepted (omega arith) in
+        shortest-agrees ok .0 (later-past _ _ _ _ _ _ (rw (as-later ok) at p))
+
+    -- What the answer says of the table holds of it.
+    pub table-known : TableKnown b table (routeAnswer b table node buffer)
+    table-known = record {
+      wrong = λ e s.
+          let ok = sheet-accepted (rw e (omega arith)) in
+          let applies = later-24 _ _ _ _ _ _ (ap rank (sym (as-later ok) ∙ e)) found-past in
+          true≢false (sym applies ∙ shortest-agrees ok .1 s);
+      right = λ e. past-right (answered-rank (routeAnswer b table node buffer) e);
+      right-too = λ e. past-right (rw e (omega arith));
+    }

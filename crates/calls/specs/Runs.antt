@@ -1,0 +1,54 @@
+-- What a run of a sheet answers, what it leaves in the table, and what holds of every table that it leaves. Definitions.
+use Prim.Native.Nat.{ℕ, _^_, _≤_, _<_}
+use mathlib.Core.Bool.{Bool}
+use mathlib.Core.Path.{_≡_}
+use mathlib.Core.Logic.{_⊎_}
+use mathlib.Core.List.{List, [], _∷_, _++_}
+use Rattle.indices.specs.Columns.{at}
+use Rattle.indices.specs.Steps.{if_then_else_}
+use Rattle.sheet.specs.Sections.{nodeCount}
+use Rattle.sheet.specs.Words.{top}
+use Rattle.answer.specs.Answer.{state, Answer, Case, _when_, isRefused, lowest}
+use Rattle.judgement.specs.Judgement.{refusals}
+use Rattle.procedure.specs.OfSheet.{graphOf, divisionOf, spansOf}
+use Rattle.procedure.specs.State.{State, counts}
+use Rattle.procedure.specs.Procedure.{ended as hasEnded, after}
+use Rattle.procedure.specs.Table.{largestLabel, tableOf}
+use Rattle.procedure.specs.Routes.{Shortest}
+use Rattle.calls.specs.Tables.{wrongLength, statusSays, statusIn, countIn, labelIn, labelsIn, predecessorsIn}
+
+-- "A run limited to k rounds stops after k rounds or when it has ended, whichever comes first". The run to its end is the run limited to 2^56 rounds.
+abbrev pub stateAfter : List ℕ → ℕ → State
+stateAfter b k = after (graphOf b) (divisionOf b) (spansOf b) k
+
+abbrev pub endedAfter : List ℕ → ℕ → Bool
+endedAfter b k = hasEnded (graphOf b) (divisionOf b) (stateAfter b k)
+
+-- 1 to 14, then 21: "Only 21 can come from a run."
+unfoldable pub runRefusals : List ℕ → List ℕ → List Case
+runRefusals b table = refusals b ++ (state 21 when wrongLength b table ∷ [])
+
+-- the table of the state after at most k rounds
+unfoldable pub runTable : List ℕ → ℕ → List ℕ
+runTable b k = let s = stateAfter b k in tableOf (endedAfter b k) (counts s) (s .labels) (s .predecessors) (nodeCount b)
+
+-- "a run answers 'ended' or 'paused' as its table says"
+unfoldable pub runAnswer : List ℕ → ℕ → List ℕ → Answer
+runAnswer b k table = lowest (runRefusals b table) (statusSays (statusIn (runTable b k)))
+
+-- the table at exit; of a refusal, "Nothing lent changes."
+unfoldable pub tableAfter : List ℕ → ℕ → List ℕ → List ℕ
+tableAfter b k table = let made = runTable b k in if isRefused (runAnswer b k table) then table else made
+
+-- What holds of a table that a run of at most k rounds leaves, read off its words. Demand 3: a limited run's table is what those same rounds have reached
+-- when it stops, in status, counts, labels and feeding arcs; after any number of rounds every count is below 2^56; in every table left as ended the labels
+-- and feeding arcs are shortest.
+pub record Delivered (b : List ℕ) (k : ℕ) (table : List ℕ) : Type 0 where
+  pub status : statusIn table ≡ (if endedAfter b k then 1 else 0)
+  pub halves : (i : ℕ) → i < 4 → countIn table i ≡ at (counts (stateAfter b k)) i
+  pub labels : labelsIn (nodeCount b) table ≡ stateAfter b k .labels
+  pub predecessors : predecessorsIn (nodeCount b) table ≡ stateAfter b k .predecessors
+  pub small : (i : ℕ) → i < 4 → at (counts (stateAfter b k)) i < 2 ^ 56
+  -- "The largest label is 1,023 × 262,143", but for 'unreached'
+  pub bounded : (v : ℕ) → v < nodeCount b → (labelIn table v ≡ top) ⊎ (labelIn table v ≤ largestLabel)
+  pub shortest : statusIn table ≡ 1 → Shortest (graphOf b) (labelsIn (nodeCount b) table) (predecessorsIn (nodeCount b) table)

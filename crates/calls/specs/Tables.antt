@@ -1,0 +1,53 @@
+-- What the words of an answer table say. Definitions.
+use Prim.Native.Nat.{ℕ, _+_, _*_}
+use mathlib.Core.Bool.{Bool, not}
+use mathlib.Core.List.{List}
+use lib.ListN.{length}
+use lib.Dec.{eqb}
+use Rattle.indices.specs.Columns.{at, column}
+use Rattle.indices.specs.Steps.{if_then_else_}
+use Rattle.sheet.specs.Words.{kindOf, payloadOf}
+use Rattle.sheet.specs.Sections.{nodeCount}
+use Rattle.answer.specs.Answer.{Answer, ended, paused}
+use Rattle.procedure.specs.Table.{headerLength}
+
+-- "exactly 9 + 2n"
+abbrev pub tableLength : ℕ → ℕ
+tableLength nodes = headerLength + 2 * nodes
+
+-- "21. Table not 9 + 2n words."
+unfoldable pub wrongLength : List ℕ → List ℕ → Bool
+wrongLength b table = not (eqb (length table) (tableLength (nodeCount b)))
+
+-- "Kind 8: 1 ended, 0 paused." What a run answers whose table has that status; it is asked of runs' tables alone, which have no other
+abbrev pub statusSays : ℕ → Answer
+statusSays status = if eqb status 1 then ended else paused
+
+module _ (table : List ℕ) where
+  abbrev pub kindIn : ℕ → ℕ
+  kindIn i = kindOf (at table i)
+
+  abbrev pub payloadIn : ℕ → ℕ
+  payloadIn i = payloadOf (at table i)
+
+  -- "Kind 8: 1 ended, 0 paused."
+  abbrev pub statusIn : ℕ
+  statusIn = payloadIn 0
+
+  -- "eight words of kind 11: the four counts in the order above, high 28 bits before low 28": count i
+  abbrev pub countIn : ℕ → ℕ
+  countIn i = payloadIn (1 + 2 * i) * 268435456 + payloadIn (2 + 2 * i)
+
+  -- "Then per node a kind 9 word, its label, and a kind 10 word, its feeding arc."
+  abbrev pub labelIn : ℕ → ℕ
+  labelIn v = payloadIn (headerLength + 2 * v)
+
+  abbrev pub predecessorIn : ℕ → ℕ
+  predecessorIn v = payloadIn (headerLength + 2 * v + 1)
+
+-- the labels and the predecessors of the n nodes of a table
+unfoldable pub labelsIn : ℕ → List ℕ → List ℕ
+labelsIn n table = column n (labelIn table)
+
+unfoldable pub predecessorsIn : ℕ → List ℕ → List ℕ
+predecessorsIn n table = column n (predecessorIn table)

@@ -1,0 +1,23 @@
+// The words that the test program lends to a call.
+ghost use mathlib.Core.Path.{_≡_};
+ghost use Prim.Native.Nat.{_≤_};
+ghost use lib.ListN.{length};
+ghost use Rattle.cases_lent.specs.Used.{used as usedWords};
+
+// The word that they hold before the call, of a kind that no answer has.
+pub const FILLING: u32 = 3318072773;
+
+// How many words there are up to the last one that holds another. The second promise follows from the first.
+pub fn used(words: &[u32]) -> usize
+    ensures { λ r. ⌜ (r ≡ usedWords (now (words .entry))) × (r ≤ length (now (words .entry))) ⌝ }
+{
+    let mut n = words.len();
+    while n > 0 {
+        let last = n - 1;
+        if words[last] != FILLING {
+            return n;
+        }
+        n = last;
+    }
+    0
+}

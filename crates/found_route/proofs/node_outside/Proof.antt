@@ -1,9 +1,0 @@
--- `node_outside` meets its contract: the node count is compared.
-use Rattle.answers.specs.Routes.{nodeOutside}
-use borrow.Author.Needs.{needs}
-use Rattle.found_route.proofs.node_outside.Statement.{statement}
-use Rattle.found_route.proofs.node_outside.Tie as tie
-
-pub node-outside-spec : {M : Type 1} → statement M
-unfolding nodeOutside
-node-outside-spec = tie.close (tie.spec (λ c κs. search needs) (λ c. rw (← c .node-count .ensures)))

@@ -1,0 +1,95 @@
+// The refusals of a sheet's arcs: 8 to 10, and of refusal 3 what it asks of an arc's words.
+pub mod degrees;
+
+ghost use mathlib.Core.Path.{_≡_};
+ghost use lib.Dec.{leb};
+ghost use Prim.Native.Nat.{_≤_, _<_};
+ghost use Rattle.indices.specs.Tests.{any};
+ghost use Rattle.sheet.specs.Limits.{mostNodes, mostArcs};
+ghost use Rattle.sheet.specs.Sections.{Located, nodeCount, arcCount};
+ghost use Rattle.sheet.specs.Arcs.{endOf};
+ghost use Rattle.answer.specs.Answer.{numbered, accepted, lowest};
+ghost use Rattle.judgement.specs.Form.{arcBits};
+ghost use Rattle.judgement.specs.Fields.{endOutside};
+ghost use Rattle.judgement.specs.Judgement.{arcRefusals};
+ghost use Rattle.judge_arcs.specs.Fields.{fieldRefusals};
+use sheet::Arc;
+use sheet::Sections;
+
+// Refusal 3, of the arcs: a bit set that must be zero.
+pub fn bit_set(s: &[u8], at: Sections) -> bool
+    requires { ⌜ Located (now s) at × (arcCount (now s) < 65536) ⌝ }
+    ensures { λ r. ⌜ r ≡ any (arcBits (now (s .entry))) (arcCount (now (s .entry))) ⌝ }
+{
+    let arcs = at.arcs as u16;
+    let mut a: u16 = 0;
+    while a < arcs {
+        if sheet::fields::ends_at(s, at, Arc(a)) >= 1048576 {
+            return true;
+        }
+        a += 1;
+    }
+    false
+}
+
+// Whether one end of an arc is no node.
+fn end_outside(s: &[u8], at: Sections, a: Arc, head: bool) -> bool
+    requires { ⌜ Located (now s) at × (a .0 < arcCount (now s)) ⌝ }
+    ensures { λ r. ⌜ r ≡ leb (nodeCount (now (s .entry))) (endOf head (now (s .entry)) (a .0)) ⌝ }
+{
+    let v = sheet::fields::end_at(s, at, a, head);
+    sheet::node_count(s) <= v.0 as u32
+}
+
+// Whether an end of an arc is no node.
+fn ends_outside(s: &[u8], at: Sections, a: Arc) -> bool
+    requires { ⌜ Located (now s) at × (a .0 < arcCount (now s)) ⌝ }
+    ensures { λ r. ⌜ r ≡ endOutside (now (s .entry)) (a .0) ⌝ }
+{
+    if end_outside(s, at, a, false) {
+        return true;
+    }
+    end_outside(s, at, a, true)
+}
+
+// Refusals 8 and 9: the number, or 0. Both are looked for in one pass over the arcs.
+fn field_refusal(s: &[u8], at: Sections) -> u8
+    requires { ⌜ Located (now s) at × (arcCount (now s) ≤ mostArcs) ⌝ }
+    ensures { λ r. ⌜ numbered r ≡ lowest (fieldRefusals (now (s .entry))) accepted ⌝ }
+{
+    let arcs = at.arcs as u16;
+    let mut outside = false;
+    let mut long = false;
+    let mut a: u16 = 0;
+    while a < arcs {
+        if ends_outside(s, at, Arc(a)) {
+            outside = true;
+        }
+        if sheet::fields::length_at(s, at, Arc(a)) > sheet::MOST_LENGTH {
+            long = true;
+        }
+        a += 1;
+    }
+    if outside {
+        return 8;
+    }
+    if long {
+        return 9;
+    }
+    0
+}
+
+// Refusals 8 to 10: the number, or 0.
+pub fn arc_refusal(s: &[u8], at: Sections) -> u8
+    requires { ⌜ Located (now s) at × (arcCount (now s) ≤ mostArcs) × (nodeCount (now s) ≤ mostNodes) ⌝ }
+    ensures { λ r. ⌜ numbered r ≡ lowest (arcRefusals (now (s .entry))) accepted ⌝ }
+{
+    let field = field_refusal(s, at);
+    if field != 0 {
+        return field;
+    }
+    if crate::degrees::crowded_nodes(s, at) {
+        return 10;
+    }
+    0
+}

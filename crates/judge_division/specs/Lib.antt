@@ -1,0 +1,3 @@
+pub mod Parents
+pub mod Turn
+pub mod Nesting

@@ -1,0 +1,29 @@
+-- A region's turn in the pass from the last region back, over the region words d and an entry for each region, which is 0 until the region is handed
+-- something. Definitions.
+use Prim.Native.Nat.{ℕ, max, _+_, _≤_}
+use mathlib.Core.Bool.{Bool, false, _&&_, not}
+use mathlib.Core.List.{List}
+use mathlib.Core.Path.{_≡_}
+use lib.Dec.{eqb}
+use lib.ListN.{getD, set}
+use Rattle.sheet.specs.Limits.{mostRegionWords}
+use Rattle.sheet.specs.Words.{words}
+use Rattle.sheet.specs.Regions.{isLeaf, parent}
+use Rattle.judgement.specs.Nesting.{wrongParents}
+
+-- region words that the pass may go over: they are few, and refusal 11 does not apply
+pub record Passable (d : List ℕ) : Type 0 where
+  pub few : words d ≤ mostRegionWords
+  pub parents : wrongParents d ≡ false
+
+-- entry r holds the largest of what the region is handed
+abbrev pub raised : List ℕ → ℕ → ℕ → List ℕ
+raised best r x = set best r (max (getD best r 0) x)
+
+-- region r hands what it holds, and one more, to its parent
+abbrev pub handedUp : List ℕ → List ℕ → ℕ → List ℕ
+handedUp d best r = raised best (parent d r) (getD best r 0 + 1)
+
+-- region r is inner, and nothing was handed to it
+abbrev pub holdsNone : List ℕ → List ℕ → ℕ → Bool
+holdsNone d best r = not (isLeaf d r) && eqb (getD best r 0) 0

@@ -1,0 +1,59 @@
+// The region words that are leaves: how many each arc has, and of refusal 3 what it asks of a leaf's word.
+ghost use mathlib.Core.Path.{_≡_};
+ghost use Prim.Native.Nat.{_≤_, _<_};
+ghost use lib.ListN.{length};
+ghost use Rattle.indices.specs.Tests.{any};
+ghost use Rattle.indices.specs.Tally.{Tally};
+ghost use Rattle.sheet.specs.Limits.{mostRegionWords};
+ghost use Rattle.sheet.specs.Words.{words};
+ghost use Rattle.judgement.specs.Form.{leafBits};
+ghost use Rattle.judgement.specs.Nesting.{leafOfArc};
+
+// A counter for each arc number of 11 bits.
+pub struct Counters {
+    pub n: [u16; 2048],
+}
+
+// Refusal 3 at word k: a leaf with a bit set that must be zero.
+fn leaf_bits(d: &[u8], k: usize) -> bool
+    requires { ⌜ k < words (now d) ⌝ }
+    ensures { λ r. ⌜ r ≡ leafBits (now (d .entry)) k ⌝ }
+{
+    if sheet::payload_at(d, k) < 8388608 {
+        return false;
+    }
+    sheet::fields::leaf_word(d, k)
+}
+
+// Refusal 3, of the leaves: a bit set that must be zero.
+pub fn bit_set(d: &[u8]) -> bool
+    ensures { λ r. ⌜ r ≡ any (leafBits (now (d .entry))) (words (now (d .entry))) ⌝ }
+{
+    let n = d.len() / 4;
+    let mut k = 0;
+    while k < n {
+        if leaf_bits(d, k) {
+            return true;
+        }
+        k += 1;
+    }
+    false
+}
+
+// How many leaves each arc has. A word that is no leaf adds 0, so that there is no branch on its kind.
+pub fn count_leaves(d: &[u8]) -> Counters
+    requires { ⌜ words (now d) ≤ mostRegionWords ⌝ }
+    ensures { λ r. ⌜ (length (r .n) ≡ 2048) × Tally (leafOfArc (now (d .entry))) mostRegionWords (r .n) (words (now (d .entry))) ⌝ }
+{
+    let mut seen = [0u16; 2048];
+    let n = d.len() / 4;
+    let mut k = 0;
+    while k < n {
+        let arc = sheet::fields::arc_word(d, k);
+        let at = arc.0 as usize;
+        let x = seen[at];
+        seen[at] = x + sheet::fields::leaf_word(d, k) as u16;
+        k += 1;
+    }
+    Counters { n: seen }
+}

@@ -1,0 +1,284 @@
+-- Words of which each may follow the one before it are in the order of the sheet: the spans, the arcs in pairs, and then region words alone.
+-- By recursion on the words from the back of the order to its front.
+use Prim.Native.Nat.{ℕ, zero, suc, _+_, _-_, _*_, _/_, _<_, _≤_}
+use mathlib.Core.Bool.{Bool, true, false, not, _&&_, _||_, or-true}
+use mathlib.Core.List.{List}
+use mathlib.Core.Path.{_≡_, refl, sym, ap, _∙_}
+use borrow.Author.Tests.{eqb-true, ne-eqb, lt-ltb, le-ltb}
+use native.Mathlib.Omega.{arith}
+use lib.Dec.{eqb}
+use Rattle.indices.specs.Tests.{any, lead}
+use Rattle.indices.proofs.Steps.{by-equal, by-truth}
+use Rattle.indices.proofs.Tests.{any-ext, any-front, lead-ext, and-left, and-right}
+use Rattle.sheet.specs.Words.{words, kind}
+use Rattle.sheet.specs.Sections.{isSpan, spansFrom, spanCount, isArc, arcsFrom, arcsAt, arcCount, regionWords}
+use Rattle.sheet.proofs.Bounds.{region-words, region-kind}
+use Rattle.judgement.specs.Form.{noRegionWord, outOfOrder}
+use Rattle.judge_form.specs.Kinds.{regionKind, arcOrRegion, mayFollow, mayEnd, followOn}
+
+-- to prove P of a kind that is one of two, prove it of each
+by-kind {ℓ} : {P : Type ℓ} (k m n : ℕ) → eqb k m || eqb k n ≡ true → (k ≡ m → P) → (k ≡ n → P) → P
+by-kind k m n e one other = by-truth (eqb k m) (λ h. one (eqb-true k m h)) (λ h. other (eqb-true k n (rw h at e)))
+
+-- REGION WORDS
+pub region-follows : (before k : ℕ) → regionKind before ≡ true → mayFollow before k ≡ regionKind k
+unfolding mayFollow regionKind
+region-follows before k e = by-kind before 6 7 e (λ six. rw six) (λ seven. rw seven)
+
+region-ends : (before : ℕ) → regionKind before ≡ true → mayEnd before ≡ true
+unfolding mayEnd regionKind
+region-ends before e = by-kind before 6 7 e (λ six. rw six) (λ seven. rw seven)
+
+-- a kind that is 6 or 7
+pub region-before : (before : ℕ) → 4 ≤ before → before < 8 → (before ≡ 4 → ⊥) → (before ≡ 5 → ⊥) → regionKind before ≡ true
+unfolding regionKind
+region-before before low high four five = by-equal before 6 (λ six. rw six) (λ other. let seven : before ≡ 7 = omega arith in rw seven)
+
+-- a kind that no sheet has
+pub none-follows : (before k : ℕ) → 8 ≤ before → mayFollow before k ≡ false
+unfolding mayFollow
+none-follows before k l = rw (
+  other 0 (omega arith),
+  other 1 (omega arith),
+  other 2 (omega arith),
+  other 3 (omega arith),
+  other 4 (omega arith),
+  other 5 (omega arith),
+  other 6 (omega arith),
+  other 7 (omega arith),
+)
+  where
+    other : (n : ℕ) → n < 8 → eqb before n ≡ false
+    other n small = ne-eqb before n (λ e. omega arith)
+
+-- n words are all region words
+abbrev regionsOnly : (ℕ → ℕ) → ℕ → Bool
+regionsOnly kinds n = not (any (λ i. not (regionKind (kinds i))) n)
+
+regions-front : (kinds : ℕ → ℕ) (n : ℕ) → regionsOnly kinds (suc n) ≡ regionKind (kinds 0) && regionsOnly (λ i. kinds (suc i)) n
+regions-front kinds n = rw (any-front (λ i. not (regionKind (kinds i))) n) (by-truth (regionKind (kinds 0)) (λ h. rw h) (λ h. rw h))
+
+after-region : (before : ℕ) (kinds : ℕ → ℕ) (n : ℕ) → regionKind before ≡ true → followOn before kinds n ≡ regionsOnly kinds n
+unfolding followOn any
+after-region before kinds zero e = region-ends before e
+after-region before kinds (suc n) e =
+    rw (region-follows before (kinds 0) e, regions-front kinds n)
+    (by-truth (regionKind (kinds 0)) (λ h. rw h (after-region (kinds 0) (λ i. kinds (suc i)) n h)) (λ h. rw h))
+
+-- ARCS
+abbrev arcAt : (ℕ → ℕ) → ℕ → Bool
+arcAt kinds a = eqb (kinds (2 * a)) 4 && eqb (kinds (2 * a + 1)) 5
+
+-- how many arcs stand at the front of n words, and that all behind them are region words
+unfoldable pub arcsLead : (ℕ → ℕ) → ℕ → ℕ
+arcsLead kinds n = lead (arcAt kinds) (n / 2)
+
+unfoldable pub arcsThenRegions : (ℕ → ℕ) → ℕ → Bool
+arcsThenRegions kinds n = regionsOnly (λ i. kinds (2 * arcsLead kinds n + i)) (n - 2 * arcsLead kinds n)
+
+pub arcs-ext : (kinds kinds′ : ℕ → ℕ) (n n′ : ℕ) → n ≡ n′ → ((i : ℕ) → kinds i ≡ kinds′ i) → arcsThenRegions kinds n ≡ arcsThenRegions kinds′ n′
+unfolding arcsThenRegions arcsLead
+arcs-ext kinds kinds′ n n′ e h =
+    rw (e, lead-ext (arcAt kinds) (arcAt kinds′) (n′ / 2) (λ a l. rw (h (2 * a), h (2 * a + 1))))
+    (ap not (any-ext _ _ (n′ - 2 * lead (arcAt kinds′) (n′ / 2)) (λ i l. rw (h (2 * lead (arcAt kinds′) (n′ / 2) + i)))))
+
+-- no arc stands at the front
+arcs-none : (kinds : ℕ → ℕ) (n : ℕ) → arcsLead kinds n ≡ 0 → arcsThenRegions kinds n ≡ regionsOnly kinds n
+unfolding arcsThenRegions
+arcs-none kinds n e =
+    rw e (ap not (any-ext (λ i. not (regionKind (kinds (2 * 0 + i)))) (λ i. not (regionKind (kinds i))) (n - 2 * 0)
+    (λ i l. ap (λ (j : ℕ). not (regionKind (kinds j))) (omega arith)) ∙ ap (λ (m : ℕ). any (λ i. not (regionKind (kinds i))) m) (omega arith)))
+
+-- an arc stands at the front
+lead-one : (kinds : ℕ → ℕ) (n : ℕ) → arcAt kinds 0 ≡ true → arcsLead kinds (suc (suc n)) ≡ suc (arcsLead (λ i. kinds (suc (suc i))) n)
+unfolding arcsLead lead
+lead-one kinds n e =
+    let half : suc (suc n) / 2 ≡ suc (n / 2) = omega arith in
+    rw (half, e)
+    (ap suc (lead-ext (λ a. arcAt kinds (suc a)) (arcAt (λ i. kinds (suc (suc i)))) (n / 2)
+    (λ a l. rw (twice a, twice′ a))))
+  where
+    twice : (a : ℕ) → 2 * suc a ≡ suc (suc (2 * a))
+    twice a = omega arith
+
+    twice′ : (a : ℕ) → suc (suc (2 * a)) + 1 ≡ suc (suc (2 * a + 1))
+    twice′ a = omega arith
+
+arcs-one : (kinds : ℕ → ℕ) (n : ℕ) → arcAt kinds 0 ≡ true → arcsThenRegions kinds (suc (suc n)) ≡ arcsThenRegions (λ i. kinds (suc (suc i))) n
+unfolding arcsThenRegions
+arcs-one kinds n e =
+    let rest = arcsLead (λ i. kinds (suc (suc i))) n in
+    let size : suc (suc n) - 2 * suc rest ≡ n - 2 * rest = omega arith in
+    rw (lead-one kinds n e, size)
+    (ap not (any-ext (λ i. not (regionKind (kinds (2 * suc rest + i)))) (λ i. not (regionKind (kinds (suc (suc (2 * rest + i)))))) (n - 2 * rest)
+    (λ i l. ap (λ (j : ℕ). not (regionKind (kinds j))) (omega arith))))
+
+lead-zero : (kinds : ℕ → ℕ) (n : ℕ) → arcAt kinds 0 ≡ false → arcsLead kinds (suc (suc n)) ≡ 0
+unfolding arcsLead lead
+lead-zero kinds n e = let half : suc (suc n) / 2 ≡ suc (n / 2) = omega arith in rw (half, e)
+
+-- one word after an arc
+last-word : (k : ℕ) → arcOrRegion k && mayEnd k ≡ regionKind k
+unfolding arcOrRegion mayEnd
+last-word k =
+    by-truth (regionKind k) (λ h. rw (h, or-true) (region-ends k h))
+    (λ h. by-truth (eqb k 4) (λ four. rw (h, eqb-true k 4 four)) (λ other. rw (h, other)))
+
+-- where no arc stands at the front, two words and more are in order if they are region words
+no-arc : (kinds : ℕ → ℕ) (n : ℕ) → arcAt kinds 0 ≡ false → followOn 5 kinds (suc (suc n)) ≡ regionsOnly kinds (suc (suc n))
+unfolding followOn mayFollow arcOrRegion
+no-arc kinds n e =
+    rw (regions-front kinds (suc n))
+    (by-truth (regionKind (kinds 0)) (λ h. rw (h, or-true) (after-region (kinds 0) (λ i. kinds (suc i)) (suc n) h))
+    (λ h. by-truth (eqb (kinds 0) 4)
+    (λ four. let unpaired : eqb (kinds 1) 5 ≡ false = rw four at e in rw (h, eqb-true (kinds 0) 4 four, unpaired)) (λ other. rw (h, other))))
+
+-- an arc at the front, and the words behind it
+arc-first : (kinds : ℕ → ℕ) (n : ℕ) → arcAt kinds 0 ≡ true → followOn 5 kinds (suc (suc n)) ≡ followOn 5 (λ i. kinds (suc (suc i))) n
+unfolding followOn mayFollow arcOrRegion
+arc-first kinds n e =
+    let four : kinds 0 ≡ 4 = eqb-true (kinds 0) 4 (and-left (eqb (kinds 0) 4) (eqb (kinds 1) 5) e) in
+    let five : kinds 1 ≡ 5 = eqb-true (kinds 1) 5 (and-right (eqb (kinds 0) 4) (eqb (kinds 1) 5) e) in
+    rw (four, five)
+
+lead-short : (kinds : ℕ → ℕ) → (arcsLead kinds 0 ≡ 0) × (arcsLead kinds 1 ≡ 0)
+unfolding arcsLead lead
+lead-short kinds = (refl, refl)
+
+regions-one : (kinds : ℕ → ℕ) → regionKind (kinds 0) ≡ regionsOnly kinds 1
+unfolding any
+regions-one kinds = by-truth (regionKind (kinds 0)) (λ h. rw h) (λ h. rw h)
+
+after-arc : (kinds : ℕ → ℕ) (n : ℕ) → followOn 5 kinds n ≡ arcsThenRegions kinds n
+unfolding followOn mayFollow mayEnd any
+after-arc kinds zero = sym (arcs-none kinds 0 (lead-short kinds .0))
+after-arc kinds (suc zero) = last-word (kinds 0) ∙ regions-one kinds ∙ sym (arcs-none kinds 1 (lead-short kinds .1))
+after-arc kinds (suc (suc n)) =
+    by-truth (arcAt kinds 0) (λ arc. arc-first kinds n arc ∙ after-arc (λ i. kinds (suc (suc i))) n ∙ sym (arcs-one kinds n arc))
+    (λ none. no-arc kinds n none ∙ sym (arcs-none kinds (suc (suc n)) (lead-zero kinds n none)))
+
+-- SPANS
+-- how many spans stand at the front of n words, and that what is behind them is in order
+unfoldable spansLead : (ℕ → ℕ) → ℕ → ℕ
+spansLead kinds n = lead (λ i. eqb (kinds i) 3) n
+
+unfoldable spansThenArcs : (ℕ → ℕ) → ℕ → Bool
+spansThenArcs kinds n = arcsThenRegions (λ i. kinds (spansLead kinds n + i)) (n - spansLead kinds n)
+
+pub span-follows : (before k : ℕ) → eqb before 2 || eqb before 3 ≡ true → mayFollow before k ≡ eqb k 3 || arcOrRegion k
+unfolding mayFollow
+span-follows before k e = by-kind before 2 3 e (λ two. rw two) (λ three. rw three)
+
+-- a kind that is 2 or 3
+pub span-before : (before : ℕ) → before < 4 → (before ≡ 0 → ⊥) → (before ≡ 1 → ⊥) → eqb before 2 || eqb before 3 ≡ true
+span-before before high zero′ one = by-equal before 2 (λ two. rw two) (λ other. let three : before ≡ 3 = omega arith in rw three)
+
+span-ends : (before : ℕ) → eqb before 2 || eqb before 3 ≡ true → mayEnd before ≡ true
+unfolding mayEnd
+span-ends before e = by-kind before 2 3 e (λ two. rw two) (λ three. rw three)
+
+spans-none : (kinds : ℕ → ℕ) (n : ℕ) → spansLead kinds n ≡ 0 → spansThenArcs kinds n ≡ followOn 5 kinds n
+unfolding spansThenArcs
+spans-none kinds n e = rw e (arcs-ext (λ i. kinds (0 + i)) kinds (n - 0) n (omega arith) (λ i. ap kinds (omega arith)) ∙ sym (after-arc kinds n))
+
+lead-more-spans : (kinds : ℕ → ℕ) (n : ℕ) → eqb (kinds 0) 3 ≡ true → spansLead kinds (suc n) ≡ suc (spansLead (λ i. kinds (suc i)) n)
+unfolding spansLead lead
+lead-more-spans kinds n e = rw e
+
+lead-no-span : (kinds : ℕ → ℕ) (n : ℕ) → eqb (kinds 0) 3 ≡ false → spansLead kinds (suc n) ≡ 0
+unfolding spansLead lead
+lead-no-span kinds n e = rw e
+
+lead-no-words : (kinds : ℕ → ℕ) → spansLead kinds 0 ≡ 0
+unfolding spansLead lead
+lead-no-words kinds = refl
+
+spans-one : (kinds : ℕ → ℕ) (n : ℕ) → eqb (kinds 0) 3 ≡ true → spansThenArcs kinds (suc n) ≡ spansThenArcs (λ i. kinds (suc i)) n
+unfolding spansThenArcs
+spans-one kinds n e =
+    let rest = spansLead (λ i. kinds (suc i)) n in
+    rw (lead-more-spans kinds n e)
+    (arcs-ext (λ i. kinds (suc rest + i)) (λ i. kinds (suc (rest + i))) (suc n - suc rest) (n - rest) (omega arith) (λ i. ap kinds (omega arith)))
+
+after-span : (before : ℕ) (kinds : ℕ → ℕ) (n : ℕ) → eqb before 2 || eqb before 3 ≡ true → followOn before kinds n ≡ spansThenArcs kinds n
+unfolding followOn mayFollow mayEnd
+after-span before kinds zero e = span-ends before e ∙ sym (spans-none kinds 0 (lead-no-words kinds))
+after-span before kinds (suc n) e =
+    rw (span-follows before (kinds 0) e)
+    (by-truth (eqb (kinds 0) 3)
+    (λ h. let three : kinds 0 ≡ 3 = eqb-true (kinds 0) 3 h in rw h (after-span (kinds 0) (λ i. kinds (suc i)) n (rw three) ∙ sym (spans-one kinds n h)))
+    (λ h. rw h (sym (spans-none kinds (suc n) (lead-no-span kinds n h)))))
+
+-- THE WHOLE SHEET
+-- a sheet may not end at its front or after kind 1, and after a kind above that it may, but for kind 4
+pub front-ends-not : (before : ℕ) → before < 2 → mayEnd before ≡ false
+unfolding mayEnd
+front-ends-not before l = by-equal before 0 (λ front. rw front) (λ other. let one : before ≡ 1 = omega arith in rw one)
+
+pub later-ends : (before : ℕ) → 2 ≤ before → (before ≡ 4 → ⊥) → mayEnd before ≡ true
+unfolding mayEnd
+later-ends before l four = rw (ne-eqb before 0 (λ e. omega arith), ne-eqb before 1 (λ e. omega arith), ne-eqb before 4 four)
+
+from-front : (kinds : ℕ → ℕ) (n : ℕ) → followOn 0 kinds (suc (suc n)) ≡ eqb (kinds 0) 1 && (eqb (kinds 1) 2 && spansThenArcs (λ i. kinds (suc (suc i))) n)
+unfolding followOn mayFollow
+from-front kinds n =
+    by-truth (eqb (kinds 0) 1)
+    (λ h. let one : kinds 0 ≡ 1 = eqb-true (kinds 0) 1 h in
+    by-truth (eqb (kinds 1) 2) (λ two. rw (one, two) (after-span (kinds 1) (λ i. kinds (suc (suc i))) n (rw two))) (λ other. rw (one, other)))
+    (λ h. rw h)
+
+too-short : (kinds : ℕ → ℕ) → (followOn 0 kinds 0 ≡ false) × (followOn 0 kinds 1 ≡ false)
+unfolding followOn mayFollow mayEnd
+too-short kinds = (refl, by-truth (eqb (kinds 0) 1) (λ h. rw (eqb-true (kinds 0) 1 h)) (λ h. rw h))
+
+short : (b : List ℕ) → words b < 2 → not (outOfOrder b) ≡ false
+unfolding outOfOrder
+short b l = rw (lt-ltb (words b) 2 l)
+
+long : (b : List ℕ) → 2 ≤ words b
+    → not (outOfOrder b) ≡ eqb (kind b 0) 1 && (eqb (kind b 1) 2 && not (any (noRegionWord (regionWords b)) (words (regionWords b))))
+unfolding outOfOrder
+long b l = rw (le-ltb (words b) 2 l) (at (eqb (kind b 0) 1) (eqb (kind b 1) 2) (any (noRegionWord (regionWords b)) (words (regionWords b))))
+  where
+    at : (x y z : Bool) → not (false || not x || not y || z) ≡ x && (y && not z)
+    at true true z = refl
+    at true false z = refl
+    at false y z = refl
+
+module _ (b : List ℕ) where
+  span-count : (n : ℕ) → words b ≡ suc (suc n) → spansLead (λ i. kind b (suc (suc i))) n ≡ spanCount b
+  unfolding spansLead spansFrom
+  span-count n e =
+      lead-ext (λ i. eqb (kind b (suc (suc i))) 3) (isSpan b 2) n (λ i l. ap (λ (j : ℕ). eqb (kind b j) 3) (omega arith))
+      ∙ ap (lead (isSpan b 2)) (omega arith)
+
+  arc-count : arcsLead (λ i. kind b (arcsAt b + i)) (words b - arcsAt b) ≡ arcCount b
+  unfolding arcsLead arcsFrom
+  arc-count =
+      lead-ext (arcAt (λ i. kind b (arcsAt b + i))) (isArc b (arcsAt b)) ((words b - arcsAt b) / 2)
+      (λ a l. ap (λ (j : ℕ). eqb (kind b (arcsAt b + 2 * a)) 4 && eqb (kind b j) 5) (omega arith))
+
+  region-part : 2 ≤ words b → arcsThenRegions (λ i. kind b (arcsAt b + i)) (words b - arcsAt b) ≡ not
+      (any (noRegionWord (regionWords b)) (words (regionWords b)))
+  unfolding arcsThenRegions regionKind
+  region-part two =
+      let size : words b - arcsAt b - 2 * arcCount b ≡ words (regionWords b) = omega (arith, region-words b two) in
+      rw (arc-count, size)
+      (ap not (any-ext (λ i. not (regionKind (kind b (arcsAt b + (2 * arcCount b + i))))) (noRegionWord (regionWords b)) (words (regionWords b))
+      (λ i l. ap (λ (k : ℕ). not (eqb k 6 || eqb k 7)) (ap (kind b) (omega arith) ∙ sym (region-kind b i)))))
+
+  sections : (n : ℕ) → words b ≡ suc (suc n) → spansThenArcs (λ i. kind b (suc (suc i))) n ≡ not (any (noRegionWord (regionWords b)) (words (regionWords b)))
+  unfolding spansThenArcs
+  sections n e =
+      rw (span-count n e)
+      (arcs-ext (λ i. kind b (suc (suc (spanCount b + i)))) (λ i. kind b (arcsAt b + i)) (n - spanCount b) (words b - arcsAt b) (omega arith)
+      (λ i. ap (kind b) (omega arith)) ∙ region-part (omega arith))
+
+  -- each word may follow the one before it, and the sheet may end, just where refusal 2 does not apply
+  pub in-order : followOn 0 (kind b) (words b) ≡ not (outOfOrder b)
+  in-order = at (words b) refl
+    where
+      at : (m : ℕ) → words b ≡ m → followOn 0 (kind b) m ≡ not (outOfOrder b)
+      at zero e = too-short (kind b) .0 ∙ sym (short b (omega arith))
+      at (suc zero) e = too-short (kind b) .1 ∙ sym (short b (omega arith))
+      at (suc (suc n)) e = from-front (kind b) n ∙ ap (λ (r : Bool). eqb (kind b 0) 1 && (eqb (kind b 1) 2 && r)) (sections n e) ∙ sym (long b (omega arith))

@@ -1,0 +1,149 @@
+-- What an accepted sheet ensures: none of the refusals applies to it, and what each of them says then.
+use Prim.Native.Nat.{ℕ, _<_, _≤_}
+use mathlib.Core.Bool.{Bool, true, false, _||_}
+use mathlib.Core.List.{List}
+use mathlib.Core.Path.{_≡_}
+use borrow.Author.Tests.{ltb-false, leb-false, eqb-true, ne-eqb, not-false}
+use native.Mathlib.Omega.{arith}
+use lib.Dec.{ltb, eqb}
+use Rattle.indices.specs.Tests.{any, count}
+use Rattle.indices.proofs.Steps.{by-order}
+use Rattle.indices.proofs.Tests.{any-at, or-left, or-right, count-out-all}
+use Rattle.sheet.specs.Limits.{mostNodes, mostSpans, mostSpan, mostArcs, mostRegionWords, mostLength, mostArcsEachWay}
+use Rattle.sheet.specs.Words.{words, kind}
+use Rattle.sheet.specs.Sections.{nodeCount, source, spanCount, span, arcCount, regionWords}
+use Rattle.sheet.specs.Arcs.{tail, head, arcLength, endOf}
+use Rattle.sheet.specs.Heights.{Nesting}
+use Rattle.sheet.specs.Regions.{regionCount, leafWord, arcWord, isLeaf, parent, height}
+use Rattle.answer.proofs.Lowest.{clear-at}
+use Rattle.judgement.specs.Form.{wrongFront, noRegionWord, outOfOrder, nodesOutside, sourceOutside, spanOutside, spansOutside, tooMany}
+use Rattle.judgement.specs.Fields.{endsOutside, tooLong, lengthsOutside, endsAt, crowded, crowdedNodes, tooManyAtNode}
+use Rattle.judgement.specs.Nesting.{wrongParents, noSuchArc, leafOfArc, notOneLeaf, wrongLeaves, spansDiffer}
+use Rattle.judgement.specs.Judgement.{formRefusals, countRefusals, arcRefusals, divisionRefusals, refusals, judgement, Accepted}
+use Rattle.judgement.proofs.Parents as parents
+use Rattle.judgement.proofs.Clear as clear
+
+-- no refusal applies, one field for each that says something of later calls
+record NoRefusal (b : List ℕ) : Type 0 where
+  order : outOfOrder b ≡ false
+  nodes : nodesOutside b ≡ false
+  source : sourceOutside b ≡ false
+  spans : spansOutside b ≡ false
+  many : tooMany b ≡ false
+  ends : endsOutside b ≡ false
+  lengths : lengthsOutside b ≡ false
+  degrees : tooManyAtNode b ≡ false
+  parents : wrongParents (regionWords b) ≡ false
+  leaves : wrongLeaves (regionWords b) (arcCount b) ≡ false
+  height : spansDiffer (regionWords b) (spanCount b) ≡ false
+
+none-applies : (b : List ℕ) → Accepted b → NoRefusal b
+unfolding judgement refusals formRefusals countRefusals arcRefusals divisionRefusals
+none-applies b ok = let at = clear-at (refusals b) ok in record {
+  order = at 1;
+  nodes = at 3;
+  source = at 4;
+  spans = at 5;
+  many = at 6;
+  ends = at 7;
+  lengths = at 8;
+  degrees = at 9;
+  parents = at 10;
+  leaves = at 11;
+  height = at 13;
+}
+
+module _ (b : List ℕ) (ok : Accepted b) where
+  none : NoRefusal b
+  none = none-applies b ok
+
+  -- 2. the first two words are there, and the words after the last arc are of kinds 6 and 7
+  pub front-there : 2 ≤ words b
+  front-there = clear.front-there b (none .order)
+
+  pub region-kinds : (k : ℕ) → k < words (regionWords b) → eqb (kind (regionWords b) k) 6 || eqb (kind (regionWords b) k) 7 ≡ true
+  unfolding outOfOrder
+  region-kinds k l = not-false _ (any-at (noRegionWord (regionWords b)) (words (regionWords b)) k (or-right (wrongFront b) _ (none .order)) l)
+
+  -- 4 and 5. node count and source
+  pub few-nodes : nodeCount b ≤ mostNodes
+  few-nodes = clear.few-nodes b (none .nodes)
+
+  pub source-in : source b < nodeCount b
+  unfolding sourceOutside
+  source-in = leb-false (nodeCount b) (source b) (none .source)
+
+  -- 6. spans
+  span-inside : (k : ℕ) → k < spanCount b → spanOutside b k ≡ false
+  unfolding spansOutside
+  span-inside k l = any-at (spanOutside b) (spanCount b) k (none .spans) l
+
+  pub span-positive : (k : ℕ) → k < spanCount b → 0 < span b k
+  span-positive k l = ltb-false (span b k) 1 (or-left (ltb (span b k) 1) _ (span-inside k l))
+
+  pub span-below : (k : ℕ) → k < spanCount b → span b k ≤ mostSpan
+  span-below k l = ltb-false mostSpan (span b k) (or-right (ltb (span b k) 1) _ (span-inside k l))
+
+  -- 7. how many spans, arcs and region words
+  pub few-spans : spanCount b ≤ mostSpans
+  unfolding tooMany
+  few-spans =
+      ltb-false mostSpans (spanCount b)
+      (or-left (ltb mostSpans (spanCount b)) _ (or-left (ltb mostSpans (spanCount b) || ltb mostArcs (arcCount b)) _ (none .many)))
+
+  pub few-arcs : arcCount b ≤ mostArcs
+  few-arcs = clear.few-arcs b (none .many)
+
+  pub few-region-words : words (regionWords b) ≤ mostRegionWords
+  few-region-words = clear.few-region-words b (none .many)
+
+  -- 8 and 9. ends and lengths of arcs
+  pub tail-in : (a : ℕ) → a < arcCount b → tail b a < nodeCount b
+  tail-in = clear.end-in b (none .ends) false
+
+  pub head-in : (a : ℕ) → a < arcCount b → head b a < nodeCount b
+  head-in = clear.end-in b (none .ends) true
+
+  pub length-short : (a : ℕ) → a < arcCount b → arcLength b a ≤ mostLength
+  unfolding lengthsOutside
+  length-short a l = ltb-false mostLength (arcLength b a) (any-at (tooLong b) (arcCount b) a (none .lengths) l)
+
+  -- 10. no node has more arcs each way than it may have, and what is no node has none
+  not-crowded : (heads : Bool) → crowdedNodes heads b ≡ false
+  unfolding tooManyAtNode
+  not-crowded true = or-right (crowdedNodes false b) (crowdedNodes true b) (none .degrees)
+  not-crowded false = or-left (crowdedNodes false b) (crowdedNodes true b) (none .degrees)
+
+  pub few-ends : (heads : Bool) (v : ℕ) → count (endsAt heads b v) (arcCount b) ≤ mostArcsEachWay
+  unfolding crowdedNodes
+  few-ends heads v =
+      by-order v (nodeCount b)
+      (λ l. ltb-false mostArcsEachWay (count (endsAt heads b v) (arcCount b)) (any-at (crowded heads b) (nodeCount b) v (not-crowded heads) l))
+      (λ l. omega (arith, count-out-all (endsAt heads b v) (arcCount b) (elsewhere l)))
+    where
+      elsewhere : nodeCount b ≤ v → (a : ℕ) → a < arcCount b → endsAt heads b v a ≡ false
+      elsewhere l a la = ne-eqb (endOf heads b a) v (λ e. omega (arith, clear.end-in b (none .ends) heads a la))
+
+  -- 11. parents fall and are inner
+  pub nesting : Nesting (isLeaf (regionWords b)) (parent (regionWords b)) (regionCount (regionWords b))
+  nesting = parents.nesting (regionWords b) (none .parents) few-region-words
+
+  -- 12. every leaf has an arc, and every arc exactly one leaf
+  pub leaf-arc : (k : ℕ) → k < words (regionWords b) → leafWord (regionWords b) k ≡ true → arcWord (regionWords b) k < arcCount b
+  unfolding wrongLeaves
+  leaf-arc k l leaf =
+      let d = regionWords b in
+      let here = any-at (noSuchArc d (arcCount b)) (words d) k (or-left (any (noSuchArc d (arcCount b)) (words d)) _ (none .leaves)) l in
+      leb-false (arcCount b) (arcWord d k) (rw leaf at here)
+
+  pub one-leaf : (a : ℕ) → a < arcCount b → count (leafOfArc (regionWords b) a) (words (regionWords b)) ≡ 1
+  unfolding wrongLeaves
+  one-leaf a l =
+      let d = regionWords b in
+      let here = any-at (notOneLeaf d) (arcCount b) a (or-right (any (noSuchArc d (arcCount b)) (words d)) _ (none .leaves)) l in
+      eqb-true _ _ (not-false _ here)
+
+  -- 14. spans are as many as region 0 is high
+  pub spans-height : spanCount b ≡ height (regionWords b) 0
+  unfolding spansDiffer
+  spans-height = eqb-true _ _ (not-false _ (none .height))

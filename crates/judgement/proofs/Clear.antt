@@ -1,0 +1,55 @@
+-- What it means of a sheet that one refusal does not apply to it: the facts that the judge needs before the sheet is accepted.
+-- All that an accepted sheet ensures stands in `Accepted`.
+use Prim.Native.Nat.{ℕ, _%_, _<_, _≤_}
+use mathlib.Core.Bool.{Bool, true, false, not, _||_}
+use mathlib.Core.List.{List}
+use mathlib.Core.Path.{_≡_}
+use borrow.Author.Tests.{ltb-false, leb-false}
+use native.Mathlib.Omega.{arith}
+use lib.ListN.{length}
+use lib.Dec.{ltb, leb, eqb}
+use Rattle.indices.proofs.Tests.{any-at, or-left, or-right}
+use Rattle.sheet.specs.Limits.{mostBytes, mostNodes, mostSpans, mostArcs, mostRegionWords}
+use Rattle.sheet.specs.Words.{words, kind}
+use Rattle.sheet.specs.Sections.{nodeCount, spanCount, arcCount, regionWords}
+use Rattle.sheet.specs.Arcs.{tail, head, endOf}
+use Rattle.judgement.specs.Form.{wrongSize, wrongFront, outOfOrder, nodesOutside, tooMany}
+use Rattle.judgement.specs.Fields.{endOutside, endsOutside}
+
+module _ (b : List ℕ) where
+  -- 1. a sheet of the right size has few words
+  pub few-words : wrongSize b ≡ false → words b ≤ 8207
+  unfolding wrongSize
+  few-words ok = omega (arith, ltb-false mostBytes (length b) (or-right (not (eqb (length b % 4) 0)) (ltb mostBytes (length b)) ok))
+
+  -- 2. a sheet in order has its first two words
+  pub front-there : outOfOrder b ≡ false → 2 ≤ words b
+  unfolding outOfOrder
+  front-there ok =
+      ltb-false (words b) 2
+      (or-left (ltb (words b) 2) _ (or-left (ltb (words b) 2 || not (eqb (kind b 0) 1)) _ (or-left (wrongFront b) _ ok)))
+
+  -- 4. nodes
+  pub few-nodes : nodesOutside b ≡ false → nodeCount b ≤ mostNodes
+  unfolding nodesOutside
+  few-nodes ok = ltb-false mostNodes (nodeCount b) (or-right (ltb (nodeCount b) 1) _ ok)
+
+  -- 7. arcs and region words
+  pub few-arcs : tooMany b ≡ false → arcCount b ≤ mostArcs
+  unfolding tooMany
+  few-arcs ok =
+      ltb-false mostArcs (arcCount b)
+      (or-right (ltb mostSpans (spanCount b)) _ (or-left (ltb mostSpans (spanCount b) || ltb mostArcs (arcCount b)) _ ok))
+
+  pub few-region-words : tooMany b ≡ false → words (regionWords b) ≤ mostRegionWords
+  unfolding tooMany
+  few-region-words ok = ltb-false mostRegionWords (words (regionWords b)) (or-right (ltb mostSpans (spanCount b) || ltb mostArcs (arcCount b)) _ ok)
+
+  -- 8. both ends of an arc are nodes
+  pub end-in : endsOutside b ≡ false → (heads : Bool) (a : ℕ) → a < arcCount b → endOf heads b a < nodeCount b
+  unfolding endsOutside
+  end-in ok heads a l = at heads (any-at (endOutside b) (arcCount b) a ok l)
+    where
+      at : (h : Bool) → endOutside b a ≡ false → endOf h b a < nodeCount b
+      at true e = leb-false _ _ (or-right (leb (nodeCount b) (tail b a)) (leb (nodeCount b) (head b a)) e)
+      at false e = leb-false _ _ (or-left (leb (nodeCount b) (tail b a)) (leb (nodeCount b) (head b a)) e)

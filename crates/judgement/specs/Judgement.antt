@@ -1,0 +1,36 @@
+-- The judgement of a sheet: the refusals in the order in which they are looked at, and the lowest that applies. Definitions.
+use Prim.Native.Nat.{ℕ}
+use mathlib.Core.List.{List, [], _∷_, _++_}
+use mathlib.Core.Path.{_≡_}
+use Rattle.sheet.specs.Sections.{spanCount, arcCount, regionWords}
+use Rattle.answer.specs.Answer.{input, Answer, accepted, Case, _when_, lowest}
+use Rattle.judgement.specs.Form.{wrongSize, outOfOrder, bitSet, nodesOutside, sourceOutside, spansOutside, tooMany}
+use Rattle.judgement.specs.Fields.{endsOutside, lengthsOutside, tooManyAtNode}
+use Rattle.judgement.specs.Nesting.{wrongParents, wrongLeaves, childlessRegions, spansDiffer}
+
+-- "From the input", 1 to 14
+unfoldable pub formRefusals : List ℕ → List Case
+formRefusals b = input 1 when wrongSize b ∷ input 2 when outOfOrder b ∷ input 3 when bitSet b ∷ []
+
+unfoldable pub countRefusals : List ℕ → List Case
+countRefusals b =
+    input 4 when nodesOutside b ∷ input 5 when sourceOutside b ∷ input 6 when spansOutside b ∷ input 7 when tooMany b ∷ []
+
+unfoldable pub arcRefusals : List ℕ → List Case
+arcRefusals b = input 8 when endsOutside b ∷ input 9 when lengthsOutside b ∷ input 10 when tooManyAtNode b ∷ []
+
+-- of region words d, where the sheet has so many arcs and spans
+unfoldable pub divisionRefusals : List ℕ → ℕ → ℕ → List Case
+divisionRefusals d arcs spans =
+    input 11 when wrongParents d ∷ input 12 when wrongLeaves d arcs ∷ input 13 when childlessRegions d ∷ input 14 when spansDiffer d spans ∷ []
+
+unfoldable pub refusals : List ℕ → List Case
+refusals b = formRefusals b ++ (countRefusals b ++ (arcRefusals b ++ divisionRefusals (regionWords b) (arcCount b) (spanCount b)))
+
+-- what the judge answers
+unfoldable pub judgement : List ℕ → Answer
+judgement b = lowest (refusals b) accepted
+
+-- "A sheet is accepted when no refusal of the sheet itself (here 1 to 14) applies to it."
+abbrev pub Accepted : List ℕ → Type 0
+Accepted b = judgement b ≡ accepted

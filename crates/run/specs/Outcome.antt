@@ -1,0 +1,11 @@
+-- What a run of an accepted sheet gives. Definitions.
+use Prim.Native.Nat.{ℕ}
+use mathlib.Core.Bool.{Bool}
+use mathlib.Core.Path.{_≡_}
+use mathlib.Core.List.{List}
+use Rattle.calls.specs.Runs.{endedAfter, runTable}
+
+-- the table of the state after at most k rounds, and whether the run has ended
+pub record Outcome (b : List ℕ) (k : ℕ) (hasEnded : Bool) (table : List ℕ) : Type 0 where
+  pub status : hasEnded ≡ endedAfter b k
+  pub words : table ≡ runTable b k

@@ -1,0 +1,50 @@
+-- The regions' parents and rows while they are filled, from a sheet's region words d. Definitions.
+use Prim.Native.Nat.{ℕ, zero, suc, _*_, _≤_, _<_}
+use mathlib.Core.Path.{_≡_}
+use mathlib.Core.List.{List}
+use lib.ListN.{length}
+use Rattle.indices.specs.Steps.{if_then_else_}
+use Rattle.indices.specs.Columns.{at}
+use Rattle.sheet.specs.Limits.{mostRegionWords}
+use Rattle.sheet.specs.Words.{words}
+use Rattle.sheet.specs.Heights.{Nesting}
+use Rattle.sheet.specs.Regions.{regionCount, leafWord, arcWord, isLeaf, parent, height}
+use Rattle.run_arrays.specs.Tables.{noArc, arcEntry, heightEntry}
+
+-- few region words, which nest
+pub record Nested (d : List ℕ) : Type 0 where
+  pub few : words d ≤ mostRegionWords
+  pub nesting : Nesting (isLeaf d) (parent d) (regionCount d)
+
+-- each region's parent, but for region 0, which has none
+pub record ParentsEntered (d parents : List ℕ) : Type 0 where
+  pub all : length parents ≡ regionCount d
+  pub same : (r : ℕ) → 0 < r → r < regionCount d → at parents r ≡ parent d r
+
+-- a parent for each region of such words
+pub record ParentsLent (d parents : List ℕ) : Type 0 where
+  pub nested : Nested d
+  pub each-region : length parents ≡ regionCount d
+
+-- the arc in a region's row
+abbrev pub arcInRow : List ℕ → ℕ → ℕ
+arcInRow d zero = noArc
+arcInRow d (suc k) = if leafWord d k then arcWord d k else noArc
+
+-- the regions' rows before any height is known
+pub record ArcsEntered (d regionRows : List ℕ) : Type 0 where
+  pub all : length regionRows ≡ 2 * regionCount d
+  pub arcs : (r : ℕ) → r < regionCount d → arcEntry regionRows r ≡ arcInRow d r
+  pub zeros : (r : ℕ) → r < regionCount d → heightEntry regionRows r ≡ 0
+
+-- and with the heights
+pub record HeightsEntered (d regionRows : List ℕ) : Type 0 where
+  pub all : length regionRows ≡ 2 * regionCount d
+  pub arcs : (r : ℕ) → r < regionCount d → arcEntry regionRows r ≡ arcInRow d r
+  pub heights : (r : ℕ) → r < regionCount d → heightEntry regionRows r ≡ height d r
+
+-- what the heights are entered from
+pub record HeightsLent (d parents regionRows : List ℕ) : Type 0 where
+  pub nested : Nested d
+  pub parents-in : ParentsEntered d parents
+  pub arcs-in : ArcsEntered d regionRows

@@ -1,0 +1,2 @@
+pub mod ForDivision
+pub mod Trees

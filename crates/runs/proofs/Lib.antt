@@ -1,6 +1,0 @@
-pub mod Delivered
-pub mod Limited
-pub mod Halls
-pub mod Agree
-pub mod Finished
-pub mod Correct

@@ -1,0 +1,81 @@
+// The fields of an arc and of a region word.
+ghost use mathlib.Core.Path.{_≡_};
+ghost use Prim.Native.Nat.{_≤_, _<_};
+ghost use Rattle.sheet.specs.Words.{words, payload};
+ghost use Rattle.sheet.specs.Sections.{Located, arcCount};
+ghost use Rattle.sheet.specs.Arcs.{endsWord, arcLength, endOf};
+ghost use Rattle.sheet.specs.Regions.{leafWord, parentWord, arcWord, isLeaf};
+use crate::Arc;
+use crate::Node;
+use crate::Region;
+use crate::Sections;
+
+// The payload of the first word of an arc: its two ends.
+pub fn ends_at(s: &[u8], at: Sections, a: Arc) -> u32
+    requires { ⌜ Located (now s) at × (a .0 < arcCount (now s)) ⌝ }
+    ensures { λ r. ⌜ r ≡ payload (now (s .entry)) (endsWord (now (s .entry)) (a .0)) ⌝ }
+{
+    let i = a.0 as usize;
+    crate::payload_at(s, 2 + at.spans + 2 * i)
+}
+
+// One end of an arc: its head, or else its tail.
+pub fn end_at(s: &[u8], at: Sections, a: Arc, head: bool) -> Node
+    requires { ⌜ Located (now s) at × (a .0 < arcCount (now s)) ⌝ }
+    ensures { λ r. ⌜ (r .0 ≡ endOf head (now (s .entry)) (a .0)) × (r .0 < 1024) ⌝ }
+{
+    let ends = ends_at(s, at, a);
+    if head {
+        return Node((ends % 1024) as u16);
+    }
+    Node((ends / 1024 % 1024) as u16)
+}
+
+// The length of an arc.
+pub fn length_at(s: &[u8], at: Sections, a: Arc) -> u32
+    requires { ⌜ Located (now s) at × (a .0 < arcCount (now s)) ⌝ }
+    ensures { λ r. ⌜ r ≡ arcLength (now (s .entry)) (a .0) ⌝ }
+{
+    let i = a.0 as usize;
+    crate::payload_at(s, 2 + at.spans + 2 * i + 1)
+}
+
+// Whether word k of the region words is a leaf.
+pub fn leaf_word(d: &[u8], k: usize) -> bool
+    requires { ⌜ k < words (now d) ⌝ }
+    ensures { λ r. ⌜ r ≡ leafWord (now (d .entry)) k ⌝ }
+{
+    crate::kind_at(d, k) == 7
+}
+
+// The parent that word k of the region words names.
+pub fn parent_word(d: &[u8], k: usize) -> u32
+    requires { ⌜ k < words (now d) ⌝ }
+    ensures { λ r. ⌜ r ≡ parentWord (now (d .entry)) k ⌝ }
+{
+    let p = crate::payload_at(d, k);
+    if leaf_word(d, k) {
+        return p / 2048 % 4096;
+    }
+    p
+}
+
+// The arc that word k of the region words names, a leaf.
+pub fn arc_word(d: &[u8], k: usize) -> Arc
+    requires { ⌜ k < words (now d) ⌝ }
+    ensures { λ r. ⌜ (r .0 ≡ arcWord (now (d .entry)) k) × (r .0 < 2048) ⌝ }
+{
+    Arc((crate::payload_at(d, k) % 2048) as u16)
+}
+
+// Whether a region is a leaf: region 0 is none and has no word.
+pub fn is_leaf(d: &[u8], r: Region) -> bool
+    requires { ⌜ r .0 ≤ words (now d) ⌝ }
+    ensures { λ x. ⌜ x ≡ isLeaf (now (d .entry)) (r .0) ⌝ }
+{
+    let i = r.0 as usize;
+    if i == 0 {
+        return false;
+    }
+    leaf_word(d, i - 1)
+}

@@ -1,0 +1,12 @@
+// The length of an answer table.
+ghost use mathlib.Core.Path.{_≡_};
+ghost use Prim.Native.Nat.{_≤_};
+ghost use Rattle.calls.specs.Tables.{tableLength};
+
+// How many words the table of so many nodes has.
+pub fn table_length(nodes: usize) -> usize
+    requires { ⌜ nodes ≤ 1024 ⌝ }
+    ensures { λ r. ⌜ r ≡ tableLength nodes ⌝ }
+{
+    crate::words::HEADER + 2 * nodes
+}

@@ -1,0 +1,65 @@
+// The kinds of a lent table's words, and the arcs that its nodes name. The counts' payloads are not looked at.
+ghost use mathlib.Core.Path.{_≡_};
+ghost use Prim.Native.Nat.{_+_, _≤_, _<_};
+ghost use lib.ListN.{length};
+ghost use Rattle.indices.specs.Tests.{any};
+ghost use Rattle.calls.specs.Tables.{tableLength};
+ghost use Rattle.calls.specs.Routes.{wrongKind, wrongCount, wrongNode};
+use sheet::Node;
+
+// Whether the word at i is not of the kind.
+pub fn wrong_kind(table: &[u32], i: usize, kind: u32) -> bool
+    requires { ⌜ i < length (now table) ⌝ }
+    ensures { λ r. ⌜ r ≡ wrongKind (now (table .entry)) i kind ⌝ }
+{
+    sheet::kind_of(table[i]) != kind
+}
+
+// Whether a word of the counts is not of its kind.
+pub fn wrong_counts(table: &[u32]) -> bool
+    requires { ⌜ tableLength 0 ≤ length (now table) ⌝ }
+    ensures { λ r. ⌜ r ≡ any (wrongCount (now (table .entry))) 8 ⌝ }
+{
+    let mut i = 0;
+    while i < 8 {
+        if wrong_kind(table, 1 + i, 11) {
+            return true;
+        }
+        i += 1;
+    }
+    false
+}
+
+// Whether a node's words are not of their kinds, or its predecessor is neither one of so many arcs nor none.
+fn wrong_node(table: &[u32], arcs: u32, v: Node) -> bool
+    requires { ⌜ tableLength (v .0 + 1) ≤ length (now table) ⌝ }
+    ensures { λ r. ⌜ r ≡ wrongNode (now (table .entry)) arcs (v .0) ⌝ }
+{
+    let i = table::words::HEADER + 2 * (v.0 as usize);
+    if wrong_kind(table, i, 9) {
+        return true;
+    }
+    if wrong_kind(table, i + 1, 10) {
+        return true;
+    }
+    let a = table::read::predecessor_of(table, v);
+    if a < arcs {
+        return false;
+    }
+    a != table::read::NONE
+}
+
+// Whether a node's words are wrong.
+pub fn wrong_nodes(table: &[u32], nodes: u16, arcs: u32) -> bool
+    requires { ⌜ tableLength nodes ≤ length (now table) ⌝ }
+    ensures { λ r. ⌜ r ≡ any (wrongNode (now (table .entry)) arcs) nodes ⌝ }
+{
+    let mut v: u16 = 0;
+    while v < nodes {
+        if wrong_node(table, arcs, Node(v)) {
+            return true;
+        }
+        v += 1;
+    }
+    false
+}

@@ -1,0 +1,56 @@
+-- `feeds` meets its contract: the head is compared with the node, the tail's label with 'unreached', and then the sum with the node's label.
+use borrow.Author.Needs.{needs}
+use native.Mathlib.Omega.{arith}
+use Rattle.sheet.specs.Words.{top}
+use Rattle.judgement.proofs.Accepted.{tail-in, length-short}
+use Rattle.table_shortest.proofs.nodes.Checked.{feeds-elsewhere, feeds-unreached, feeds-compared}
+use Rattle.table_shortest.proofs.nodes.feeds.Statement.{statement}
+use Rattle.table_shortest.proofs.nodes.feeds.Tie as tie
+
+-- the arc's ends and the tail's label, as they are read
+abbrev entry : tie.After-end-at → tie.Start
+entry c = search needs
+
+abbrev headed : tie.After-label-of → tie.After-end-at
+headed c = search needs
+
+abbrev tailed : tie.After-label-of → tie.After-end-at2
+tailed c = search needs
+
+returns : tie.Need-returns
+returns c =
+    let head : tie.After-end-at = search needs in
+    feeds-elsewhere (entry head .pre .fitting) (entry head .pre .arc-in) (head .end-at .ensures .0) (c .if1 .taken)
+
+returns-2 : tie.Need-returns-2
+unfolding top
+returns-2 c =
+    let pre = entry (headed (c .before)) .pre in
+    let met : tie.Else1 = search needs in
+    feeds-unreached (pre .fitting) (pre .arc-in) (tailed (c .before) .end-at2 .ensures .0) (c .before .label-of .ensures)
+    (headed (c .before) .end-at .ensures .0) (met .if1 .left) (c .if2 .taken)
+
+returns-3 : tie.Need-returns-3
+unfolding top
+returns-3 c =
+    let label : tie.After-label-of = search needs in
+    let pre = entry (headed label) .pre in
+    let met : tie.Else1 = search needs in
+    let reached : tie.Else2 = search needs in
+    feeds-compared (pre .fitting) (pre .arc-in) (tailed label .end-at2 .ensures .0) (label .label-of .ensures) (reached .if2 .left)
+    (c .before .length-at .ensures) (pre .node-in) (headed label .end-at .ensures .0) (met .if1 .left) (c .label-of2 .ensures)
+
+pub feeds-spec : {M : Type 1} → statement M
+unfolding top
+feeds-spec =
+    tie.close
+    (tie.spec
+    (λ c κs. search needs)
+    returns
+    (λ c κs. search needs)
+    (λ c κs. let start : tie.Start = search needs in omega (arith, tail-in _ (start .pre .fitting .accepted) _ (start .pre .arc-in)))
+    returns-2
+    (λ c κs. search needs)
+    (λ c. let start : tie.Start = search needs in omega (arith, length-short _ (start .pre .fitting .accepted) _ (start .pre .arc-in)))
+    (λ c κs. search needs)
+    returns-3)

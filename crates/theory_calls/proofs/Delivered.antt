@@ -1,0 +1,102 @@
+-- Every table that a run of an accepted sheet leaves says what its rounds have reached, with small counts and labels, and where it is left as ended it is
+-- shortest; and the run to its end has ended.
+use Prim.Native.Nat.{ℕ, zero, suc, _^_, _≤_, _<_}
+use mathlib.Core.Bool.{Bool, true, false}
+use mathlib.Core.Path.{_≡_, refl, sym, _∙_}
+use mathlib.Core.Logic.{_⊎_}
+use mathlib.Core.List.{List}
+use native.Mathlib.Omega.{arith}
+use lib.ListN.{length}
+use Rattle.indices.specs.Columns.{at}
+use Rattle.indices.specs.Steps.{if_then_else_}
+use Rattle.sheet.specs.Limits.{mostArcsEachWay}
+use Rattle.sheet.specs.Words.{top}
+use Rattle.sheet.specs.Sections.{nodeCount}
+use Rattle.judgement.specs.Judgement.{Accepted}
+use Rattle.procedure.specs.OfSheet.{graphOf, divisionOf, spansOf}
+use Rattle.procedure.specs.State.{counts}
+use Rattle.procedure.specs.Procedure.{enoughRounds, final}
+use Rattle.procedure.specs.Table.{largestLabel}
+use Rattle.procedure.specs.WellFormed.{WellFormed}
+use Rattle.procedure.proofs.OfSheet.{graph-nodes}
+use Rattle.procedure.proofs.WellFormed.{accepted-well-formed}
+use Rattle.theory.proofs.Final.{after-shape, label-fits, label-word, predecessor-word, final-ended}
+use Rattle.theory.proofs.Distances.{ended-shortest, counts-fit}
+use Rattle.calls.specs.Tables.{statusIn, countIn, labelIn, labelsIn, predecessorsIn}
+use Rattle.calls.specs.Runs.{stateAfter, endedAfter, runTable, Delivered}
+use Rattle.calls.proofs.Reading.{status-in, count-in, label-in, labels-in, predecessors-in}
+
+-- a status of 1 is 'ended'
+status-ended : (b : Bool) → _≡_ {A = ℕ} (if b then 1 else 0) 1 → b ≡ true
+status-ended true e = refl
+status-ended false e = absurd (omega arith)
+
+module _ (b : List ℕ) (ok : Accepted b) where
+  pub well : WellFormed mostArcsEachWay (graphOf b) (divisionOf b) (spansOf b)
+  well = accepted-well-formed b ok
+
+  pub few : mostArcsEachWay ≤ 4
+  few = omega arith
+
+  module _ (k : ℕ) where
+    -- a label and a predecessor for each node, each of 28 bits
+    pub labels-all : length (stateAfter b k .labels) ≡ nodeCount b
+    labels-all = after-shape well k .labelled ∙ graph-nodes b
+
+    pub predecessors-all : length (stateAfter b k .predecessors) ≡ nodeCount b
+    predecessors-all = after-shape well k .fed ∙ graph-nodes b
+
+    pub label-small : (v : ℕ) → v < nodeCount b → at (stateAfter b k .labels) v < 268435456
+    label-small v l = label-word well k v (rw (graph-nodes b) l)
+
+    pub predecessor-small : (v : ℕ) → v < nodeCount b → at (stateAfter b k .predecessors) v < 268435456
+    predecessor-small v l = predecessor-word well k v (rw (graph-nodes b) l)
+
+    -- demand 3: every count is below 2^56
+    pub counts-small : (i : ℕ) → i < 4 → at (counts (stateAfter b k)) i < 2 ^ 56
+    counts-small zero l = counts-fit well few k .0
+    counts-small (suc zero) l = counts-fit well few k .1
+    counts-small (suc (suc zero)) l = counts-fit well few k .2
+    counts-small (suc (suc (suc zero))) l = counts-fit well few k .3
+    counts-small (suc (suc (suc (suc i)))) l = absurd (omega arith)
+
+    -- what is read out of the table is the state after at most k rounds
+    pub table-status : statusIn (runTable b k) ≡ (if endedAfter b k then 1 else 0)
+    unfolding runTable
+    table-status = status-in (endedAfter b k) (stateAfter b k) (nodeCount b)
+
+    table-ended : statusIn (runTable b k) ≡ 1 → endedAfter b k ≡ true
+    table-ended e = status-ended (endedAfter b k) (sym table-status ∙ e)
+
+    table-counts : (i : ℕ) → i < 4 → countIn (runTable b k) i ≡ at (counts (stateAfter b k)) i
+    unfolding runTable
+    table-counts i l = count-in (endedAfter b k) (stateAfter b k) (nodeCount b) i l (counts-small i l)
+
+    pub table-labels : labelsIn (nodeCount b) (runTable b k) ≡ stateAfter b k .labels
+    unfolding runTable
+    table-labels = labels-in (endedAfter b k) (stateAfter b k) (nodeCount b) labels-all label-small
+
+    pub table-predecessors : predecessorsIn (nodeCount b) (runTable b k) ≡ stateAfter b k .predecessors
+    unfolding runTable
+    table-predecessors = predecessors-in (endedAfter b k) (stateAfter b k) (nodeCount b) predecessors-all predecessor-small
+
+    table-bounded : (v : ℕ) → v < nodeCount b → (labelIn (runTable b k) v ≡ top) ⊎ (labelIn (runTable b k) v ≤ largestLabel)
+    unfolding runTable
+    table-bounded v l =
+        rw (label-in (endedAfter b k) (stateAfter b k) (nodeCount b) v l (label-small v l) .1) (label-fits well k v (rw (graph-nodes b) l))
+
+    pub delivered : Delivered b k (runTable b k)
+    delivered = record {
+      status = table-status;
+      halves = table-counts;
+      labels = table-labels;
+      predecessors = table-predecessors;
+      small = counts-small;
+      bounded = table-bounded;
+      shortest = λ e. rw (table-labels, table-predecessors) (ended-shortest well k (table-ended e));
+    }
+
+  -- the run to its end has ended
+  pub run-ends : endedAfter b enoughRounds ≡ true
+  unfolding final
+  run-ends = final-ended well few

@@ -1,0 +1,164 @@
+-- The marked cases of the paper as a table, computed from the definitions: a call, what it answers, and what is then in what was lent or is printed.
+use Prim.Native.Nat.{ℕ}
+use mathlib.Core.List.{List, [], _∷_, _++_, map}
+use mathlib.Core.Path.{_≡_, refl}
+use lib.ListN.{replicate}
+use Rattle.indices.specs.Columns.{column}
+use Rattle.indices.specs.Steps.{upTo, times}
+use Rattle.indices.specs.Tests.{all, any, count, lead, most}
+use Rattle.sheet.specs.Words.{word, kind, payload, top}
+use Rattle.sheet.specs.Sections.{spansFrom, arcsFrom, regionWords}
+use Rattle.sheet.specs.Arcs.{tail, head, arcLength}
+use Rattle.sheet.specs.Heights.{heightIn, heightOf}
+use Rattle.sheet.specs.Regions.{leafWord, parentWord, arcWord}
+use Rattle.sheet.specs.Samples.{bytesOf, mostOfHallA, hallA, oneNode}
+use Rattle.answer.specs.Answer.{input, state, Answer, accepted, ended, paused, route, refused}
+use Rattle.judgement.specs.Form.{wrongSize, outOfOrder, bitSet, nodesOutside, sourceOutside, spansOutside, tooMany}
+use Rattle.judgement.specs.Fields.{endsOutside, lengthsOutside, crowdedNodes, tooManyAtNode}
+use Rattle.judgement.specs.Nesting.{wrongParents, wrongLeaves, childlessRegions, spansDiffer}
+use Rattle.judgement.specs.Judgement.{formRefusals, countRefusals, arcRefusals, divisionRefusals, refusals, judgement}
+use Rattle.procedure.specs.Division.{leafOf}
+use Rattle.procedure.specs.OfSheet.{graphOf, divisionOf, spansOf}
+use Rattle.procedure.specs.Queues.{before, choose, minItemBelow, minItem, minKey, write, updateFor, update, updateArc, updateOutgoing}
+use Rattle.procedure.specs.Procedure.{relax, clearKey, processLeaf, rewriteKey, countInner, countRound, processChild, alive, ended as hasEnded}
+use Rattle.procedure.specs.Procedure.{enoughRounds, processFor, process, start, round, after}
+use Rattle.procedure.specs.Table.{nodeWords, tableOf}
+use Rattle.procedure.specs.Routes.{followed}
+use Rattle.theory_shortest.specs.TableTest.{leadsBack, sourceTest, unfedTest, fedTest, relaxedTest, ledTest, settled?}
+use Rattle.calls.specs.Tables.{tableLength, wrongLength, labelsIn, predecessorsIn}
+use Rattle.calls.specs.Runs.{runRefusals, runAnswer, runTable, tableAfter}
+use Rattle.calls.specs.Routes.{nodeOutside, wrongNode, isPaused, malformed, notShortest, tableRefusals, routeRefusals, routeTo, foundRoute}
+use Rattle.calls.specs.Routes.{routeAnswer, leftBy, bufferAfter}
+use Rattle.listing.specs.Text.{ascii, lastDigits, decimal}
+use Rattle.listing.specs.Fields.{field, spaced}
+use Rattle.listing.specs.StatusLine.{status, counted, statusLine}
+use Rattle.listing.specs.NodeLines.{nodeLine, nodeLines}
+use Rattle.listing.specs.Listing.{listingOf, refusedLine}
+use Rattle.listing.specs.Printed.{printed}
+
+-- a call: to judge a sheet, given by its words; to run it for at most so many rounds, with a table lent; to read the route to a node out of a table, with
+-- a buffer lent; and what `marks` does, to run a sheet to its end and print
+pub data Call : Type 0 where
+  judge : List ℕ → Call
+  run : List ℕ → ℕ → List ℕ → Call
+  readRoute : List ℕ → List ℕ → ℕ → List ℕ → Call
+  print : List ℕ → Call
+
+-- what comes of it: the answer, and the words of what was lent, or the bytes printed
+record Outcome : Type 0 where
+  answer : Answer
+  words : List ℕ
+
+abbrev outcome : Call → Outcome
+outcome (judge ws) = record { answer = judgement (bytesOf ws); words = [] }
+outcome (run ws k table) = record { answer = runAnswer (bytesOf ws) k table; words = tableAfter (bytesOf ws) k table }
+outcome (print ws) = record { answer = judgement (bytesOf ws); words = printed (bytesOf ws) }
+outcome (readRoute ws table node buffer) =
+    record { answer = routeAnswer (bytesOf ws) table node buffer; words = bufferAfter (bytesOf ws) table node buffer }
+
+record Row : Type 0 where
+  call : Call
+  expected : Outcome
+
+infix 70 _is_ _is_leaving_
+abbrev _is_ : Call → Answer → Row
+c is a = record { call = c; expected = record { answer = a; words = [] } }
+
+abbrev _is_leaving_ : Call → Answer → List ℕ → Row
+c is a leaving ws = record { call = c; expected = record { answer = a; words = ws } }
+
+-- a sheet whose first word is the given one; one node with an arc to itself whose second word is the given one; the one-node hall without its third word
+abbrev startingWith : ℕ → List ℕ
+startingWith nodeWord = nodeWord ∷ 0x20000000 ∷ 0x30000001 ∷ []
+
+abbrev selfArc : ℕ → List ℕ
+selfArc lengthWord = 0x10000001 ∷ 0x20000000 ∷ 0x30000001 ∷ 0x40000000 ∷ lengthWord ∷ 0x70000000 ∷ []
+
+abbrev spanless : List ℕ
+spanless = 0x10000001 ∷ 0x20000000 ∷ []
+
+-- a table for n nodes, not yet written
+abbrev blank : ℕ → List ℕ
+blank n = replicate (tableLength n) 0
+
+-- A's finished table, node 3 labelled as said
+abbrev finishedA : ℕ → List ℕ
+finishedA label =
+    0x80000001 ∷ 0xb0000000 ∷ 0xb0000003 ∷ 0xb0000000 ∷ 0xb0000005 ∷ 0xb0000000 ∷ 0xb0000006 ∷ 0xb0000000 ∷ 0xb000000d
+    ∷ 0x90000000 ∷ 0xafffffff ∷ 0x90000003 ∷ 0xa0000002 ∷ 0x90000001 ∷ 0xa0000001 ∷ label ∷ 0xa0000003 ∷ []
+
+-- nodes 1 and 2 joined by zero arcs both ways; and each fed from the other, at 7
+abbrev cutOff : List ℕ
+cutOff =
+    0x10000003 ∷ 0x20000000 ∷ 0x30000001 ∷ 0x40000402 ∷ 0x50000000 ∷ 0x40000801 ∷ 0x50000000 ∷ 0x70000000 ∷ 0x70000001 ∷ []
+
+abbrev ring : List ℕ
+ring =
+    0x80000001 ∷ 0xb0000000 ∷ 0xb0000000 ∷ 0xb0000000 ∷ 0xb0000000 ∷ 0xb0000000 ∷ 0xb0000000 ∷ 0xb0000000 ∷ 0xb0000000
+    ∷ 0x90000000 ∷ 0xafffffff ∷ 0x90000007 ∷ 0xa0000001 ∷ 0x90000007 ∷ 0xa0000000 ∷ []
+
+abbrev rows : List Row
+rows =
+    -- hall A, and the one-node hall
+    judge hallA is accepted
+    ∷ judge oneNode is accepted
+    -- "A to its end, as printed."
+    ∷ run hallA enoughRounds (blank 4) is ended leaving finishedA 0x90000008
+    ∷ print hallA is accepted leaving (
+    ascii "ended rounds 3 leaves 5 inner 6 updates 13\n"
+    ++ ascii "0 0 -\n"
+    ++ ascii "1 3 2\n"
+    ++ ascii "2 1 1\n"
+    ++ ascii "3 8 3\n"
+    )
+    -- "A, k = 1: paused; counts 1, 2, 2, 8; labels 0, 4, unreached, 9."
+    ∷ run hallA 1 (blank 4) is paused leaving (
+    0x80000000 ∷ 0xb0000000 ∷ 0xb0000001 ∷ 0xb0000000 ∷ 0xb0000002 ∷ 0xb0000000 ∷ 0xb0000002 ∷ 0xb0000000 ∷ 0xb0000008
+    ∷ 0x90000000 ∷ 0xafffffff ∷ 0x90000004 ∷ 0xa0000000 ∷ 0x9fffffff ∷ 0xafffffff ∷ 0x90000009 ∷ 0xa0000003 ∷ []
+    )
+    -- "A, k = 0: paused; counts 0, 0, 0, 6; only node 0 labelled."
+    ∷ run hallA 0 (blank 4) is paused leaving (
+    0x80000000 ∷ 0xb0000000 ∷ 0xb0000000 ∷ 0xb0000000 ∷ 0xb0000000 ∷ 0xb0000000 ∷ 0xb0000000 ∷ 0xb0000000 ∷ 0xb0000006
+    ∷ 0x90000000 ∷ 0xafffffff ∷ 0x9fffffff ∷ 0xafffffff ∷ 0x9fffffff ∷ 0xafffffff ∷ 0x9fffffff ∷ 0xafffffff ∷ []
+    )
+    -- "`10000001 20000000 30000001`: ended, all counts 0."
+    ∷ run oneNode enoughRounds (blank 1) is ended leaving (
+    0x80000001 ∷ 0xb0000000 ∷ 0xb0000000 ∷ 0xb0000000 ∷ 0xb0000000 ∷ 0xb0000000 ∷ 0xb0000000 ∷ 0xb0000000 ∷ 0xb0000000
+    ∷ 0x90000000 ∷ 0xafffffff ∷ []
+    )
+    -- "Without its third word: 14."
+    ∷ judge spanless is refused (input 14)
+    ∷ run spanless enoughRounds (replicate (tableLength 1) 7) is refused (input 14) leaving replicate (tableLength 1) 7
+    ∷ print spanless is refused (input 14) leaving ascii "refused 14\n"
+    -- "Node count 0: 4. 1,024 keeps the limit, 1,025: 4."
+    ∷ judge (startingWith 0x10000000) is refused (input 4)
+    ∷ judge (startingWith 0x10000400) is accepted
+    ∷ judge (startingWith 0x10000401) is refused (input 4)
+    -- "Length 262,144: 9. 262,143 keeps the limit."
+    ∷ judge (selfArc 0x50040000) is refused (input 9)
+    ∷ judge (selfArc 0x5003ffff) is accepted
+    -- "A with last word `70001001`: 12." "A with `60000000` added: 13."
+    ∷ judge (mostOfHallA ++ (0x70001001 ∷ [])) is refused (input 12)
+    ∷ judge (hallA ++ (0x60000000 ∷ [])) is refused (input 13)
+    -- "Route to node 3 in A: arcs 1, 2, 3." The rest of the buffer stays. "Into two words: 25."
+    ∷ readRoute hallA (finishedA 0x90000008) 3 (0 ∷ 0 ∷ 0 ∷ 7 ∷ []) is route 3 leaving (1 ∷ 2 ∷ 3 ∷ 7 ∷ [])
+    ∷ readRoute hallA (finishedA 0x90000008) 3 (0 ∷ 7 ∷ []) is refused (state 25) leaving (0 ∷ 7 ∷ [])
+    -- "A's finished table with node 3 at 9: 24."
+    ∷ readRoute hallA (finishedA 0x90000009) 3 (0 ∷ 0 ∷ 7 ∷ []) is refused (state 24) leaving (0 ∷ 0 ∷ 7 ∷ [])
+    -- NOT MARKED in the paper, which lists these two with the marked ones
+    -- "Nodes 1 and 2 joined by zero arcs both ways, cut off from the source, in a table that feeds each from the other at 7: 24."
+    ∷ readRoute cutOff ring 1 (0 ∷ 7 ∷ []) is refused (state 24) leaving (0 ∷ 7 ∷ [])
+    -- "Span 0: 6."
+    ∷ judge (0x10000001 ∷ 0x20000000 ∷ 0x30000000 ∷ []) is refused (input 6)
+    ∷ []
+
+pub marked : map (λ row. outcome (row .call)) rows ≡ map (λ row. row .expected) rows
+unfolding any count lead most upTo times column word kind payload top spansFrom arcsFrom regionWords tail head arcLength heightIn heightOf leafWord
+    parentWord arcWord judgement refusals formRefusals countRefusals arcRefusals divisionRefusals wrongSize outOfOrder bitSet nodesOutside sourceOutside
+    spansOutside tooMany endsOutside lengthsOutside crowdedNodes tooManyAtNode wrongParents wrongLeaves childlessRegions spansDiffer leafOf graphOf
+    divisionOf spansOf before choose minItemBelow minItem minKey write updateFor update updateArc updateOutgoing relax clearKey processLeaf rewriteKey
+    countInner countRound processChild alive hasEnded processFor process start round after nodeWords tableOf wrongLength runRefusals runAnswer runTable
+    tableAfter all labelsIn predecessorsIn followed leadsBack sourceTest unfedTest fedTest relaxedTest ledTest settled? nodeOutside wrongNode isPaused
+    malformed notShortest tableRefusals routeRefusals routeTo foundRoute routeAnswer leftBy bufferAfter
+    lastDigits decimal field spaced status counted statusLine nodeLine nodeLines listingOf refusedLine printed
+marked = refl

@@ -1,0 +1,136 @@
+-- The test of labels and predecessors passes just where they are shortest: it says, test by test, that they form a tight tree.
+use Prim.Native.Nat.{ℕ, pred, _+_, _≤_, _<_}
+use native.Mathlib.Omega.{arith}
+use mathlib.Core.Bool.{true, not, _&&_}
+use mathlib.Core.Path.{_≡_, ap}
+use mathlib.Core.Logic.{_≢_}
+use mathlib.Core.List.{List}
+use lib.Dec.{ltb, eqb}
+use borrow.Author.Tests.{ltb-true, lt-ltb, leb-true, le-leb, eqb-true, eq-eqb, ne-eqb, eqb-false, not-true, not-false}
+use Rattle.indices.specs.Columns.{at}
+use Rattle.indices.specs.Tests.{all}
+use Rattle.indices.proofs.Tests.{and-left, and-right, and-both, or-then, or-if, all-at, all-true}
+use Rattle.sheet.specs.Words.{top}
+use Rattle.procedure.specs.Graph.{Graph, arcs, tail, head, len}
+use Rattle.procedure.specs.WellFormed.{GraphOk}
+use Rattle.procedure.specs.Routes.{Shortest}
+use Rattle.theory_shortest.specs.TableTest.{sourceTest, unfedTest, fedTest, relaxedTest, ledTest, settled?}
+use Rattle.theory_shortest.proofs.Depth.{Depth, depth-below}
+use Rattle.theory_shortest.proofs.LeadsBack.{depth-leads, leads-depth}
+use Rattle.theory_shortest.proofs.TightTree.{Fed, TightTree, tree-shortest, shortest-tree}
+
+-- each of the tests passes
+record Passes (g : Graph) (labels predecessors : List ℕ) : Type 0 where
+  of-source : sourceTest g labels predecessors ≡ true
+  of-unfed : (v : ℕ) → v < g .nodes → unfedTest g labels predecessors v ≡ true
+  of-fed : (v : ℕ) → v < g .nodes → fedTest g labels predecessors v ≡ true
+  of-relaxed : (a : ℕ) → a < arcs g → relaxedTest g labels predecessors a ≡ true
+  of-led : (v : ℕ) → v < g .nodes → ledTest g labels predecessors v ≡ true
+
+module _ (g : Graph) (labels predecessors : List ℕ) where
+  apart : settled? g labels predecessors ≡ true → Passes g labels predecessors
+  unfolding settled?
+  apart t =
+      let source = sourceTest g labels predecessors in
+      let fed = all (fedTest g labels predecessors) (g .nodes) in
+      let relaxed = all (relaxedTest g labels predecessors) (arcs g) in
+      let first = and-left (source && all (unfedTest g labels predecessors) (g .nodes)) _ t in
+      let rest = and-right (source && all (unfedTest g labels predecessors) (g .nodes)) _ t in
+      let second = and-left (fed && relaxed) _ rest in
+      record {
+        of-source = and-left source _ first;
+        of-unfed = λ v l. all-at _ (g .nodes) v (and-right source _ first) l;
+        of-fed = λ v l. all-at _ (g .nodes) v (and-left fed _ second) l;
+        of-relaxed = λ a l. all-at _ (arcs g) a (and-right fed _ second) l;
+        of-led = λ v l. all-at _ (g .nodes) v (and-right (fed && relaxed) _ rest) l;
+      }
+
+  together : Passes g labels predecessors → settled? g labels predecessors ≡ true
+  unfolding settled?
+  together p =
+      let fed = all-true _ (g .nodes) (p .of-fed) in
+      let relaxed = all-true _ (arcs g) (p .of-relaxed) in
+      let led = all-true _ (g .nodes) (p .of-led) in
+      and-both _ _ (and-both _ _ (p .of-source) (all-true _ (g .nodes) (p .of-unfed))) (and-both _ _ (and-both _ _ fed relaxed) led)
+
+-- a reached node other than the source that passes its test is fed
+pub fed-passes : (g : Graph) (labels predecessors : List ℕ) (v : ℕ) → fedTest g labels predecessors v ≡ true
+    → at labels v ≢ top → v ≢ g .source → Fed g labels predecessors v
+unfolding fedTest
+fed-passes g labels predecessors v t r n =
+    let a = at predecessors v in
+    let arrives = ltb a (arcs g) && eqb (head g a) v in
+    let reached = not (eqb (at labels (tail g a)) top) in
+    let fits : arrives && (reached && eqb (at labels (tail g a) + len g a) (at labels v)) ≡ true =
+    or-then (eqb v (g .source)) _ (or-then (eqb (at labels v) top) _ t (ne-eqb (at labels v) top r)) (ne-eqb v (g .source) n) in
+    let first = and-left arrives _ fits in
+    let second = and-right arrives _ fits in
+    record {
+      is-arc = ltb-true a (arcs g) (and-left (ltb a (arcs g)) (eqb (head g a) v) first);
+      to-node = eqb-true (head g a) v (and-right (ltb a (arcs g)) (eqb (head g a) v) first);
+      from-reached = eqb-false (at labels (tail g a)) top (not-true _ (and-left reached _ second));
+      tight = eqb-true _ _ (and-right reached _ second);
+    }
+
+module _ {most : ℕ} (g : Graph) (ok : GraphOk most g) (labels predecessors : List ℕ) where
+  -- the tests pass: a tight tree
+  module _ (p : Passes g labels predecessors) where
+    source-fits : (at labels (g .source) ≡ 0) × (at predecessors (g .source) ≡ top)
+    unfolding sourceTest
+    source-fits =
+        let zeroed = eqb (at labels (g .source)) 0 in
+        (eqb-true _ _ (and-left zeroed _ (p .of-source)), eqb-true _ _ (and-right zeroed _ (p .of-source)))
+
+    node-unfed : (v : ℕ) → v < g .nodes → at labels v ≡ top → at predecessors v ≡ top
+    unfolding unfedTest
+    node-unfed v l e = eqb-true _ _ (or-then (not (eqb (at labels v) top)) _ (p .of-unfed v l) (ap not (eq-eqb (at labels v) top e)))
+
+    node-fed : (v : ℕ) → v < g .nodes → at labels v ≢ top → v ≢ g .source → Fed g labels predecessors v
+    node-fed v l = fed-passes g labels predecessors v (p .of-fed v l)
+
+    arc-relaxed : (a : ℕ) → a < arcs g → at labels (tail g a) ≢ top → at labels (head g a) ≤ at labels (tail g a) + len g a
+    unfolding relaxedTest
+    arc-relaxed a la r = leb-true _ _ (or-then (eqb (at labels (tail g a)) top) _ (p .of-relaxed a la) (ne-eqb (at labels (tail g a)) top r))
+
+    node-depth : (v : ℕ) → v < g .nodes → at labels v ≢ top → (d : ℕ) × Depth g predecessors v d
+    unfolding ledTest
+    node-depth v l r =
+        leads-depth g predecessors (λ u. (u < g .nodes) × (at labels u ≢ top)) (λ u q. q .0)
+        (λ u q n. let f = node-fed u (q .0) (q .1) n in (ok .tail-in (at predecessors u) (f .is-arc), f .from-reached)) (pred (g .nodes)) v (l, r)
+        (or-then (eqb (at labels v) top) _ (p .of-led v l) (ne-eqb (at labels v) top r))
+
+    passes-tree : TightTree g labels predecessors
+    passes-tree = record {
+      source-label = source-fits .0;
+      source-unfed = source-fits .1;
+      unfed = node-unfed;
+      fed = node-fed;
+      relaxed = arc-relaxed;
+      led = node-depth;
+    }
+
+  -- a tight tree: the tests pass
+  tree-passes : TightTree g labels predecessors → Passes g labels predecessors
+  unfolding sourceTest unfedTest fedTest relaxedTest ledTest
+  tree-passes t = record {
+    of-source = and-both _ _ (eq-eqb _ _ (t .source-label)) (eq-eqb _ _ (t .source-unfed));
+    of-unfed = λ v l. or-if (not (eqb (at labels v) top)) _ (λ e. eq-eqb _ _ (t .unfed v l (eqb-true _ _ (not-false _ e))));
+    of-fed = λ v l. or-if (eqb (at labels v) top) _ (λ r. or-if (eqb v (g .source)) _ (λ n.
+        let f = t .fed v l (eqb-false (at labels v) top r) (eqb-false v (g .source) n) in
+        let reached = ap not (ne-eqb _ top (f .from-reached)) in
+        and-both _ _ (and-both _ _ (lt-ltb _ _ (f .is-arc)) (eq-eqb _ _ (f .to-node))) (and-both _ _ reached (eq-eqb _ _ (f .tight)))));
+    of-relaxed = λ a la. or-if (eqb (at labels (tail g a)) top) _ (λ r. le-leb _ _ (t .relaxed a la (eqb-false _ top r)));
+    of-led = λ v l. or-if (eqb (at labels v) top) _ (λ r.
+        let q = t .led v l (eqb-false (at labels v) top r) in
+        depth-leads g predecessors (pred (g .nodes)) (q .1) (omega (arith, depth-below g predecessors (q .1))));
+  }
+
+-- The test passes: the table is shortest.
+pub test-shortest : {most : ℕ} (g : Graph) → GraphOk most g → (labels predecessors : List ℕ) → settled? g labels predecessors ≡ true
+    → Shortest g labels predecessors
+test-shortest g ok labels predecessors t = tree-shortest g ok labels predecessors (passes-tree g ok labels predecessors (apart g labels predecessors t))
+
+-- The table is shortest: the test passes.
+pub shortest-test : {most : ℕ} (g : Graph) → GraphOk most g → (labels predecessors : List ℕ) → Shortest g labels predecessors
+    → settled? g labels predecessors ≡ true
+shortest-test g ok labels predecessors s = together g labels predecessors (tree-passes g ok labels predecessors (shortest-tree g ok labels predecessors s))
