@@ -1,12 +1,12 @@
 -- The lowest refusal that applies: lists of cases one after the other, a list of which none applies, and the number of one that applies.
 use Prim.Native.Nat.{ℕ, zero, suc}
-use mathlib.Core.Bool.{false, cond}
+use mathlib.Core.Bool.{Bool, false, cond}
 use mathlib.Core.List.{List, [], _∷_, _++_}
 use mathlib.Core.Path.{_≡_, refl, sym, ap, _∙_}
 use native.Mathlib.Omega.{arith}
-use lib.ListN.{getD}
+use lib.Dec.{eqb}
 use Rattle.indices.proofs.Steps.{by-truth}
-use Rattle.answer.specs.Answer.{Refusal, input, Answer, accepted, refused, Case, _when_, lowest, numbered}
+use Rattle.answer.specs.Answer.{Refusal, input, numberOf, Answer, accepted, refused, Case, lowest, numbered}
 
 -- the cases of the second list are looked at where none of the first applies
 pub lowest-append : (xs ys : List Case) (answer : Answer) → lowest (xs ++ ys) answer ≡ lowest xs (lowest ys answer)
@@ -36,8 +36,15 @@ a-refusal (suc n) ne = refl
 pub stage-stops : (xs : List Case) (answer : Answer) (n : ℕ) → (n ≡ 0 → ⊥) → numbered n ≡ lowest xs accepted → numbered n ≡ lowest xs answer
 stage-stops xs answer n ne e = a-refusal n ne ∙ sym (lowest-stop xs answer (input n) (sym e ∙ a-refusal n ne))
 
--- of a list that refuses nothing, the case at place i does not apply; at a written list and place its test is what it computes to
-pub clear-at : (xs : List Case) → lowest xs accepted ≡ accepted → (i : ℕ) → getD xs i (input 0 when false) .applies ≡ false
-clear-at [] e i = refl
-clear-at (x ∷ xs) e zero = by-truth (x .applies) (λ h. absurd (refused≢accepted (x .refusal) (rw h at e))) (λ h. h)
-clear-at (x ∷ xs) e (suc i) = by-truth (x .applies) (λ h. absurd (refused≢accepted (x .refusal) (rw h at e))) (λ h. clear-at xs (rw h at e) i)
+-- the test of refusal n in a list, or false where the list has no such number
+abbrev pub testOf : List Case → ℕ → Bool
+testOf [] n = false
+testOf (x ∷ xs) n = cond (eqb (numberOf (x .refusal)) n) (x .applies) (testOf xs n)
+
+-- of a list that refuses nothing, refusal n does not apply; at a written list and number its test is what it computes to
+pub clear-of : (xs : List Case) → lowest xs accepted ≡ accepted → (n : ℕ) → testOf xs n ≡ false
+clear-of [] e n = refl
+clear-of (x ∷ xs) e n =
+    by-truth (x .applies)
+    (λ h. absurd (refused≢accepted (x .refusal) (rw h at e)))
+    (λ h. by-truth (eqb (numberOf (x .refusal)) n) (λ this. rw this h) (λ other. rw other (clear-of xs (rw h at e) n)))

@@ -1,5 +1,6 @@
 -- The number by which the library for C and Rust gives an answer. Definitions.
 use Prim.Native.Nat.{ℕ, _+_, _-_}
+use mathlib.Core.Bool.{Bool, _||_}
 use lib.Dec.{ltb, eqb}
 use Rattle.indices.specs.Steps.{if_then_else_}
 use Rattle.answer.specs.Answer.{input, state, numberOf, Answer, accepted, ended, paused, route, noRoute, refused}
@@ -13,11 +14,14 @@ codeOf noRoute = 259
 codeOf (route arcs) = 65536 + arcs
 codeOf (refused refusal) = numberOf refusal
 
+-- the numbers under "From the state"; all others stand under "From the input"
+abbrev pub fromState : ℕ → Bool
+fromState n = eqb n 21 || eqb n 22 || eqb n 23 || eqb n 24 || eqb n 25
+
 -- a code read back: every answer of a call is the one that its code says (`judge-told`, `run-told` and `route-told` in crates/pigrozk/proofs/Told.antt)
 unfoldable pub answerOf : ℕ → Answer
 answerOf code =
-    if ltb code 16 then refused (input code)
-    else if ltb code 100 then refused (state code)
+    if ltb code 100 then refused (if fromState code then state code else input code)
     else if eqb code 256 then accepted
     else if eqb code 257 then paused
     else if eqb code 258 then ended

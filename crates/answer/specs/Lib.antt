@@ -1,5 +1,3 @@
 pub mod Answer
-pub mod JudgeSaid
-pub mod RunSaid
-pub mod RouteSaid
+pub mod Said
 pub mod Codes

@@ -1,10 +1,8 @@
 // The number by which the library for C and Rust gives an answer.
 ghost use mathlib.Core.Path.{_≡_};
-ghost use Prim.Native.Nat.{_<_};
+ghost use Prim.Native.Nat.{_^_, _<_};
 ghost use Rattle.answer.specs.Answer.{numberOf, refusalOf};
-ghost use Rattle.answer.specs.JudgeSaid.{said as saidByJudge};
-ghost use Rattle.answer.specs.RunSaid.{said as saidByRun};
-ghost use Rattle.answer.specs.RouteSaid.{said as saidByRoute};
+ghost use Rattle.answer.specs.Said.{judgeSaid, runSaid, routeSaid};
 ghost use Rattle.answer.specs.Codes.{codeOf, arcsOf};
 use crate::Fault;
 use crate::judged::Judged;
@@ -33,7 +31,7 @@ pub fn number_of(fault: Fault) -> u8
 }
 
 pub fn judged_code(judged: Judged) -> u32
-    ensures { λ r. ⌜ r ≡ codeOf (saidByJudge judged) ⌝ }
+    ensures { λ r. ⌜ r ≡ codeOf (judgeSaid judged) ⌝ }
 {
     match judged {
         Judged::Accepted => ACCEPTED,
@@ -42,7 +40,7 @@ pub fn judged_code(judged: Judged) -> u32
 }
 
 pub fn ran_code(ran: Ran) -> u32
-    ensures { λ r. ⌜ r ≡ codeOf (saidByRun ran) ⌝ }
+    ensures { λ r. ⌜ r ≡ codeOf (runSaid ran) ⌝ }
 {
     match ran {
         Ran::Ended => ENDED,
@@ -52,8 +50,8 @@ pub fn ran_code(ran: Ran) -> u32
 }
 
 pub fn routed_code(routed: Routed) -> u32
-    requires { ⌜ arcsOf (saidByRoute routed) < 268435456 ⌝ }
-    ensures { λ r. ⌜ r ≡ codeOf (saidByRoute routed) ⌝ }
+    requires { ⌜ arcsOf (routeSaid routed) < 2 ^ 28 ⌝ }
+    ensures { λ r. ⌜ r ≡ codeOf (routeSaid routed) ⌝ }
 {
     match routed {
         Routed::Route(arcs) => ROUTE + arcs,

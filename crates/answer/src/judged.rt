@@ -1,7 +1,7 @@
 // What the judge answers.
 ghost use mathlib.Core.Path.{_≡_};
 ghost use Rattle.answer.specs.Answer.{numbered};
-ghost use Rattle.answer.specs.JudgeSaid.{said};
+ghost use Rattle.answer.specs.Said.{judgeSaid};
 use crate::Fault;
 
 pub enum Judged {
@@ -10,8 +10,8 @@ pub enum Judged {
 }
 
 // The answer for the number of a refusal, or for 0.
-pub fn answer(n: u8) -> Judged
-    ensures { λ r. ⌜ said r ≡ numbered n ⌝ }
+pub fn of_number(n: u8) -> Judged
+    ensures { λ r. ⌜ judgeSaid r ≡ numbered n ⌝ }
 {
     if n == 0 {
         return Judged::Accepted;

@@ -2,7 +2,7 @@
 ghost use mathlib.Core.Path.{_≡_};
 ghost use Rattle.indices.specs.Steps.{if_then_else_};
 ghost use Rattle.answer.specs.Answer.{ended, paused};
-ghost use Rattle.answer.specs.RunSaid.{said};
+ghost use Rattle.answer.specs.Said.{runSaid};
 use crate::Fault;
 
 pub enum Ran {
@@ -11,8 +11,8 @@ pub enum Ran {
     Refused(Fault),
 }
 
-pub fn status(over: bool) -> Ran
-    ensures { λ r. ⌜ said r ≡ (if over then ended else paused) ⌝ }
+pub fn of_status(over: bool) -> Ran
+    ensures { λ r. ⌜ runSaid r ≡ (if over then ended else paused) ⌝ }
 {
     if over {
         return Ran::Ended;

@@ -13,7 +13,7 @@ use Rattle.indices.specs.Steps.{if_then_else_}
 use Rattle.indices.proofs.Columns.{column-is}
 use Rattle.sheet.specs.Words.{kindOf, payloadOf}
 use Rattle.procedure.specs.State.{State, counts}
-use Rattle.procedure.specs.Table.{tableWord, statusWord, countWords, headerLength, nodeWords, tableOf}
+use Rattle.procedure.specs.Table.{tableWord, statusWord, countWords, headerLength, nodeWords, tableOf, countsLength}
 use Rattle.calls.specs.Tables.{tableLength, kindIn, payloadIn, statusIn, countIn, labelIn, predecessorIn, labelsIn, predecessorsIn}
 
 -- THE WORDS OF THE NODES
@@ -87,7 +87,7 @@ module _ (ended : Bool) (s : State) (n : ℕ) where
       at-kind true = refl
       at-kind false = refl
 
-  pub count-kind : ((i : ℕ) → i < 4 → at (counts s) i < 2 ^ 56) → (i : ℕ) → i < 8 → kindIn table (1 + i) ≡ 11
+  pub count-kind : ((i : ℕ) → i < countsLength → at (counts s) i < 2 ^ 56) → (i : ℕ) → i < 2 * countsLength → kindIn table (1 + i) ≡ 11
   unfolding tableOf
   count-kind small zero l = omega (arith, small 0 (omega arith))
   count-kind small (suc zero) l = omega (arith, small 0 (omega arith))
@@ -100,7 +100,7 @@ module _ (ended : Bool) (s : State) (n : ℕ) where
   count-kind small (suc (suc (suc (suc (suc (suc (suc (suc i)))))))) l = absurd (omega arith)
 
   -- the two halves say the count
-  pub count-in : (i : ℕ) → i < 4 → at (counts s) i < 2 ^ 56 → countIn table i ≡ at (counts s) i
+  pub count-in : (i : ℕ) → i < countsLength → at (counts s) i < 2 ^ 56 → countIn table i ≡ at (counts s) i
   unfolding tableOf
   count-in zero l small = omega arith
   count-in (suc zero) l small = omega arith

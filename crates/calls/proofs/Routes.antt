@@ -16,11 +16,10 @@ use Rattle.answer.specs.Answer.{Refusal, numberOf, input, state, Answer, accept
 use Rattle.answer.proofs.Lowest.{lowest-append, lowest-clear, lowest-stop}
 use Rattle.judgement.specs.Judgement.{formRefusals, countRefusals, arcRefusals, divisionRefusals, refusals, judgement, Accepted}
 use Rattle.procedure.specs.OfSheet.{graphOf}
-use Rattle.procedure.proofs.WellFormed.{accepted-well-formed}
+use Rattle.theory_shortest.proofs.WellFormed.{accepted-well-formed}
 use Rattle.theory_shortest.proofs.TableTest.{test-shortest, shortest-test}
 use Rattle.calls.specs.Tables.{wrongLength, labelIn, labelsIn, predecessorsIn}
-use Rattle.calls.specs.Routes.{nodeOutside, malformed, isPaused, ShortestTable, notShortest, tableRefusals, routeRefusals}
-use Rattle.calls.specs.Routes.{routeTo, foundRoute, routeAnswer, TableKnown}
+use Rattle.calls.specs.Routes.{nodeOutside, malformed, isPaused, ShortestTable, notShortest, tableRefusals, routeRefusals, routeTo, foundRoute, routeAnswer, TableKnown}
 
 -- the number of a refusal; other answers come after all of them
 abbrev rank : Answer → ℕ

@@ -12,7 +12,7 @@ use Rattle.sheet.specs.Sections.{nodeCount, arcCount}
 use Rattle.answer.specs.Answer.{input, state, Answer, route, noRoute, refused, Case, _when_, isRefused, isRoute, lowest}
 use Rattle.judgement.specs.Judgement.{refusals}
 use Rattle.procedure.specs.OfSheet.{graphOf}
-use Rattle.procedure.specs.Table.{headerLength}
+use Rattle.procedure.specs.Table.{headerLength, countsLength}
 use Rattle.procedure.specs.Routes.{chainTo, Shortest}
 use Rattle.theory_shortest.specs.TableTest.{settled?}
 use Rattle.calls.specs.Tables.{wrongLength, kindIn, statusIn, labelIn, predecessorIn, labelsIn, predecessorsIn}
@@ -49,14 +49,14 @@ module _ (b table : List ℕ) where
   -- "22. Wrong kind at a place, status above 1, or a feeding arc that is neither an arc of the sheet nor 'none'."
   unfoldable pub malformed : Bool
   malformed =
-      (wrongKind table 0 8 || any (wrongCount table) 8) || (ltb 1 (statusIn table) || any (wrongNode table (arcCount b)) (nodeCount b))
+      (wrongKind table 0 8 || any (wrongCount table) (2 * countsLength)) || (ltb 1 (statusIn table) || any (wrongNode table (arcCount b)) (nodeCount b))
 
   -- "Some distance isn't the shortest for this sheet, or the feeding arcs don't form routes of exactly those lengths from the source (source and
   -- unreached nodes: none)": this does not hold of the table. "The counts aren't examined."
   abbrev pub ShortestTable : Type 0
   ShortestTable = Shortest (graphOf b) (labelsIn (nodeCount b) table) (predecessorsIn (nodeCount b) table)
 
-  -- 24 as it is computed. It is false just where the table is a `ShortestTable`: crates/answers/proofs/Routes.antt.
+  -- 24 as it is computed. It is false just where the table is a `ShortestTable`: crates/calls/proofs/Routes.antt.
   unfoldable pub notShortest : Bool
   notShortest = not (settled? (graphOf b) (labelsIn (nodeCount b) table) (predecessorsIn (nodeCount b) table))
 

@@ -13,7 +13,7 @@ use Rattle.judgement.specs.Judgement.{refusals}
 use Rattle.procedure.specs.OfSheet.{graphOf, divisionOf, spansOf}
 use Rattle.procedure.specs.State.{State, counts}
 use Rattle.procedure.specs.Procedure.{ended as hasEnded, after}
-use Rattle.procedure.specs.Table.{largestLabel, tableOf}
+use Rattle.procedure.specs.Table.{largestLabel, tableOf, countsLength}
 use Rattle.procedure.specs.Routes.{Shortest}
 use Rattle.calls.specs.Tables.{wrongLength, statusSays, statusIn, countIn, labelIn, labelsIn, predecessorsIn}
 
@@ -45,10 +45,10 @@ tableAfter b k table = let made = runTable b k in if isRefused (runAnswer b k ta
 -- and feeding arcs are shortest.
 pub record Delivered (b : List ℕ) (k : ℕ) (table : List ℕ) : Type 0 where
   pub status : statusIn table ≡ (if endedAfter b k then 1 else 0)
-  pub halves : (i : ℕ) → i < 4 → countIn table i ≡ at (counts (stateAfter b k)) i
+  pub halves : (i : ℕ) → i < countsLength → countIn table i ≡ at (counts (stateAfter b k)) i
   pub labels : labelsIn (nodeCount b) table ≡ stateAfter b k .labels
   pub predecessors : predecessorsIn (nodeCount b) table ≡ stateAfter b k .predecessors
-  pub small : (i : ℕ) → i < 4 → at (counts (stateAfter b k)) i < 2 ^ 56
+  pub small : (i : ℕ) → i < countsLength → at (counts (stateAfter b k)) i < 2 ^ 56
   -- "The largest label is 1,023 × 262,143", but for 'unreached'
   pub bounded : (v : ℕ) → v < nodeCount b → (labelIn table v ≡ top) ⊎ (labelIn table v ≤ largestLabel)
   pub shortest : statusIn table ≡ 1 → Shortest (graphOf b) (labelsIn (nodeCount b) table) (predecessorsIn (nodeCount b) table)

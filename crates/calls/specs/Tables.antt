@@ -6,7 +6,7 @@ use lib.ListN.{length}
 use lib.Dec.{eqb}
 use Rattle.indices.specs.Columns.{at, column}
 use Rattle.indices.specs.Steps.{if_then_else_}
-use Rattle.sheet.specs.Words.{kindOf, payloadOf}
+use Rattle.sheet.specs.Words.{kindOf, payloadOf, payloads}
 use Rattle.sheet.specs.Sections.{nodeCount}
 use Rattle.answer.specs.Answer.{Answer, ended, paused}
 use Rattle.procedure.specs.Table.{headerLength}
@@ -36,7 +36,7 @@ module _ (table : List ℕ) where
 
   -- "eight words of kind 11: the four counts in the order above, high 28 bits before low 28": count i
   abbrev pub countIn : ℕ → ℕ
-  countIn i = payloadIn (1 + 2 * i) * 268435456 + payloadIn (2 + 2 * i)
+  countIn i = payloadIn (1 + 2 * i) * payloads + payloadIn (2 + 2 * i)
 
   -- "Then per node a kind 9 word, its label, and a kind 10 word, its feeding arc."
   abbrev pub labelIn : ℕ → ℕ

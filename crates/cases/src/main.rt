@@ -45,14 +45,14 @@ fn fault_word(fault: Fault) -> u32 {
     }
 }
 
-fn judged_word(judged: Judged) -> u32 {
+fn word_of_judged(judged: Judged) -> u32 {
     match judged {
         Judged::Accepted => ACCEPTED,
         Judged::Refused(fault) => fault_word(fault),
     }
 }
 
-fn ran_word(ran: Ran) -> u32 {
+fn word_of_ran(ran: Ran) -> u32 {
     match ran {
         Ran::Ended => ENDED,
         Ran::Paused => PAUSED,
@@ -60,7 +60,7 @@ fn ran_word(ran: Ran) -> u32 {
     }
 }
 
-fn routed_word(routed: Routed) -> u32 {
+fn word_of_routed(routed: Routed) -> u32 {
     match routed {
         Routed::Route(arcs) => ROUTE + arcs % 65536,
         Routed::NoRoute => NO_ROUTE,
@@ -86,7 +86,7 @@ fn read_words(bytes: &[u8], table: &mut [u32]) -> usize
 
 fn route_in(sheet: &[u8], bytes: &[u8], table: &mut [u32], node: u32, lent: &mut [u32]) -> u32 {
     let count = read_words(bytes, table);
-    routed_word(route::route(sheet, &table[..count], node, lent))
+    word_of_routed(route::route(sheet, &table[..count], node, lent))
 }
 
 fn route_word(sheet: &[u8], bytes: &[u8], node: u32, lent: &mut [u32]) -> u32 {
@@ -97,15 +97,15 @@ fn route_word(sheet: &[u8], bytes: &[u8], node: u32, lent: &mut [u32]) -> u32 {
 // Runs a sheet to its end, or for at most so many rounds.
 fn run_word(call: u32, number: u32, sheet: &[u8], lent: &mut [u32]) -> u32 {
     if call == 2 {
-        return ran_word(run::run(sheet, lent));
+        return word_of_ran(run::run(sheet, lent));
     }
-    ran_word(run::run_limited(sheet, number, lent))
+    word_of_ran(run::run_limited(sheet, number, lent))
 }
 
 // The word of what a call answers.
 fn answer_word(call: u32, number: u32, sheet: &[u8], bytes: &[u8], lent: &mut [u32]) -> u32 {
     match call {
-        1 => judged_word(judge::judge(sheet)),
+        1 => word_of_judged(judge::judge(sheet)),
         4 => route_word(sheet, bytes, number, lent),
         _ => run_word(call, number, sheet, lent),
     }
@@ -225,11 +225,11 @@ fn take_digit(line: &mut [u8; ROOM], digits: usize, sign: u8) -> usize {
     if value > 15 {
         return NO_DIGITS;
     }
-    let at = digits / 2;
-    if at >= ROOM {
+    let place = digits / 2;
+    if place >= ROOM {
         return NO_DIGITS;
     }
-    line[at] = line[at] << 4 | value;
+    line[place] = line[place] << 4 | value;
     digits + 1
 }
 

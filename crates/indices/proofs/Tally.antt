@@ -8,8 +8,12 @@ use native.Mathlib.Omega.{arith}
 use lib.ListN.{length, getD, set, replicate, length-set, length-replicate, getD-replicate}
 use lib.Seq.{getD-set-same, getD-set-other}
 use Rattle.indices.specs.Tests.{count}
-use Rattle.indices.specs.Tally.{Tally}
 use Rattle.indices.proofs.Tests.{count-none, count-in, count-out}
+
+-- The counter at v says how many of the first n indices hit v, where `hits v i` says that index i does; none is above top.
+pub record Tally (hits : ℕ → ℕ → Bool) (top : ℕ) (counters : List ℕ) (n : ℕ) : Type 0 where
+  pub counts : (v : ℕ) → v < length counters → getD counters v 0 ≡ count (hits v) n
+  pub below : (v : ℕ) → v < length counters → getD counters v 0 ≤ top
 
 -- n counters at 0
 abbrev pub blank : ℕ → List ℕ

@@ -1,4 +1,3 @@
 pub mod Tests
-pub mod Tally
 pub mod Steps
 pub mod Columns

@@ -7,7 +7,7 @@ use Rattle.sheet.specs.Limits.{mostNodes, mostArcs, mostRegionWords}
 use Rattle.sheet.specs.Words.{words}
 use Rattle.sheet.specs.Sections.{nodeCount, spanCount, arcCount, regionWords}
 use Rattle.answer.specs.Answer.{accepted, lowest, numbered}
-use Rattle.answer.proofs.Lowest.{lowest-append, lowest-clear, stage-stops, clear-at}
+use Rattle.answer.proofs.Lowest.{lowest-append, lowest-clear, stage-stops, clear-of}
 use Rattle.judgement.specs.Form.{wrongSize, outOfOrder, bitSet}
 use Rattle.judgement.specs.Judgement.{formRefusals, countRefusals, arcRefusals, divisionRefusals, refusals, judgement}
 use Rattle.judgement.proofs.Clear.{few-nodes, few-arcs, few-region-words}
@@ -21,15 +21,15 @@ form-clear b size order bits = rw (size, order, bits)
 module _ (b : List ℕ) (ok : lowest (countRefusals b) accepted ≡ accepted) where
   pub count-nodes : nodeCount b ≤ mostNodes
   unfolding countRefusals
-  count-nodes = few-nodes b (clear-at (countRefusals b) ok 0)
+  count-nodes = few-nodes b (clear-of (countRefusals b) ok 4)
 
   pub count-arcs : arcCount b ≤ mostArcs
   unfolding countRefusals
-  count-arcs = few-arcs b (clear-at (countRefusals b) ok 3)
+  count-arcs = few-arcs b (clear-of (countRefusals b) ok 7)
 
   pub count-region-words : words (regionWords b) ≤ mostRegionWords
   unfolding countRefusals
-  count-region-words = few-region-words b (clear-at (countRefusals b) ok 3)
+  count-region-words = few-region-words b (clear-of (countRefusals b) ok 7)
 
 -- the stages make the judgement, one after the other
 staged : (b : List ℕ) → judgement b

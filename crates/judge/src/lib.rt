@@ -2,11 +2,11 @@
 ghost use mathlib.Core.Path.{_≡_};
 ghost use Prim.Native.Nat.{_<_};
 ghost use Rattle.sheet.specs.Words.{words};
-ghost use Rattle.sheet.specs.Sections.{Located};
+ghost use Rattle.sheet.specs.Inner.{Located};
 ghost use Rattle.answer.specs.Answer.{numbered};
 ghost use Rattle.judgement.specs.Form.{wrongSize, bitSet};
 ghost use Rattle.judgement.specs.Judgement.{judgement};
-ghost use Rattle.answer.specs.JudgeSaid.{said};
+ghost use Rattle.answer.specs.Said.{judgeSaid};
 ghost use Rattle.judge.specs.Stages.{InOrder};
 pub use answer::judged::Judged;
 use sheet::Sections;
@@ -22,33 +22,37 @@ fn wrong_size(s: &[u8]) -> bool
 }
 
 // Refusal 3: a bit set that must be zero.
-fn bit_set(s: &[u8], at: Sections) -> bool
-    requires { ⌜ Located (now s) at × (words (now s) < 65536) ⌝ }
+fn bit_set(s: &[u8], sections: Sections) -> bool
+    requires { ⌜ Located (now s) sections × (words (now s) < 65536) ⌝ }
     ensures { λ r. ⌜ r ≡ bitSet (now (s .entry)) ⌝ }
 {
-    if judge_arcs::bit_set(s, at) {
+    if judge_arcs::bit_set(s, sections) {
         return true;
     }
-    judge_division::leaf_words::bit_set(sheet_reader::region_words(s, at))
+    judge_division::leaves::leaf_bits_set(sheet_reader::region_words(s, sections))
 }
 
 // Refusals 3 to 14, of a sheet to which neither 1 nor 2 applies: the number, or 0.
-fn later_refusal(s: &[u8], at: Sections) -> u8
-    requires { ⌜ InOrder (now s) at ⌝ }
+fn later_refusal(s: &[u8], sections: Sections) -> u8
+    requires { ⌜ InOrder (now s) sections ⌝ }
     ensures { λ r. ⌜ numbered r ≡ judgement (now (s .entry)) ⌝ }
 {
-    if bit_set(s, at) {
+    if bit_set(s, sections) {
         return 3;
     }
-    let count = judge_form::limits::count_refusal(s, at);
+    let count = judge_form::limits::count_refusal(s, sections);
     if count != 0 {
         return count;
     }
-    let arc = judge_arcs::arc_refusal(s, at);
+    let arc = judge_arcs::arc_refusal(s, sections);
     if arc != 0 {
         return arc;
     }
-    judge_division::division_refusal(sheet_reader::region_words(s, at), at.arcs as u16, at.spans)
+    judge_division::division_refusal(
+        sheet_reader::region_words(s, sections),
+        sections.arcs as u16,
+        sections.spans,
+    )
 }
 
 // The lowest number of a refusal that applies to the sheet, or 0. The sections are found once, for all that is looked at after the order of kinds.
@@ -66,7 +70,7 @@ fn lowest_refusal(s: &[u8]) -> u8
 
 // Judges a sheet.
 pub fn judge(sheet: &[u8]) -> Judged
-    ensures { λ r. ⌜ said r ≡ judgement (now (sheet .entry)) ⌝ }
+    ensures { λ r. ⌜ judgeSaid r ≡ judgement (now (sheet .entry)) ⌝ }
 {
-    answer::judged::answer(lowest_refusal(sheet))
+    answer::judged::of_number(lowest_refusal(sheet))
 }

@@ -2,7 +2,7 @@
 use Prim.Native.Nat.{ℕ}
 use mathlib.Core.List.{List, [], _∷_}
 use Rattle.answer.specs.Answer.{input, Case, _when_}
-use Rattle.judgement.specs.Fields.{endsOutside, lengthsOutside}
+use Rattle.judgement.specs.Arcs.{endsOutside, lengthsOutside}
 
 -- 8 and 9, in the order in which they are looked at
 abbrev pub fieldRefusals : List ℕ → List Case

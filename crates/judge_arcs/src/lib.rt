@@ -6,25 +6,26 @@ ghost use lib.Dec.{leb};
 ghost use Prim.Native.Nat.{_≤_, _<_};
 ghost use Rattle.indices.specs.Tests.{any};
 ghost use Rattle.sheet.specs.Limits.{mostNodes, mostArcs};
-ghost use Rattle.sheet.specs.Sections.{Located, nodeCount, arcCount};
+ghost use Rattle.sheet.specs.Sections.{nodeCount, arcCount};
+ghost use Rattle.sheet.specs.Inner.{Located};
 ghost use Rattle.sheet.specs.Arcs.{endOf};
 ghost use Rattle.answer.specs.Answer.{numbered, accepted, lowest};
 ghost use Rattle.judgement.specs.Form.{arcBits};
-ghost use Rattle.judgement.specs.Fields.{endOutside};
+ghost use Rattle.judgement.specs.Arcs.{endOutside};
 ghost use Rattle.judgement.specs.Judgement.{arcRefusals};
 ghost use Rattle.judge_arcs.specs.Fields.{fieldRefusals};
 use sheet::Arc;
 use sheet::Sections;
 
 // Refusal 3, of the arcs: a bit set that must be zero.
-pub fn bit_set(s: &[u8], at: Sections) -> bool
-    requires { ⌜ Located (now s) at × (arcCount (now s) < 65536) ⌝ }
+pub fn bit_set(s: &[u8], sections: Sections) -> bool
+    requires { ⌜ Located (now s) sections × (arcCount (now s) < 65536) ⌝ }
     ensures { λ r. ⌜ r ≡ any (arcBits (now (s .entry))) (arcCount (now (s .entry))) ⌝ }
 {
-    let arcs = at.arcs as u16;
+    let arcs = sections.arcs as u16;
     let mut a: u16 = 0;
     while a < arcs {
-        if sheet::fields::ends_at(s, at, Arc(a)) >= 1048576 {
+        if sheet::fields::ends_payload(s, sections, Arc(a)) >= 1048576 {
             return true;
         }
         a += 1;
@@ -33,39 +34,39 @@ pub fn bit_set(s: &[u8], at: Sections) -> bool
 }
 
 // Whether one end of an arc is no node.
-fn end_outside(s: &[u8], at: Sections, a: Arc, head: bool) -> bool
-    requires { ⌜ Located (now s) at × (a .0 < arcCount (now s)) ⌝ }
+fn one_end_outside(s: &[u8], sections: Sections, a: Arc, head: bool) -> bool
+    requires { ⌜ Located (now s) sections × (a .0 < arcCount (now s)) ⌝ }
     ensures { λ r. ⌜ r ≡ leb (nodeCount (now (s .entry))) (endOf head (now (s .entry)) (a .0)) ⌝ }
 {
-    let v = sheet::fields::end_at(s, at, a, head);
+    let v = sheet::fields::end_at(s, sections, a, head);
     sheet::node_count(s) <= v.0 as u32
 }
 
 // Whether an end of an arc is no node.
-fn ends_outside(s: &[u8], at: Sections, a: Arc) -> bool
-    requires { ⌜ Located (now s) at × (a .0 < arcCount (now s)) ⌝ }
+fn arc_outside(s: &[u8], sections: Sections, a: Arc) -> bool
+    requires { ⌜ Located (now s) sections × (a .0 < arcCount (now s)) ⌝ }
     ensures { λ r. ⌜ r ≡ endOutside (now (s .entry)) (a .0) ⌝ }
 {
-    if end_outside(s, at, a, false) {
+    if one_end_outside(s, sections, a, false) {
         return true;
     }
-    end_outside(s, at, a, true)
+    one_end_outside(s, sections, a, true)
 }
 
 // Refusals 8 and 9: the number, or 0. Both are looked for in one pass over the arcs.
-fn field_refusal(s: &[u8], at: Sections) -> u8
-    requires { ⌜ Located (now s) at × (arcCount (now s) ≤ mostArcs) ⌝ }
+fn field_refusal(s: &[u8], sections: Sections) -> u8
+    requires { ⌜ Located (now s) sections × (arcCount (now s) ≤ mostArcs) ⌝ }
     ensures { λ r. ⌜ numbered r ≡ lowest (fieldRefusals (now (s .entry))) accepted ⌝ }
 {
-    let arcs = at.arcs as u16;
+    let arcs = sections.arcs as u16;
     let mut outside = false;
     let mut long = false;
     let mut a: u16 = 0;
     while a < arcs {
-        if ends_outside(s, at, Arc(a)) {
+        if arc_outside(s, sections, Arc(a)) {
             outside = true;
         }
-        if sheet::fields::length_at(s, at, Arc(a)) > sheet::MOST_LENGTH {
+        if sheet::fields::length_at(s, sections, Arc(a)) > sheet::MOST_LENGTH {
             long = true;
         }
         a += 1;
@@ -80,15 +81,15 @@ fn field_refusal(s: &[u8], at: Sections) -> u8
 }
 
 // Refusals 8 to 10: the number, or 0.
-pub fn arc_refusal(s: &[u8], at: Sections) -> u8
-    requires { ⌜ Located (now s) at × (arcCount (now s) ≤ mostArcs) × (nodeCount (now s) ≤ mostNodes) ⌝ }
+pub fn arc_refusal(s: &[u8], sections: Sections) -> u8
+    requires { ⌜ Located (now s) sections × (arcCount (now s) ≤ mostArcs) × (nodeCount (now s) ≤ mostNodes) ⌝ }
     ensures { λ r. ⌜ numbered r ≡ lowest (arcRefusals (now (s .entry))) accepted ⌝ }
 {
-    let field = field_refusal(s, at);
+    let field = field_refusal(s, sections);
     if field != 0 {
         return field;
     }
-    if crate::degrees::crowded_nodes(s, at) {
+    if crate::degrees::too_many_at_node(s, sections) {
         return 10;
     }
     0

@@ -1,1 +1,3 @@
-pub mod Held
+mod Turn
+mod Held
+mod Childless

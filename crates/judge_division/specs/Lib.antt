@@ -1,3 +1,3 @@
 pub mod Parents
-pub mod Turn
+pub mod Heights
 pub mod Nesting

@@ -2,7 +2,7 @@
 use Prim.Native.Nat.{ℕ}
 use mathlib.Core.List.{List, [], _∷_}
 use Rattle.answer.specs.Answer.{input, Case, _when_}
-use Rattle.judgement.specs.Nesting.{childlessRegions, spansDiffer}
+use Rattle.judgement.specs.Division.{childlessRegions, spansDiffer}
 
 -- 13 and 14, in the order in which they are looked at
 abbrev pub nestingRefusals : List ℕ → ℕ → List Case

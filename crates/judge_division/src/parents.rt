@@ -3,7 +3,7 @@ ghost use mathlib.Core.Path.{_≡_};
 ghost use Prim.Native.Nat.{_<_};
 ghost use Rattle.sheet.specs.Words.{words};
 ghost use Rattle.sheet.specs.Regions.{parent};
-ghost use Rattle.judgement.specs.Nesting.{wrongParent, wrongParents};
+ghost use Rattle.judgement.specs.Division.{wrongParent, wrongParents};
 ghost use Rattle.judge_division.specs.Parents.{HasParent};
 use sheet::Region;
 

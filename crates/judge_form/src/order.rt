@@ -55,10 +55,10 @@ fn may_end(before: u32) -> bool
 pub fn out_of_order(s: &[u8]) -> bool
     ensures { λ r. ⌜ r ≡ outOfOrder (now (s .entry)) ⌝ }
 {
-    let mut at = Cursor { at: 0 };
+    let mut cursor = Cursor { place: 0 };
     let mut before: u32 = 0;
     loop {
-        let Step::Word(word, next) = sheet_reader::word_after(s, at) else {
+        let Step::Word(word, next) = sheet_reader::word_after(s, cursor) else {
             return !may_end(before);
         };
         let kind = sheet::kind_of(word);
@@ -66,6 +66,6 @@ pub fn out_of_order(s: &[u8]) -> bool
             return true;
         }
         before = kind;
-        at = next;
+        cursor = next;
     }
 }

@@ -13,12 +13,12 @@ use Rattle.sheet.specs.Limits.{mostNodes, mostSpans, mostSpan, mostArcs, mostRe
 use Rattle.sheet.specs.Words.{words, kind}
 use Rattle.sheet.specs.Sections.{nodeCount, source, spanCount, span, arcCount, regionWords}
 use Rattle.sheet.specs.Arcs.{tail, head, arcLength, endOf}
-use Rattle.sheet.specs.Heights.{Nesting}
+use Rattle.sheet.specs.Inner.{Nesting}
 use Rattle.sheet.specs.Regions.{regionCount, leafWord, arcWord, isLeaf, parent, height}
-use Rattle.answer.proofs.Lowest.{clear-at}
+use Rattle.answer.proofs.Lowest.{clear-of}
 use Rattle.judgement.specs.Form.{wrongFront, noRegionWord, outOfOrder, nodesOutside, sourceOutside, spanOutside, spansOutside, tooMany}
-use Rattle.judgement.specs.Fields.{endsOutside, tooLong, lengthsOutside, endsAt, crowded, crowdedNodes, tooManyAtNode}
-use Rattle.judgement.specs.Nesting.{wrongParents, noSuchArc, leafOfArc, notOneLeaf, wrongLeaves, spansDiffer}
+use Rattle.judgement.specs.Arcs.{endsOutside, tooLong, lengthsOutside, endsAt, crowded, crowdedNodes, tooManyAtNode}
+use Rattle.judgement.specs.Division.{wrongParents, noSuchArc, leafOfArc, notOneLeaf, wrongLeaves, childlessRegions, spansDiffer}
 use Rattle.judgement.specs.Judgement.{formRefusals, countRefusals, arcRefusals, divisionRefusals, refusals, judgement, Accepted}
 use Rattle.judgement.proofs.Parents as parents
 use Rattle.judgement.proofs.Clear as clear
@@ -35,22 +35,24 @@ record NoRefusal (b : List ℕ) : Type 0 where
   degrees : tooManyAtNode b ≡ false
   parents : wrongParents (regionWords b) ≡ false
   leaves : wrongLeaves (regionWords b) (arcCount b) ≡ false
+  children : childlessRegions (regionWords b) ≡ false
   height : spansDiffer (regionWords b) (spanCount b) ≡ false
 
 none-applies : (b : List ℕ) → Accepted b → NoRefusal b
 unfolding judgement refusals formRefusals countRefusals arcRefusals divisionRefusals
-none-applies b ok = let at = clear-at (refusals b) ok in record {
-  order = at 1;
-  nodes = at 3;
-  source = at 4;
-  spans = at 5;
-  many = at 6;
-  ends = at 7;
-  lengths = at 8;
-  degrees = at 9;
-  parents = at 10;
-  leaves = at 11;
-  height = at 13;
+none-applies b ok = let free = clear-of (refusals b) ok in record {
+  order = free 2;
+  nodes = free 4;
+  source = free 5;
+  spans = free 6;
+  many = free 7;
+  ends = free 8;
+  lengths = free 9;
+  degrees = free 10;
+  parents = free 11;
+  leaves = free 12;
+  children = free 13;
+  height = free 14;
 }
 
 module _ (b : List ℕ) (ok : Accepted b) where
@@ -123,6 +125,13 @@ module _ (b : List ℕ) (ok : Accepted b) where
     where
       elsewhere : nodeCount b ≤ v → (a : ℕ) → a < arcCount b → endsAt heads b v a ≡ false
       elsewhere l a la = ne-eqb (endOf heads b a) v (λ e. omega (arith, clear.end-in b (none .ends) heads a la))
+
+  -- 11 and 13 do not apply: every parent is right, and every inner region but 0 has a child
+  pub parents-right : wrongParents (regionWords b) ≡ false
+  parents-right = none .parents
+
+  pub children-there : childlessRegions (regionWords b) ≡ false
+  children-there = none .children
 
   -- 11. parents fall and are inner
   pub nesting : Nesting (isLeaf (regionWords b)) (parent (regionWords b)) (regionCount (regionWords b))

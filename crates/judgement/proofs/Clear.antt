@@ -14,7 +14,7 @@ use Rattle.sheet.specs.Words.{words, kind}
 use Rattle.sheet.specs.Sections.{nodeCount, spanCount, arcCount, regionWords}
 use Rattle.sheet.specs.Arcs.{tail, head, endOf}
 use Rattle.judgement.specs.Form.{wrongSize, wrongFront, outOfOrder, nodesOutside, tooMany}
-use Rattle.judgement.specs.Fields.{endOutside, endsOutside}
+use Rattle.judgement.specs.Arcs.{endOutside, endsOutside}
 
 module _ (b : List ℕ) where
   -- 1. a sheet of the right size has few words

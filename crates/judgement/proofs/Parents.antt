@@ -9,9 +9,9 @@ use lib.Dec.{ltb}
 use Rattle.indices.proofs.Tests.{any-at, or-left, or-right}
 use Rattle.sheet.specs.Limits.{mostRegionWords}
 use Rattle.sheet.specs.Words.{words, top}
-use Rattle.sheet.specs.Heights.{Nesting}
+use Rattle.sheet.specs.Inner.{Nesting}
 use Rattle.sheet.specs.Regions.{regionCount, parentWord, isLeaf, parent}
-use Rattle.judgement.specs.Nesting.{wrongParent, wrongParents}
+use Rattle.judgement.specs.Division.{wrongParent, wrongParents}
 
 module _ (d : List ℕ) (ok : wrongParents d ≡ false) where
   pub parent-le : (k : ℕ) → k < words d → parentWord d k ≤ k

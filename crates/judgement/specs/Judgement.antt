@@ -5,8 +5,8 @@ use mathlib.Core.Path.{_≡_}
 use Rattle.sheet.specs.Sections.{spanCount, arcCount, regionWords}
 use Rattle.answer.specs.Answer.{input, Answer, accepted, Case, _when_, lowest}
 use Rattle.judgement.specs.Form.{wrongSize, outOfOrder, bitSet, nodesOutside, sourceOutside, spansOutside, tooMany}
-use Rattle.judgement.specs.Fields.{endsOutside, lengthsOutside, tooManyAtNode}
-use Rattle.judgement.specs.Nesting.{wrongParents, wrongLeaves, childlessRegions, spansDiffer}
+use Rattle.judgement.specs.Arcs.{endsOutside, lengthsOutside, tooManyAtNode}
+use Rattle.judgement.specs.Division.{wrongParents, wrongLeaves, childlessRegions, spansDiffer}
 
 -- "From the input", 1 to 14
 unfoldable pub formRefusals : List ℕ → List Case

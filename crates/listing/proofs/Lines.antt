@@ -3,10 +3,8 @@ use Prim.Native.Nat.{ℕ, _+_, _*_, _≤_, _<_}
 use mathlib.Core.List.{List}
 use native.Mathlib.Omega.{arith}
 use lib.ListN.{length, length-append}
-use Rattle.listing.specs.StatusLine.{statusLine}
-use Rattle.listing.specs.NodeLines.{nodeLines}
-use Rattle.listing.specs.Listing.{listingOf, mostListing, refusedLine}
-use Rattle.listing.specs.Written.{Room, Wrote}
+use Rattle.listing.specs.Listing.{statusLine, nodeLines, listingOf, mostListing, refusedLine}
+use Rattle.listing.specs.Inner.{Room, Wrote}
 use Rattle.listing.proofs.text.Writing.{length-wrote}
 use Rattle.listing.proofs.text.Numbers.{decimal-within}
 use Rattle.listing.proofs.status_line.StatusLine.{status-line-within}

@@ -6,8 +6,8 @@ use native.Mathlib.Nat.{zero-add}
 use native.Mathlib.Omega.{arith}
 use lib.ListN.{length, take, drop, length-append}
 use lib.Seq.{sets-eq}
-use Rattle.listing.specs.Written.{Room, Wrote}
-use Rattle.listing.specs.Filled.{Filled}
+use Rattle.listing.specs.Inner.{Room, Wrote}
+use Rattle.listing.specs.Printed.{Filled}
 
 module _ {before : List ℕ} {at : ℕ} {text after : List ℕ} {next : ℕ} (w : Wrote before at text after next) where
   -- a text at the front

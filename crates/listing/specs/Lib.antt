@@ -1,9 +1,4 @@
 pub mod Text
-pub mod Written
-pub mod Fields
-pub mod StatusLine
-pub mod NodeLines
-pub mod Lent
 pub mod Listing
 pub mod Printed
-pub mod Filled
+pub mod Inner

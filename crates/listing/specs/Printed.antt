@@ -1,10 +1,14 @@
--- What `marks` prints of a sheet, as bytes. Definitions.
-use mathlib.Core.List.{List}
+-- What `marks` prints of a sheet, as bytes, and what a report of it leaves in what is lent. Definitions.
 use Prim.Native.Nat.{ℕ}
+use mathlib.Core.Path.{_≡_}
+use mathlib.Core.List.{List, _++_}
+use lib.ListN.{length, drop}
+use Rattle.indices.specs.Steps.{if_then_else_}
 use Rattle.sheet.specs.Sections.{nodeCount}
-use Rattle.answer.specs.Answer.{numberOf, Answer, accepted, ended, paused, route, noRoute, refused}
+use Rattle.answer.specs.Answer.{numberOf, Answer, accepted, ended, paused, route, noRoute, refused, isRefused}
 use Rattle.judgement.specs.Judgement.{judgement}
 use Rattle.procedure.specs.Procedure.{enoughRounds}
+use Rattle.calls.specs.Tables.{tableLength}
 use Rattle.calls.specs.Runs.{runTable}
 use Rattle.listing.specs.Listing.{listingOf, refusedLine}
 
@@ -24,3 +28,18 @@ endTable b = runTable b enoughRounds
 -- "reads a sheet on standard input, runs it to its end and prints"
 unfoldable pub printed : List ℕ → List ℕ
 printed b = textOf (judgement b) (listingOf (endTable b) (nodeCount b))
+
+-- the text stands at the front of the buffer, the rest is as it was, and n is the number of its bytes
+pub record Filled (before text after : List ℕ) (n : ℕ) : Type 0 where
+  pub bytes : after ≡ text ++ drop (length text) before
+  pub count : n ≡ length text
+
+-- the words lent for the table afterwards: the table at their front, or of a refusal as they were
+unfoldable pub wordsAfter : List ℕ → List ℕ → List ℕ
+wordsAfter b table =
+    let made = endTable b ++ drop (tableLength (nodeCount b)) table in if isRefused (judgement b) then table else made
+
+-- the text at the front of the buffer, and every word lent for the table
+pub record Reported (b table out tableAfter outAfter : List ℕ) (n : ℕ) : Type 0 where
+  pub text : Filled out (printed b) outAfter n
+  pub words : tableAfter ≡ wordsAfter b table

@@ -1,14 +1,14 @@
 // The text that `marks` prints, written into a lent buffer: the listing of an answer table, or a refusal.
-pub mod fields;
+pub mod cells;
 pub mod node_lines;
 pub mod status_line;
 pub mod text;
 
 ghost use Prim.Native.Nat.{_≤_};
 ghost use lib.ListN.{length};
-ghost use Rattle.listing.specs.Lent.{ListingLent};
+ghost use Rattle.listing.specs.Inner.{ListingLent};
 ghost use Rattle.listing.specs.Listing.{listingOf, refusedLine};
-ghost use Rattle.listing.specs.Filled.{Filled};
+ghost use Rattle.listing.specs.Printed.{Filled};
 
 // No listing has more bytes, as specs/Listing.antt says.
 pub const MOST_LISTING: usize = 25707;
@@ -18,8 +18,8 @@ pub fn write_listing(table: &[u32], nodes: usize, out: &mut [u8]) -> usize
     requires { ⌜ ListingLent (now table) nodes (now out) ⌝ }
     ensures { λ r. ⌜ Filled (now (out .entry)) (listingOf (now (table .entry)) nodes) (now (out .exit)) r ⌝ }
 {
-    let at = crate::status_line::put_status_line(table, out, 0);
-    crate::node_lines::put_node_lines(table, nodes, out, at)
+    let next = crate::status_line::put_status_line(table, out, 0);
+    crate::node_lines::put_node_lines(table, nodes, out, next)
 }
 
 // Writes the line of a refusal to the front of the buffer, and returns how many bytes it has.

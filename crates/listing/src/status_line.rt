@@ -4,33 +4,34 @@ ghost use Prim.Native.Nat.{_+_, _≤_, _<_};
 ghost use lib.ListN.{length};
 ghost use Rattle.calls.specs.Tables.{countIn};
 ghost use Rattle.listing.specs.Text.{decimal};
-ghost use Rattle.listing.specs.StatusLine.{status, statusLine};
-ghost use Rattle.listing.specs.Written.{Room, Wrote};
+ghost use Rattle.listing.specs.Listing.{status, statusLine};
+ghost use Rattle.listing.specs.Inner.{Room, Wrote};
+ghost use Rattle.procedure.specs.Table.{countsLength, headerLength};
 
 // A count after its name.
-fn put_count(table: &[u32], i: usize, name: &[u8], out: &mut [u8], at: usize) -> usize
-    requires { ⌜ (i < 4) × (9 ≤ length (now table)) × Room (now out) at (now name ++ decimal (countIn (now table) i)) ⌝ }
-    ensures { λ r. ⌜ Wrote (now (out .entry)) at (now (name .entry) ++ decimal (countIn (now (table .entry)) i)) (now (out .exit)) r ⌝ }
+fn put_count(table: &[u32], i: usize, name: &[u8], out: &mut [u8], from: usize) -> usize
+    requires { ⌜ (i < countsLength) × (headerLength ≤ length (now table)) × Room (now out) from (now name ++ decimal (countIn (now table) i)) ⌝ }
+    ensures { λ r. ⌜ Wrote (now (out .entry)) from (now (name .entry) ++ decimal (countIn (now (table .entry)) i)) (now (out .exit)) r ⌝ }
 {
-    let next = crate::text::put_text(name, out, at);
-    crate::text::put_number(crate::fields::count_at(table, i), out, next)
+    let next = crate::text::put_text(name, out, from);
+    crate::text::put_number(crate::cells::count_at(table, i), out, next)
 }
 
-fn put_status(table: &[u32], out: &mut [u8], at: usize) -> usize
-    requires { ⌜ (9 ≤ length (now table)) × Room (now out) at (status (now table)) ⌝ }
-    ensures { λ r. ⌜ Wrote (now (out .entry)) at (status (now (table .entry))) (now (out .exit)) r ⌝ }
+fn put_status(table: &[u32], out: &mut [u8], from: usize) -> usize
+    requires { ⌜ (headerLength ≤ length (now table)) × Room (now out) from (status (now table)) ⌝ }
+    ensures { λ r. ⌜ Wrote (now (out .entry)) from (status (now (table .entry))) (now (out .exit)) r ⌝ }
 {
-    if crate::fields::payload_at(table, 0) == 1 {
-        return crate::text::put_text(b"ended", out, at);
+    if crate::cells::payload_at(table, 0) == 1 {
+        return crate::text::put_text(b"ended", out, from);
     }
-    crate::text::put_text(b"paused", out, at)
+    crate::text::put_text(b"paused", out, from)
 }
 
-pub fn put_status_line(table: &[u32], out: &mut [u8], at: usize) -> usize
-    requires { ⌜ (9 ≤ length (now table)) × Room (now out) at (statusLine (now table)) ⌝ }
-    ensures { λ r. ⌜ Wrote (now (out .entry)) at (statusLine (now (table .entry))) (now (out .exit)) r ⌝ }
+pub fn put_status_line(table: &[u32], out: &mut [u8], from: usize) -> usize
+    requires { ⌜ (headerLength ≤ length (now table)) × Room (now out) from (statusLine (now table)) ⌝ }
+    ensures { λ r. ⌜ Wrote (now (out .entry)) from (statusLine (now (table .entry))) (now (out .exit)) r ⌝ }
 {
-    let rounds = put_status(table, out, at);
+    let rounds = put_status(table, out, from);
     let leaves = put_count(table, 0, b" rounds ", out, rounds);
     let inner = put_count(table, 1, b" leaves ", out, leaves);
     let updates = put_count(table, 2, b" inner ", out, inner);

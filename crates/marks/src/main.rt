@@ -3,13 +3,14 @@ ghost use Prim.Native.Nat.{_≤_};
 ghost use lib.ListN.{length};
 ghost use Rattle.calls.specs.Tables.{tableLength};
 ghost use Rattle.listing.specs.Listing.{mostListing};
+ghost use Rattle.sheet.specs.Limits.{mostNodes};
 use libc::STDIN_FILENO;
 
 // One word more than the longest sheet has: longer input is refused for its size, whatever follows.
 const ROOM: usize = 32832;
 
 fn read_and_print(sheet: &mut [u8], table: &mut [u32], out: &mut [u8])
-    requires { ⌜ (tableLength 1024 ≤ length (now table)) × (mostListing ≤ length (now out)) ⌝ }
+    requires { ⌜ (tableLength mostNodes ≤ length (now table)) × (mostListing ≤ length (now out)) ⌝ }
 {
     let size = io::read_full(STDIN_FILENO, sheet);
     report::print_report(&sheet[..size], table, out);

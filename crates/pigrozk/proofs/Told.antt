@@ -1,4 +1,4 @@
--- The code of a call's answer says the answer: below 16 every refusal is the input's, from 16 to 99 the state's.
+-- The code of a call's answer says the answer: a code below 100 is a refusal, and its number tells whose.
 use Prim.Native.Nat.{ℕ, _+_, _-_}
 use native.Mathlib.Omega.{arith}
 use mathlib.Core.Bool.{Bool, true, false, cond, not, _&&_}
@@ -15,7 +15,7 @@ use Rattle.judgement.specs.Judgement.{formRefusals, countRefusals, arcRefusals,
 use Rattle.calls.specs.Tables.{statusIn, labelIn}
 use Rattle.calls.specs.Runs.{runRefusals, runAnswer, runTable}
 use Rattle.calls.specs.Routes.{tableRefusals, routeRefusals, routeTo, foundRoute, routeAnswer}
-use Rattle.answer.specs.Codes.{codeOf, answerOf}
+use Rattle.answer.specs.Codes.{codeOf, fromState, answerOf}
 
 -- equal answers have one code
 pub same-code : {code : ℕ} {a same : Answer} → code ≡ codeOf a → a ≡ same → code ≡ codeOf same
@@ -24,10 +24,10 @@ same-code e is = e ∙ ap codeOf is
 abbrev Told : Answer → Type 0
 Told a = answerOf (codeOf a) ≡ a
 
--- the number of a refusal lies in its part of the row
+-- the number of a refusal tells whose it is
 abbrev inRow : Refusal → Bool
-inRow (input n) = ltb n 16
-inRow (state n) = not (ltb n 16) && ltb n 100
+inRow (input n) = not (fromState n) && ltb n 100
+inRow (state n) = fromState n && ltb n 100
 
 abbrev allInRow : List Case → Bool
 allInRow [] = true
@@ -35,18 +35,20 @@ allInRow (c ∷ cs) = inRow (c .refusal) && allInRow cs
 
 refusal-told : (r : Refusal) → inRow r ≡ true → Told (refused r)
 unfolding answerOf
-refusal-told (input n) e = rw e
+refusal-told (input n) e =
+    let theirs : fromState n ≡ false = not-true (fromState n) (and-left (not (fromState n)) _ e) in
+    let low : ltb n 100 ≡ true = and-right (not (fromState n)) _ e in
+    rw (low, theirs)
 refusal-told (state n) e =
-    let high : ltb n 16 ≡ false = not-true (ltb n 16) (and-left (not (ltb n 16)) _ e) in
-    let low : ltb n 100 ≡ true = and-right (not (ltb n 16)) _ e in
-    rw (high, low)
+    let ours : fromState n ≡ true = and-left (fromState n) _ e in
+    let low : ltb n 100 ≡ true = and-right (fromState n) _ e in
+    rw (low, ours)
 
 count-told : (n : ℕ) → Told (route n)
 unfolding answerOf
 count-told n =
     let back : 65536 + n - 65536 ≡ n = omega arith in
     rw (
-      le-ltb (65536 + n) 16 (omega arith),
       le-ltb (65536 + n) 100 (omega arith),
       ne-eqb (65536 + n) 256 (omega arith),
       ne-eqb (65536 + n) 257 (omega arith),

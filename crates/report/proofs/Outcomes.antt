@@ -11,9 +11,7 @@ use Rattle.calls.specs.Tables.{tableLength}
 use Rattle.calls.specs.Runs.{tableAfter}
 use Rattle.calls.proofs.Outcome.{made}
 use Rattle.listing.specs.Listing.{listingOf, refusedLine}
-use Rattle.listing.specs.Printed.{endTable, printed}
-use Rattle.listing.specs.Filled.{Filled}
-use Rattle.report.specs.Report.{wordsAfter, Reported}
+use Rattle.listing.specs.Printed.{endTable, printed, Filled, wordsAfter, Reported}
 
 module _ (b : List ℕ) {table out outAfter : List ℕ} {n : ℕ} where
   -- of a refused sheet the line of the refusal is printed, and the table stays

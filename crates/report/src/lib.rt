@@ -6,14 +6,16 @@ ghost use Rattle.io.specs.Counts.{Counts};
 ghost use Rattle.judgement.specs.Judgement.{Accepted};
 ghost use Rattle.calls.specs.Tables.{tableLength};
 ghost use Rattle.listing.specs.Listing.{listingOf, mostListing};
-ghost use Rattle.listing.specs.Printed.{endTable};
-ghost use Rattle.listing.specs.Filled.{Filled};
-ghost use Rattle.report.specs.Report.{Reported, TableLent};
+ghost use Rattle.listing.specs.Printed.{endTable, Filled, Reported};
+ghost use Rattle.report.specs.Lent.{TableLent};
+ghost use Rattle.sheet.specs.Limits.{mostNodes};
 use judge::Judged;
 use libc::STDOUT_FILENO;
+use sheet::NODE_NUMBERS;
+use table::words::HEADER;
 
 // How many words the table of the most nodes has.
-pub const MOST_TABLE: usize = 2057;
+pub const MOST_TABLE: usize = HEADER + 2 * NODE_NUMBERS;
 
 // Runs an accepted sheet to its end in a table of its size, and writes the listing.
 fn report_table(sheet: &[u8], nodes: usize, table: &mut [u32], out: &mut [u8]) -> usize
@@ -26,7 +28,7 @@ fn report_table(sheet: &[u8], nodes: usize, table: &mut [u32], out: &mut [u8]) -
 }
 
 fn report_accepted(sheet: &[u8], table: &mut [u32], out: &mut [u8]) -> usize
-    requires { ⌜ Accepted (now sheet) × (tableLength 1024 ≤ length (now table)) × (mostListing ≤ length (now out)) ⌝ }
+    requires { ⌜ Accepted (now sheet) × (tableLength mostNodes ≤ length (now table)) × (mostListing ≤ length (now out)) ⌝ }
     ensures { λ r. ⌜ Reported (now (sheet .entry)) (now (table .entry)) (now (out .entry)) (now (table .exit)) (now (out .exit)) r ⌝ }
 {
     let nodes = sheet::node_count(sheet) as usize;
@@ -41,7 +43,7 @@ fn report_accepted(sheet: &[u8], table: &mut [u32], out: &mut [u8]) -> usize
 // Writes what is printed of a sheet to the front of the buffer, and returns how many bytes it has. The second promise follows from the first, in the
 // form in which a caller lends those bytes.
 pub fn report(sheet: &[u8], table: &mut [u32], out: &mut [u8]) -> usize
-    requires { ⌜ (tableLength 1024 ≤ length (now table)) × (mostListing ≤ length (now out)) ⌝ }
+    requires { ⌜ (tableLength mostNodes ≤ length (now table)) × (mostListing ≤ length (now out)) ⌝ }
     ensures { λ r. ⌜ Reported (now (sheet .entry)) (now (table .entry)) (now (out .entry)) (now (table .exit)) (now (out .exit)) r ⌝ }
     ensures { λ r. ⌜ Counts r (now (out .exit)) ⌝ }
 {
@@ -54,7 +56,7 @@ pub fn report(sheet: &[u8], table: &mut [u32], out: &mut [u8]) -> usize
 
 // Prints what `report` writes, and returns how many bytes it has.
 pub fn print_report(sheet: &[u8], table: &mut [u32], out: &mut [u8]) -> usize
-    requires { ⌜ (tableLength 1024 ≤ length (now table)) × (mostListing ≤ length (now out)) ⌝ }
+    requires { ⌜ (tableLength mostNodes ≤ length (now table)) × (mostListing ≤ length (now out)) ⌝ }
     ensures { λ r. ⌜ Reported (now (sheet .entry)) (now (table .entry)) (now (out .entry)) (now (table .exit)) (now (out .exit)) r ⌝ }
 {
     let size = report(sheet, table, out);

@@ -8,7 +8,7 @@ use borrow.Author.Tests.{leb-false}
 use Rattle.sheet.specs.declared.Sections.{Sections}
 use Rattle.sheet.specs.Sections.{nodeCount}
 use Rattle.answer.specs.Answer.{input, state, Answer, accepted, refused, lowest}
-use Rattle.answer.proofs.Lowest.{lowest-clear, lowest-stop, clear-at}
+use Rattle.answer.proofs.Lowest.{lowest-clear, lowest-stop, clear-of}
 use Rattle.judgement.specs.Judgement.{Accepted}
 use Rattle.calls.specs.Tables.{wrongLength}
 use Rattle.calls.specs.Routes.{nodeOutside, tableRefusals, foundRoute, routeAnswer, leftBy, bufferAfter, TableKnown}
@@ -22,9 +22,9 @@ pub node-below : (b : List ℕ) (node : ℕ) → nodeOutside b node ≡ false �
 unfolding nodeOutside
 node-below b node e = leb-false (nodeCount b) node e
 
-pub table-ready : {b table : List ℕ} {at : Sections} → Fitting b at table → lowest (tableRefusals b table) accepted ≡ accepted → Ready b at table
+pub table-ready : {b table : List ℕ} {sections : Sections} → Fitting b sections table → lowest (tableRefusals b table) accepted ≡ accepted → Ready b sections table
 unfolding tableRefusals
-table-ready {b} {table} fitting e = record { fitting = fitting; passed = clear-at (tableRefusals b table) e 2 }
+table-ready {b} {table} fitting e = record { fitting = fitting; passed = clear-of (tableRefusals b table) e 24 }
 
 -- a number other than 0 is a refusal
 a-refusal : (n : ℕ) → n ≢ 0 → stateNumbered n ≡ refused (state n)

@@ -13,8 +13,8 @@ use Rattle.calls.specs.Routes.{notShortest, routeTo}
 use Rattle.table.specs.Fitting.{Fitting}
 
 -- 24 does not apply
-pub record Ready (b : List ℕ) (at : Sections) (table : List ℕ) : Type 0 where
-  pub fitting : Fitting b at table
+pub record Ready (b : List ℕ) (sections : Sections) (table : List ℕ) : Type 0 where
+  pub fitting : Fitting b sections table
   pub passed : notShortest b table ≡ false
 
 -- a node that is reached
@@ -23,8 +23,8 @@ pub record Reached (b table : List ℕ) (v : ℕ) : Type 0 where
   pub labelled : labelIn table v ≢ top
 
 -- a reached node, how many arcs its route has, and a buffer with room for them
-pub record RouteLent (b : List ℕ) (at : Sections) (table : List ℕ) (v arcs : ℕ) (buffer : List ℕ) : Type 0 where
-  pub ready : Ready b at table
+pub record RouteLent (b : List ℕ) (sections : Sections) (table : List ℕ) (v arcs : ℕ) (buffer : List ℕ) : Type 0 where
+  pub ready : Ready b sections table
   pub reached : Reached b table v
   pub counted : arcs ≡ length (routeTo b table v)
   pub room : arcs ≤ length buffer

@@ -4,7 +4,7 @@ ghost use Prim.Native.Nat.{_≤_, _<_};
 ghost use Rattle.sheet.specs.Words.{words};
 ghost use Rattle.sheet.specs.Sections.{nodeCount};
 ghost use Rattle.calls.specs.Routes.{nodeOutside, foundRoute, leftBy};
-ghost use Rattle.answer.specs.RouteSaid.{said};
+ghost use Rattle.answer.specs.Said.{routeSaid};
 ghost use Rattle.route.specs.Ready.{Ready};
 use answer::Fault;
 use answer::routed::Routed;
@@ -20,19 +20,25 @@ pub fn node_outside(s: &[u8], node: u32) -> bool
 }
 
 // The route to a node, in a table to which no refusal applies.
-pub fn find_route(s: &[u8], at: Sections, table: &[u32], v: Node, buffer: &mut [u32]) -> Routed
-    requires { ⌜ Ready (now s) at (now table) × (v .0 < nodeCount (now s)) ⌝ }
-    ensures { λ r. ⌜ (said r ≡ foundRoute (now (s .entry)) (now (table .entry)) (v .0) (now (buffer .entry)))
-        × (now (buffer .exit) ≡ leftBy (now (s .entry)) (now (table .entry)) (said r) (v .0) (now (buffer .entry))) ⌝ }
+pub fn find_route(
+    s: &[u8],
+    sections: Sections,
+    table: &[u32],
+    v: Node,
+    buffer: &mut [u32],
+) -> Routed
+    requires { ⌜ Ready (now s) sections (now table) × (v .0 < nodeCount (now s)) ⌝ }
+    ensures { λ r. ⌜ (routeSaid r ≡ foundRoute (now (s .entry)) (now (table .entry)) (v .0) (now (buffer .entry)))
+        × (now (buffer .exit) ≡ leftBy (now (s .entry)) (now (table .entry)) (routeSaid r) (v .0) (now (buffer .entry))) ⌝ }
 {
-    if table::read::label_of(table, v) == table::read::NONE {
+    if table::read::label_of(table, v) == sheet::NONE {
         return Routed::NoRoute;
     }
-    let arcs = crate::arcs::count_arcs(s, at, table, v);
+    let arcs = crate::arcs::count_arcs(s, sections, table, v);
     if buffer.len() < arcs {
         return Routed::Refused(Fault::State(25));
     }
     let count = arcs as u32;
-    crate::arcs::write_arcs(s, at, table, v, arcs, buffer);
+    crate::arcs::write_arcs(s, sections, table, v, arcs, buffer);
     Routed::Route(count)
 }

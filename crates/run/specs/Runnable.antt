@@ -8,11 +8,11 @@ use Rattle.judgement.specs.Judgement.{Accepted}
 use Rattle.calls.specs.Tables.{tableLength}
 use Rattle.run_layout.specs.declared.sizes.Sizes.{Sizes}
 use Rattle.run_layout.specs.InUse.{InUse}
-use Rattle.run_arrays.specs.Tables.{Tables}
+use Rattle.run_arrays.specs.Fixed.{Fixed}
 use Rattle.run_layout.specs.Layout.{Laid}
 
 -- the sheet is accepted, its sizes are known, it is laid out in t, and the table has its length
-pub record Runnable (b : List ℕ) (sizes : Sizes) (t : Tables) (table : List ℕ) : Type 0 where
+pub record Runnable (b : List ℕ) (sizes : Sizes) (t : Fixed) (table : List ℕ) : Type 0 where
   pub accepted : Accepted b
   pub sized : length table ≡ tableLength (nodeCount b)
   pub in-use : InUse b sizes

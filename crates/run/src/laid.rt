@@ -1,5 +1,5 @@
 // The run of what is laid out: started, worked for at most so many rounds, and written into the table.
-ghost use Rattle.run_arrays.specs.Tables.{tablesOf};
+ghost use Rattle.run_arrays.specs.Fixed.{fixedOf};
 ghost use Rattle.run.specs.Runnable.{Runnable};
 ghost use Rattle.run.specs.Outcome.{Outcome};
 use run_arrays::slices::ARCS;
@@ -10,7 +10,7 @@ use run_arrays::slices::ROWS;
 use run_layout::sizes::Sizes;
 
 // Runs what is laid out for at most `limit` rounds and writes the table. Whether the run has ended.
-pub fn run_tables(
+pub fn run_laid(
     s: &[u8],
     sizes: Sizes,
     rows: &[u16; ROWS],
@@ -22,7 +22,7 @@ pub fn run_tables(
     limit: u64,
     table: &mut [u32],
 ) -> bool
-    requires { ⌜ Runnable (now s) sizes (tablesOf (now rows) (now arcs) (now firsts) (now lengths) (now spans) (now regions)) (now table) ⌝ }
+    requires { ⌜ Runnable (now s) sizes (fixedOf (now rows) (now arcs) (now firsts) (now lengths) (now spans) (now regions)) (now table) ⌝ }
     ensures { λ e. ⌜ Outcome (now (s .entry)) limit e (now (table .exit)) ⌝ }
 {
     let mut labels = [0u32; NODES];
@@ -41,7 +41,7 @@ pub fn run_tables(
         source,
         sizes.regions as u16,
     );
-    let counts = run_engine::rounds::rounds(
+    let counts = run_engine::rounds::run_rounds(
         rows,
         arcs,
         firsts,

@@ -1,5 +1,5 @@
 // The two run calls: a sheet run to its end, or for at most so many rounds.
-pub mod execution;
+pub mod arrays;
 pub mod laid;
 
 ghost use mathlib.Core.Path.{_≡_};
@@ -10,7 +10,7 @@ ghost use Rattle.judgement.specs.Judgement.{Accepted};
 ghost use Rattle.procedure.specs.Procedure.{enoughRounds};
 ghost use Rattle.calls.specs.Tables.{tableLength, statusSays, statusIn};
 ghost use Rattle.calls.specs.Runs.{runAnswer, tableAfter, Delivered};
-ghost use Rattle.answer.specs.RunSaid.{said};
+ghost use Rattle.answer.specs.Said.{runSaid};
 use answer::Fault;
 pub use answer::ran::Ran;
 use judge::Judged;
@@ -21,19 +21,19 @@ const ENOUGH_ROUNDS: u64 = 72057594037927936;
 // Runs an accepted sheet for at most `limit` rounds.
 fn run_accepted(sheet: &[u8], limit: u64, table: &mut [u32]) -> Ran
     requires { ⌜ Accepted (now sheet) ⌝ }
-    ensures { λ r. ⌜ (said r ≡ runAnswer (now (sheet .entry)) limit (now (table .entry)))
+    ensures { λ r. ⌜ (runSaid r ≡ runAnswer (now (sheet .entry)) limit (now (table .entry)))
         × (now (table .exit) ≡ tableAfter (now (sheet .entry)) limit (now (table .entry))) ⌝ }
 {
     if table::read::wrong_length(sheet, table) {
         return Ran::Refused(Fault::State(21));
     }
-    let at = sheet::scan::find_sections(sheet);
-    answer::ran::status(crate::execution::run_accepted(sheet, at, limit, table))
+    let sections = sheet::scan::find_sections(sheet);
+    answer::ran::of_status(crate::arrays::run_in_arrays(sheet, sections, limit, table))
 }
 
 // Runs a sheet for at most `limit` rounds.
-fn run_rounds(sheet: &[u8], limit: u64, table: &mut [u32]) -> Ran
-    ensures { λ r. ⌜ (said r ≡ runAnswer (now (sheet .entry)) limit (now (table .entry)))
+fn run_judged(sheet: &[u8], limit: u64, table: &mut [u32]) -> Ran
+    ensures { λ r. ⌜ (runSaid r ≡ runAnswer (now (sheet .entry)) limit (now (table .entry)))
         × (now (table .exit) ≡ tableAfter (now (sheet .entry)) limit (now (table .entry))) ⌝ }
 {
     let judged = judge::judge(sheet);
@@ -46,22 +46,22 @@ fn run_rounds(sheet: &[u8], limit: u64, table: &mut [u32]) -> Ran
 // Runs a sheet to its end: the answer, and every word of the table afterwards. Where the sheet is accepted and the table has the right length, the
 // run has ended, its table is left as ended, its counts are small and its distances are shortest.
 pub fn run(sheet: &[u8], table: &mut [u32]) -> Ran
-    ensures { λ r. ⌜ (said r ≡ runAnswer (now (sheet .entry)) enoughRounds (now (table .entry)))
+    ensures { λ r. ⌜ (runSaid r ≡ runAnswer (now (sheet .entry)) enoughRounds (now (table .entry)))
         × (now (table .exit) ≡ tableAfter (now (sheet .entry)) enoughRounds (now (table .entry)))
         × (Accepted (now (sheet .entry)) → length (now (table .entry)) ≡ tableLength (nodeCount (now (sheet .entry)))
-        → Delivered (now (sheet .entry)) enoughRounds (now (table .exit)) × (said r ≡ ended) × (statusIn (now (table .exit)) ≡ 1)) ⌝ }
+        → Delivered (now (sheet .entry)) enoughRounds (now (table .exit)) × (runSaid r ≡ ended) × (statusIn (now (table .exit)) ≡ 1)) ⌝ }
 {
-    run_rounds(sheet, ENOUGH_ROUNDS, table)
+    run_judged(sheet, ENOUGH_ROUNDS, table)
 }
 
 // Runs a sheet for at most so many rounds: the answer, and every word of the table afterwards. Where the sheet is accepted and the table has the
 // right length, the table is what those rounds have reached and the answer what it says, its counts are small, and where it is left as ended its
 // distances are shortest.
 pub fn run_limited(sheet: &[u8], rounds: u32, table: &mut [u32]) -> Ran
-    ensures { λ r. ⌜ (said r ≡ runAnswer (now (sheet .entry)) rounds (now (table .entry)))
+    ensures { λ r. ⌜ (runSaid r ≡ runAnswer (now (sheet .entry)) rounds (now (table .entry)))
         × (now (table .exit) ≡ tableAfter (now (sheet .entry)) rounds (now (table .entry)))
         × (Accepted (now (sheet .entry)) → length (now (table .entry)) ≡ tableLength (nodeCount (now (sheet .entry)))
-        → Delivered (now (sheet .entry)) rounds (now (table .exit)) × (said r ≡ statusSays (statusIn (now (table .exit))))) ⌝ }
+        → Delivered (now (sheet .entry)) rounds (now (table .exit)) × (runSaid r ≡ statusSays (statusIn (now (table .exit))))) ⌝ }
 {
-    run_rounds(sheet, rounds as u64, table)
+    run_judged(sheet, rounds as u64, table)
 }

@@ -1,5 +1,5 @@
 pub mod Rows
 pub mod Links
 pub mod Trees
-pub mod Tables
+pub mod Fixed
 pub mod States

@@ -26,8 +26,8 @@ module _ (column : ℕ → ℕ) where
     pub nexts : (a : ℕ) → a < m → next a ≡ nextFrom m (column a) (a + 1)
 
   -- step a, if the column has v at a
-  abbrev pub stepAt {ℓ} : {S : Type ℓ} → ℕ → (ℕ → S → S) → ℕ → S → S
-  stepAt v step a s = let stepped = step a s in if eqb (column a) v then stepped else s
+  abbrev pub stepFrom {ℓ} : {S : Type ℓ} → ℕ → (ℕ → S → S) → ℕ → S → S
+  stepFrom v step a s = let stepped = step a s in if eqb (column a) v then stepped else s
 
 -- arcs that can be linked: each tail is one of the nodes that have a first arc
 pub record Linkable (arcs firsts : List ℕ) : Type 0 where

@@ -1,4 +1,4 @@
--- The slices that a run changes, with the tables, as a state of the procedure; and what each function asks and gives. Definitions.
+-- The slices that a run changes, with what is fixed, as a state of the procedure; and what each function asks and gives. Definitions.
 use Prim.Native.Nat.{ℕ, _^_, _≤_, _<_}
 use mathlib.Core.Bool.{true, false}
 use mathlib.Core.Path.{_≡_}
@@ -10,11 +10,11 @@ use Rattle.procedure.specs.Division.{Division, regions, parent, isLeaf}
 use Rattle.procedure.specs.State.{Queues, State}
 use Rattle.procedure.specs.Queues.{update, updateArc, updateOutgoing}
 use Rattle.procedure.specs.Procedure.{processLeaf, process, after}
-use Rattle.procedure.specs.WellFormed.{GraphOk, DivisionOk}
+use Rattle.theory_shortest.specs.WellFormed.{GraphOk, DivisionOk}
 use Rattle.theory.specs.Counts.{Small}
 use Rattle.run_counts.specs.declared.Counts.{Counts}
 use Rattle.run_arrays.specs.Trees.{Planned, QueuesOk}
-use Rattle.run_arrays.specs.Tables.{Tables, tablesOf, ArcRows, ArcLinks, RegionRows, Tabled}
+use Rattle.run_arrays.specs.Fixed.{Fixed, fixedOf, ArcRows, ArcLinks, RegionRows, FixedOk}
 
 -- the queues and the state that the slices and the counts are
 abbrev pub queuesOf : List ℕ → List ℕ → ℕ → Queues
@@ -84,27 +84,27 @@ pub record Keyed (m : ℕ) (d : Division) (rows regionRows own keys winners : Li
 -- THE PROCEDURE
 
 -- The slices represent a well-formed graph, division and spans, and the state s of them.
-pub record Represents (g : Graph) (d : Division) (t : Tables) (s : State) (winners : List ℕ) : Type 0 where
-  pub tabled : Tabled g d t
+pub record Represents (g : Graph) (d : Division) (t : Fixed) (s : State) (winners : List ℕ) : Type 0 where
+  pub fixed : FixedOk g d t
   pub labelled : length (s .labels) ≡ g .nodes
   pub fed : length (s .predecessors) ≡ g .nodes
   pub owned : length (s .queues .own) ≡ arcs g
   pub queues : QueuesOk d (t .rows) (s .queues .keys) winners
 
 -- What is asked of the working of region r, whose result is `defined`: a represented state, and that the counts fit.
-pub record Processing (g : Graph) (d : Division) (t : Tables) (s : State) (winners : List ℕ) (r : ℕ) (defined : State) : Type 0 where
+pub record Processing (g : Graph) (d : Division) (t : Fixed) (s : State) (winners : List ℕ) (r : ℕ) (defined : State) : Type 0 where
   pub represents : Represents g d t s winners
   pub in-range : r < regions d
   pub small : Small defined
 
 -- The state is as defined, and represented by the slices.
-pub record Computed (g : Graph) (d : Division) (t : Tables) (defined s : State) (winners : List ℕ) : Type 0 where
+pub record Computed (g : Graph) (d : Division) (t : Fixed) (defined s : State) (winners : List ℕ) : Type 0 where
   pub result : s ≡ defined
   pub represents : Represents g d t s winners
 
--- What is asked before the start: tables, with trees that are planned.
-pub record Blank (g : Graph) (d : Division) (t : Tables) : Type 0 where
-  pub tabled : Tabled g d t
+-- What is asked before the start: what is fixed, with trees that are planned.
+pub record Blank (g : Graph) (d : Division) (t : Fixed) : Type 0 where
+  pub fixed : FixedOk g d t
   pub planned : Planned d (t .rows)
 
 -- WHAT EACH CALL ASKS: that some graph, division and keys stand behind its arrays
@@ -144,10 +144,10 @@ pub record SomeLeaf (rows arcRows firsts lengths regionRows labels predecessors 
   pub spans : List ℕ
   pub keys : List ℕ
   pub processing : let s = stateIn graph labels predecessors own keys c in
-      Processing graph division (tablesOf rows arcRows firsts lengths spans regionRows) s winners r (processLeaf graph division r s)
+      Processing graph division (fixedOf rows arcRows firsts lengths spans regionRows) s winners r (processLeaf graph division r s)
   pub leaf : isLeaf division r ≡ true
 
-module _ (t : Tables) (labels predecessors own winners : List ℕ) where
+module _ (t : Fixed) (labels predecessors own winners : List ℕ) where
   -- `process_region`
   pub record SomeRegion (r : ℕ) (c : Counts) : Type 0 where
     pub graph : Graph
@@ -163,7 +163,7 @@ module _ (t : Tables) (labels predecessors own winners : List ℕ) where
     pub processing : let s = stateIn graph labels predecessors own keys c in Processing graph division t s winners r (process graph division (t .spans) r s)
     pub inner : isLeaf division r ≡ false
 
-  -- `rounds`, after so many of them
+  -- `run_rounds`, after so many of them
   pub record SomeRounds (c : Counts) : Type 0 where
     pub graph : Graph
     pub division : Division
@@ -179,6 +179,6 @@ pub record SomeBlank (rows arcRows firsts : List ℕ) (source count : ℕ) : Typ
   pub lengths : List ℕ
   pub spans : List ℕ
   pub regionRows : List ℕ
-  pub blank : Blank graph division (tablesOf rows arcRows firsts lengths spans regionRows)
+  pub blank : Blank graph division (fixedOf rows arcRows firsts lengths spans regionRows)
   pub at-source : source ≡ graph .source
   pub all-regions : count ≡ regions division

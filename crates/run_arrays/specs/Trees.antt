@@ -73,7 +73,7 @@ pub record ParentsOf (d : Division) (parents : List ℕ) : Type 0 where
   pub same : (c : ℕ) → 0 < c → c < regions d → at parents c ≡ parent d c
 
 -- The rows of the regions, as far as parent and number of children go. The list may be longer.
-pub record Counted (d : Division) (rows : List ℕ) : Type 0 where
+pub record ChildrenCounted (d : Division) (rows : List ℕ) : Type 0 where
   pub numbered : Numbered d
   pub all : 4 * regions d ≤ length rows
   pub parents : (c : ℕ) → 0 < c → c < regions d → field rows c 0 ≡ parent d c
@@ -81,7 +81,7 @@ pub record Counted (d : Division) (rows : List ℕ) : Type 0 where
 
 -- The rows while they are filled: the last entry is how many siblings have a lower number,
 pub record Ranked (d : Division) (rows : List ℕ) : Type 0 where
-  pub counted : Counted d rows
+  pub counted : ChildrenCounted d rows
   pub ranks : (c : ℕ) → 0 < c → c < regions d → field rows c 3 ≡ lowerSiblings d c
 
 -- and then the third is where the tree begins.
@@ -91,7 +91,7 @@ pub record Started (d : Division) (rows : List ℕ) : Type 0 where
 
 -- The rows of the regions: parent, number of children, where the tree begins, place in the parent's tree.
 pub record Planned (d : Division) (rows : List ℕ) : Type 0 where
-  pub counted : Counted d rows
+  pub counted : ChildrenCounted d rows
   pub starts : (r : ℕ) → r < regions d → field rows r 2 ≡ treeStart d r
   pub seats : (c : ℕ) → 0 < c → c < regions d → field rows c 3 ≡ seat d c
 
@@ -101,7 +101,7 @@ pub record LaidOut (d : Division) (rows winners : List ℕ) : Type 0 where
   pub room : 2 * regions d ≤ length winners
 
 -- The children are entered: there is a key of 32 bits for each region, and each region but 0 stands with its key at its place in its parent's tree.
-pub record Entered (d : Division) (rows keys winners : List ℕ) : Type 0 where
+pub record Seated (d : Division) (rows keys winners : List ℕ) : Type 0 where
   pub laid : LaidOut d rows winners
   pub keyed : length keys ≡ regions d
   pub fit : (c : ℕ) → at keys c < 4294967296
@@ -109,12 +109,12 @@ pub record Entered (d : Division) (rows keys winners : List ℕ) : Type 0 where
 
 -- The queues are valid: the children are entered, and every place above them holds what it should.
 pub record QueuesOk (d : Division) (rows keys winners : List ℕ) : Type 0 where
-  pub entered : Entered d rows keys winners
+  pub seated : Seated d rows keys winners
   pub wins : (r p : ℕ) → 0 < p → p < childCount d r → Wins d winners r p
 
 -- The same of the trees of the regions below n alone.
 pub record ValidBelow (d : Division) (rows keys winners : List ℕ) (n : ℕ) : Type 0 where
-  pub entered : Entered d rows keys winners
+  pub seated : Seated d rows keys winners
   pub wins : (r p : ℕ) → r < n → 0 < p → p < childCount d r → Wins d winners r p
 
 -- WHAT A CALL ASKS: that some division, and keys, stand behind the rows and the places
@@ -122,7 +122,7 @@ pub record ValidBelow (d : Division) (rows keys winners : List ℕ) (n : ℕ) : 
 -- a region other than 0, whose row has its parent
 pub record SomeParent (rows : List ℕ) (c : ℕ) : Type 0 where
   pub division : Division
-  pub counted : Counted division rows
+  pub counted : ChildrenCounted division rows
   pub positive : 0 < c
   pub inside : c < regions division
 

@@ -24,16 +24,16 @@ pub fn field(rows: &[u16], i: u16, k: usize) -> u16
     requires { ⌜ (k < 4) × (i < rowCount (now rows)) ⌝ }
     ensures { λ x. ⌜ x ≡ field (now (rows .entry)) i k ⌝ }
 {
-    let at = 4 * (i as usize) + k;
-    rows[at]
+    let place = 4 * (i as usize) + k;
+    rows[place]
 }
 
 pub fn set_field(rows: &mut [u16], i: u16, k: usize, x: u16)
     requires { ⌜ (k < 4) × (i < rowCount (now rows)) ⌝ }
     ensures { λ _. ⌜ now (rows .exit) ≡ set (now (rows .entry)) (4 * i + k) x ⌝ }
 {
-    let at = 4 * (i as usize) + k;
-    rows[at] = x;
+    let place = 4 * (i as usize) + k;
+    rows[place] = x;
 }
 
 pub fn tail_of(arcs: &[u16], a: Arc) -> Node

@@ -1,9 +1,9 @@
-// The slices that a run reads and changes: what they represent, in specs/, and how their entries are read and written.
+// The arrays that a run reads and changes: what they represent, in specs/, and how their entries are read and written.
 ghost use mathlib.Core.Path.{_≡_};
 ghost use Prim.Native.Nat.{_+_, _-_, _*_, _≤_, _<_};
 ghost use lib.ListN.{length, set};
 ghost use Rattle.indices.specs.Columns.{at};
-ghost use Rattle.run_arrays.specs.Tables.{arcEntry, heightEntry};
+ghost use Rattle.run_arrays.specs.Fixed.{arcEntry, heightEntry};
 use sheet::Arc;
 use sheet::Node;
 use sheet::Region;
@@ -13,19 +13,19 @@ pub const INNER: u16 = 65535;
 
 // The lengths of a run's arrays, which have room for the largest sheet: an entry for each node, arc and region; rows of four of the arcs, and of the regions
 // for the queues; rows of two of the regions, arc and height; two places of the trees for each region.
-pub const NODES: usize = 1024;
+pub const NODES: usize = sheet::NODE_NUMBERS;
 
-pub const ARCS: usize = 2048;
+pub const ARCS: usize = sheet::MOST_ARCS;
 
-pub const REGIONS: usize = 4095;
+pub const REGIONS: usize = sheet::MOST_REGION_WORDS + 1;
 
-pub const ARC_ROWS: usize = 8192;
+pub const ARC_ROWS: usize = 4 * ARCS;
 
-pub const ROWS: usize = 16380;
+pub const ROWS: usize = 4 * REGIONS;
 
-pub const REGION_ROWS: usize = 8190;
+pub const REGION_ROWS: usize = 2 * REGIONS;
 
-pub const PLACES: usize = 8190;
+pub const PLACES: usize = 2 * REGIONS;
 
 // The arc of region r, INNER where it is inner.
 pub fn arc_of(regions: &[u16], r: Region) -> Arc

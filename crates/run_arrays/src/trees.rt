@@ -4,7 +4,7 @@ ghost use Prim.Native.Nat.{min, _+_, _*_, _<_};
 ghost use lib.ListN.{length};
 ghost use Rattle.procedure.specs.Division.{Division, regions, parent};
 ghost use Rattle.run_arrays.specs.Rows.{field, rowCount};
-ghost use Rattle.run_arrays.specs.Trees.{Siblings, Decided, Counted, SomeParent};
+ghost use Rattle.run_arrays.specs.Trees.{Siblings, Decided, ChildrenCounted, SomeParent};
 use sheet::Region;
 
 // The entries of a region's row.
@@ -19,7 +19,7 @@ pub const SEAT: usize = 3;
 // The parent of a region other than 0.
 pub fn parent_of(rows: &[u16], r: Region) -> Region
     requires { ⌜ SomeParent (now rows) (r .0) ⌝ }
-    ensures { λ p. ⌜ ((d : Division) → Counted d (now (rows .entry)) → r .0 < regions d → p .0 ≡ parent d (r .0)) ⌝ }
+    ensures { λ p. ⌜ ((d : Division) → ChildrenCounted d (now (rows .entry)) → r .0 < regions d → p .0 ≡ parent d (r .0)) ⌝ }
 {
     Region(crate::rows::field(rows, r.0, PARENT))
 }

@@ -6,7 +6,7 @@ ghost use Prim.Native.Nat.{ℕ, _<_};
 ghost use Rattle.procedure.specs.Graph.{Graph};
 ghost use Rattle.procedure.specs.Division.{Division, isLeaf};
 ghost use Rattle.procedure.specs.Procedure.{processLeaf};
-ghost use Rattle.run_arrays.specs.Tables.{tablesOf};
+ghost use Rattle.run_arrays.specs.Fixed.{fixedOf};
 ghost use Rattle.run_arrays.specs.States.{stateIn, Processing, Computed, SomeLeaf};
 use run_arrays::slices::ARCS;
 use run_arrays::slices::NODES;
@@ -14,7 +14,7 @@ use run_arrays::slices::PLACES;
 use run_arrays::slices::REGION_ROWS;
 use run_arrays::slices::ROWS;
 use run_counts::Counts;
-use run_queue::NONE;
+use sheet::NONE;
 use sheet::Region;
 
 fn wide(x: u32) -> u64
@@ -39,7 +39,7 @@ pub fn process_leaf(
 ) -> Counts
     requires { ⌜ SomeLeaf (now rows) (now arcs) (now firsts) (now lengths) (now regions) (now labels) (now predecessors) (now own) (now winners) (r .0) c ⌝ }
     ensures { λ n. ⌜ ((g : Graph) (d : Division) (spans keys : List ℕ)
-        → let t = tablesOf (now (rows .entry)) (now (arcs .entry)) (now (firsts .entry)) (now (lengths .entry)) spans (now (regions .entry)) in
+        → let t = fixedOf (now (rows .entry)) (now (arcs .entry)) (now (firsts .entry)) (now (lengths .entry)) spans (now (regions .entry)) in
         let s = stateIn g (now (labels .entry)) (now (predecessors .entry)) (now (own .entry)) keys c in
         Processing g d t s (now (winners .entry)) (r .0) (processLeaf g d (r .0) s) → isLeaf d (r .0) ≡ true
         → ((keys′ : List ℕ) × Computed g d t (processLeaf g d (r .0) s)

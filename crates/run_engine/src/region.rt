@@ -1,5 +1,5 @@
 // The working of a region, over slices and arrays that the caller lends. Each function computes its definition.
-// What a run only reads lies in rows, so that six tables hold it all. An array is one word of every call, a slice two.
+// What a run only reads lies in rows, so that six arrays hold it all.
 ghost use mathlib.Core.Path.{_≡_};
 ghost use mathlib.Core.Bool.{false};
 ghost use mathlib.Core.List.{List};
@@ -9,7 +9,7 @@ ghost use Rattle.procedure.specs.Graph.{Graph};
 ghost use Rattle.procedure.specs.Division.{Division, isLeaf};
 ghost use Rattle.procedure.specs.Queues.{minKey};
 ghost use Rattle.procedure.specs.Procedure.{process};
-ghost use Rattle.run_arrays.specs.Tables.{tablesOf};
+ghost use Rattle.run_arrays.specs.Fixed.{fixedOf};
 ghost use Rattle.run_arrays.specs.States.{queuesOf, stateIn, Keyed, Processing, Computed, SomeKeyed, SomeRegion, SomeInner};
 use run_arrays::slices::ARCS;
 use run_arrays::slices::INNER;
@@ -18,7 +18,7 @@ use run_arrays::slices::PLACES;
 use run_arrays::slices::REGION_ROWS;
 use run_arrays::slices::ROWS;
 use run_counts::Counts;
-use run_queue::NONE;
+use sheet::NONE;
 use sheet::Region;
 
 // The smallest key of any region.
@@ -57,9 +57,9 @@ fn process_region(
     r: Region,
     c: Counts,
 ) -> Counts
-    requires { ⌜ SomeRegion (tablesOf (now rows) (now arcs) (now firsts) (now lengths) (now spans) (now regions)) (now labels) (now predecessors) (now own)
+    requires { ⌜ SomeRegion (fixedOf (now rows) (now arcs) (now firsts) (now lengths) (now spans) (now regions)) (now labels) (now predecessors) (now own)
         (now winners) (r .0) c ⌝ }
-    ensures { λ n. ⌜ (let t = tablesOf (now (rows .entry)) (now (arcs .entry)) (now (firsts .entry)) (now (lengths .entry)) (now (spans .entry))
+    ensures { λ n. ⌜ (let t = fixedOf (now (rows .entry)) (now (arcs .entry)) (now (firsts .entry)) (now (lengths .entry)) (now (spans .entry))
         (now (regions .entry)) in
         (g : Graph) (d : Division) (keys : List ℕ) → let s = stateIn g (now (labels .entry)) (now (predecessors .entry)) (now (own .entry)) keys c in
         Processing g d t s (now (winners .entry)) (r .0) (process g d (t .spans) (r .0) s)
@@ -113,9 +113,9 @@ pub fn process_inner(
     r: Region,
     c: Counts,
 ) -> Counts
-    requires { ⌜ SomeInner (tablesOf (now rows) (now arcs) (now firsts) (now lengths) (now spans) (now regions)) (now labels) (now predecessors) (now own)
+    requires { ⌜ SomeInner (fixedOf (now rows) (now arcs) (now firsts) (now lengths) (now spans) (now regions)) (now labels) (now predecessors) (now own)
         (now winners) (r .0) c ⌝ }
-    ensures { λ n. ⌜ (let t = tablesOf (now (rows .entry)) (now (arcs .entry)) (now (firsts .entry)) (now (lengths .entry)) (now (spans .entry))
+    ensures { λ n. ⌜ (let t = fixedOf (now (rows .entry)) (now (arcs .entry)) (now (firsts .entry)) (now (lengths .entry)) (now (spans .entry))
         (now (regions .entry)) in
         (g : Graph) (d : Division) (keys : List ℕ) → let s = stateIn g (now (labels .entry)) (now (predecessors .entry)) (now (own .entry)) keys c in
         Processing g d t s (now (winners .entry)) (r .0) (process g d (t .spans) (r .0) s) → isLeaf d (r .0) ≡ false

@@ -8,7 +8,7 @@ ghost use Rattle.procedure.specs.Graph.{Graph};
 ghost use Rattle.procedure.specs.Division.{Division, regions, isLeaf};
 ghost use Rattle.procedure.specs.Procedure.{ended, start, round, after};
 ghost use Rattle.run_arrays.specs.Trees.{QueuesOk, SomeQueue};
-ghost use Rattle.run_arrays.specs.Tables.{tablesOf};
+ghost use Rattle.run_arrays.specs.Fixed.{fixedOf};
 ghost use Rattle.run_arrays.specs.States.{stateOf, stateIn, Represents, Computed, Blank, SomeBlank, SomeRounds};
 use run_arrays::slices::ARCS;
 use run_arrays::slices::NODES;
@@ -16,7 +16,7 @@ use run_arrays::slices::PLACES;
 use run_arrays::slices::REGION_ROWS;
 use run_arrays::slices::ROWS;
 use run_counts::Counts;
-use run_queue::NONE;
+use sheet::NONE;
 use sheet::Node;
 use sheet::Region;
 
@@ -35,7 +35,7 @@ pub fn start(
 ) -> Counts
     requires { ⌜ SomeBlank (now rows) (now arcs) (now firsts) (source .0) count ⌝ }
     ensures { λ n. ⌜ ((g : Graph) (d : Division) (lengths spans regionRows : List ℕ)
-        → let t = tablesOf (now (rows .entry)) (now (arcs .entry)) (now (firsts .entry)) lengths spans regionRows in
+        → let t = fixedOf (now (rows .entry)) (now (arcs .entry)) (now (firsts .entry)) lengths spans regionRows in
         Blank g d t → source .0 ≡ g .source → count ≡ regions d
         → ((keys : List ℕ) × Computed g d t (start g d spans)
         (stateIn g (now (labels .exit)) (now (predecessors .exit)) (now (own .exit)) keys n) (now (winners .exit)))) ⌝ }
@@ -65,7 +65,7 @@ pub fn has_ended(rows: &[u16; ROWS], winners: &[u64; PLACES]) -> bool
 }
 
 // At most `limit` more rounds, from a state after any number of them. A round is one working of region 0, which is never a leaf.
-pub fn rounds(
+pub fn run_rounds(
     rows: &[u16; ROWS],
     arcs: &[u16],
     firsts: &[u16; NODES],
@@ -79,9 +79,9 @@ pub fn rounds(
     limit: u64,
     c: Counts,
 ) -> Counts
-    requires { ⌜ SomeRounds (tablesOf (now rows) (now arcs) (now firsts) (now lengths) (now spans) (now regions)) (now labels) (now predecessors) (now own)
+    requires { ⌜ SomeRounds (fixedOf (now rows) (now arcs) (now firsts) (now lengths) (now spans) (now regions)) (now labels) (now predecessors) (now own)
         (now winners) c ⌝ }
-    ensures { λ n. ⌜ (let t = tablesOf (now (rows .entry)) (now (arcs .entry)) (now (firsts .entry)) (now (lengths .entry)) (now (spans .entry))
+    ensures { λ n. ⌜ (let t = fixedOf (now (rows .entry)) (now (arcs .entry)) (now (firsts .entry)) (now (lengths .entry)) (now (spans .entry))
         (now (regions .entry)) in
         (g : Graph) (d : Division) (k : ℕ) (keys : List ℕ) → let s = stateIn g (now (labels .entry)) (now (predecessors .entry)) (now (own .entry)) keys c in
         Represents g d t s (now (winners .entry)) → s ≡ after g d (t .spans) k

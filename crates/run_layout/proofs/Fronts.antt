@@ -13,18 +13,17 @@ use Rattle.procedure.specs.Graph.{Graph}
 use Rattle.procedure.specs.Division.{Division}
 use Rattle.procedure.specs.OfSheet.{graphOf, divisionOf, spansOf}
 use Rattle.procedure.proofs.OfSheet.{graph-arcs, graph-lengths, spans-count}
-use Rattle.procedure.proofs.WellFormed.{accepted-well-formed}
+use Rattle.theory_shortest.proofs.WellFormed.{accepted-well-formed}
 use Rattle.run_arrays.specs.Trees.{Planned}
-use Rattle.run_arrays.specs.Tables.{ArcLinks, RegionRows, tablesOf}
+use Rattle.run_arrays.specs.Fixed.{ArcLinks, RegionRows, fixedOf}
 use Rattle.run_layout.specs.declared.sizes.Sizes.{Sizes}
 use Rattle.run_layout.specs.InUse.{InUse}
-use Rattle.run_layout.specs.Layout.{GraphLent, DivisionLent, ArcsLent, RegionsLent}
-use Rattle.run_layout.specs.Layout.{Laid, ArcsLaid, RegionsLaid, GraphLaid, DivisionLaid}
+use Rattle.run_layout.specs.Layout.{GraphLent, DivisionLent, ArcsLent, RegionsLent, Laid, ArcsLaid, RegionsLaid, GraphLaid, DivisionLaid}
 
 -- THE FRONTS IN USE
-module _ {b : List ℕ} {at : Sections} {z : Sizes} where
-  pub arcs-lent : {arcRows firsts lengths : List ℕ} → GraphLent b at z arcRows firsts lengths
-      → ArcsLent b at (take (4 * z .arcs) arcRows) (take (z .nodes) firsts)
+module _ {b : List ℕ} {sections : Sections} {z : Sizes} where
+  pub arcs-lent : {arcRows firsts lengths : List ℕ} → GraphLent b sections z arcRows firsts lengths
+      → ArcsLent b sections (take (4 * z .arcs) arcRows) (take (z .nodes) firsts)
   arcs-lent G = record {
     accepted = G .accepted;
     located = G .located;
@@ -32,8 +31,8 @@ module _ {b : List ℕ} {at : Sections} {z : Sizes} where
     each-node = length-take-le _ _ (G .node-room) ∙ G .in-use .nodes-all;
   }
 
-  pub regions-lent : {rows spans regionRows : List ℕ} (parents : List ℕ) → DivisionLent b at z rows spans regionRows → z .regions ≤ length parents
-      → RegionsLent b at (take (z .regions) parents) (take (4 * z .regions) rows) (take (2 * z .regions) regionRows)
+  pub regions-lent : {rows spans regionRows : List ℕ} (parents : List ℕ) → DivisionLent b sections z rows spans regionRows → z .regions ≤ length parents
+      → RegionsLent b sections (take (z .regions) parents) (take (4 * z .regions) rows) (take (2 * z .regions) regionRows)
   regions-lent parents D l = record {
     accepted = D .accepted;
     located = D .located;
@@ -107,9 +106,9 @@ module _ {b : List ℕ} {z : Sizes} (u : InUse b z) where
 
 -- THE WHOLE
 pub laid : {b rows arcRows firsts lengths spans regionRows : List ℕ} → Accepted b → GraphLaid b arcRows firsts lengths → DivisionLaid b rows spans regionRows
-    → Laid b (tablesOf rows arcRows firsts lengths spans regionRows)
+    → Laid b (fixedOf rows arcRows firsts lengths spans regionRows)
 laid {b} ok G D = record {
-  tabled = record {
+  fixed = record {
     ok = rw (D .each-span) (accepted-well-formed b ok);
     arc-rows = G .arcs-laid .arc-rows;
     links = G .arcs-laid .links;

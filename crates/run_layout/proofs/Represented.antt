@@ -1,6 +1,6 @@
 -- The slices that are laid out represent the graph and the division of an accepted sheet.
 use Prim.Native.Nat.{ℕ, _*_, _<_}
-use mathlib.Core.Bool.{true}
+use mathlib.Core.Bool.{Bool, true, false}
 use mathlib.Core.Path.{_≡_, refl, sym, ap, _∙_}
 use mathlib.Core.List.{List}
 use native.Mathlib.Omega.{arith}
@@ -13,22 +13,22 @@ use Rattle.sheet.specs.Sections.{nodeCount, source, arcCount, regionWords}
 use Rattle.sheet.specs.Arcs.{tail, head}
 use Rattle.sheet.specs.Regions.{regionCount, leafWord, arcWord, isLeaf, leafArc}
 use Rattle.judgement.specs.Judgement.{Accepted}
-use Rattle.judgement.specs.Nesting.{leafOfArc}
-use Rattle.judgement.proofs.Accepted.{few-arcs, few-nodes, source-in, tail-in, few-region-words, nesting, leaf-arc, one-leaf}
+use Rattle.judgement.specs.Division.{leafOfArc, childlessRegions}
+use Rattle.judgement.proofs.Accepted.{few-arcs, few-nodes, source-in, tail-in, few-region-words, parents-right, children-there, nesting, leaf-arc, one-leaf}
 use Rattle.procedure.specs.Graph.{arcs}
 use Rattle.procedure.specs.Division.{regions, arcOf, leafOf}
 use Rattle.procedure.specs.OfSheet.{graphOf, divisionOf}
-use Rattle.procedure.proofs.OfSheet.{graph-nodes, graph-arcs, graph-tail, graph-head}
-use Rattle.procedure.proofs.OfSheet.{division-regions, division-parent, division-arc, division-leaf, division-height}
-use Rattle.procedure.proofs.WellFormed.{accepted-well-formed}
+use Rattle.procedure.proofs.OfSheet.{graph-nodes, graph-arcs, graph-tail, graph-head, division-regions, division-parent, division-arc, division-leaf, division-height}
+use Rattle.theory_shortest.proofs.WellFormed.{accepted-well-formed}
+use Rattle.judge_division.specs.Heights.{Passable, HeightsFound}
 use Rattle.run_arrays.specs.Rows.{rowCount, rowTail, rowHead, rowLeaf}
 use Rattle.run_arrays.specs.Trees.{ParentsOf}
 use Rattle.run_arrays.specs.Links.{Linkable, Linked}
 use Rattle.run_queue.proofs.planning.Planning.{division-parents}
 use Rattle.run_arrays.proofs.rows.Links.{links-same}
-use Rattle.run_arrays.specs.Tables.{ArcRows, RegionRows}
+use Rattle.run_arrays.specs.Fixed.{ArcRows, RegionRows}
 use Rattle.run_layout.specs.Arcs.{EndsEntered, LeavesApart, LeavesEntered}
-use Rattle.run_layout.specs.Regions.{Nested, ParentsEntered, HeightsEntered}
+use Rattle.run_layout.specs.Regions.{Nested, ParentsEntered, RowsEntered}
 use Rattle.run_layout.specs.Layout.{ArcsLaid}
 use Rattle.run_layout.proofs.regions.Rows.{leaf-row, inner-row}
 
@@ -110,6 +110,14 @@ module _ (b : List ℕ) (ok : Accepted b) where
   pub nested : {d : List ℕ} → d ≡ regionWords b → Nested d
   nested e = rw e (record { few = few-region-words b ok; nesting = nesting b ok })
 
+  -- heights can be found, and are
+  pub passable : {d : List ℕ} → d ≡ regionWords b → Passable d
+  passable e = rw e (record { few = few-region-words b ok; parents = parents-right b ok })
+
+  pub heights-known : {d heights : List ℕ} {childless : Bool} → d ≡ regionWords b → childless ≡ childlessRegions d
+      → (childless ≡ false → HeightsFound d heights) → HeightsFound d heights
+  heights-known e told found = found (told ∙ ap childlessRegions e ∙ children-there b ok)
+
   pub parents-of : {d parents : List ℕ} → d ≡ regionWords b → ParentsEntered d parents → ParentsOf (divisionOf b) parents
   parents-of {d} {parents} e entered =
       let P = rw e at entered in
@@ -118,7 +126,7 @@ module _ (b : List ℕ) (ok : Accepted b) where
       let inside : c < regionCount (regionWords b) = omega (arith, division-regions b) in
       P .same c pos inside ∙ sym (division-parent b c inside))
 
-  pub region-rows : {d rows : List ℕ} → d ≡ regionWords b → HeightsEntered d rows → RegionRows (divisionOf b) rows
+  pub region-rows : {d rows : List ℕ} → d ≡ regionWords b → RowsEntered d rows → RegionRows (divisionOf b) rows
   region-rows {d} {rows} e entered = record {
     all = omega (arith, H .all, division-regions b);
     leaf =
@@ -130,7 +138,7 @@ module _ (b : List ℕ) (ok : Accepted b) where
     heights = λ r l. let inside = is-region r l in H .heights r inside ∙ sym (division-height b r inside);
   }
     where
-      H : HeightsEntered (regionWords b) rows
+      H : RowsEntered (regionWords b) rows
       H = rw e at entered
 
       is-region : (r : ℕ) → r < regions (divisionOf b) → r < regionCount (regionWords b)

@@ -5,7 +5,8 @@ use mathlib.Core.List.{List}
 use lib.ListN.{length}
 use Rattle.indices.specs.Columns.{at}
 use Rattle.sheet.specs.declared.Sections.{Sections}
-use Rattle.sheet.specs.Sections.{Located, nodeCount, arcCount, regionWords}
+use Rattle.sheet.specs.Sections.{nodeCount, arcCount, regionWords}
+use Rattle.sheet.specs.Inner.{Located}
 use Rattle.sheet.specs.Regions.{regionCount}
 use Rattle.judgement.specs.Judgement.{Accepted}
 use Rattle.run_layout.specs.declared.sizes.Sizes.{Sizes}
@@ -14,11 +15,11 @@ use Rattle.procedure.specs.Graph.{Graph, arcs, len}
 use Rattle.procedure.specs.Division.{Division}
 use Rattle.procedure.specs.OfSheet.{graphOf, divisionOf, spansOf}
 use Rattle.run_arrays.specs.Trees.{Planned}
-use Rattle.run_arrays.specs.Tables.{Tables, ArcRows, ArcLinks, RegionRows, Tabled}
+use Rattle.run_arrays.specs.Fixed.{Fixed, ArcRows, ArcLinks, RegionRows, FixedOk}
 
--- The tables represent the graph, the division and the spans of the sheet, and the trees of the queues are planned.
-pub record Laid (b : List ℕ) (t : Tables) : Type 0 where
-  pub tabled : Tabled (graphOf b) (divisionOf b) t
+-- The arrays represent the graph, the division and the spans of the sheet, and the trees of the queues are planned.
+pub record Laid (b : List ℕ) (t : Fixed) : Type 0 where
+  pub fixed : FixedOk (graphOf b) (divisionOf b) t
   pub planned : Planned (divisionOf b) (t .rows)
   pub spans : t .spans ≡ spansOf b
 
@@ -45,34 +46,34 @@ pub record DivisionLaid (b rows spans regionRows : List ℕ) : Type 0 where
 -- WHAT IS LENT, with an accepted sheet and the places of its sections
 
 -- slices with room for the sheet's graph
-pub record GraphLent (b : List ℕ) (at : Sections) (z : Sizes) (arcRows firsts lengths : List ℕ) : Type 0 where
+pub record GraphLent (b : List ℕ) (sections : Sections) (z : Sizes) (arcRows firsts lengths : List ℕ) : Type 0 where
   pub accepted : Accepted b
-  pub located : Located b at
+  pub located : Located b sections
   pub in-use : InUse b z
   pub arc-room : 4 * z .arcs ≤ length arcRows
   pub node-room : z .nodes ≤ length firsts
   pub length-room : z .arcs ≤ length lengths
 
 -- slices with room for its division
-pub record DivisionLent (b : List ℕ) (at : Sections) (z : Sizes) (rows spans regionRows : List ℕ) : Type 0 where
+pub record DivisionLent (b : List ℕ) (sections : Sections) (z : Sizes) (rows spans regionRows : List ℕ) : Type 0 where
   pub accepted : Accepted b
-  pub located : Located b at
+  pub located : Located b sections
   pub in-use : InUse b z
   pub row-room : 4 * z .regions ≤ length rows
   pub span-room : z .spans ≤ length spans
   pub region-room : 2 * z .regions ≤ length regionRows
 
 -- a row for each arc, and a first arc for each node
-pub record ArcsLent (b : List ℕ) (at : Sections) (arcRows firsts : List ℕ) : Type 0 where
+pub record ArcsLent (b : List ℕ) (sections : Sections) (arcRows firsts : List ℕ) : Type 0 where
   pub accepted : Accepted b
-  pub located : Located b at
+  pub located : Located b sections
   pub each-arc : length arcRows ≡ 4 * arcCount b
   pub each-node : length firsts ≡ nodeCount b
 
 -- a parent and the rows of each region
-pub record RegionsLent (b : List ℕ) (at : Sections) (parents rows regionRows : List ℕ) : Type 0 where
+pub record RegionsLent (b : List ℕ) (sections : Sections) (parents rows regionRows : List ℕ) : Type 0 where
   pub accepted : Accepted b
-  pub located : Located b at
+  pub located : Located b sections
   pub each-parent : length parents ≡ regionCount (regionWords b)
   pub each-row : length rows ≡ 4 * regionCount (regionWords b)
   pub each-region : length regionRows ≡ 2 * regionCount (regionWords b)

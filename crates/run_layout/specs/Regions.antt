@@ -7,9 +7,10 @@ use Rattle.indices.specs.Steps.{if_then_else_}
 use Rattle.indices.specs.Columns.{at}
 use Rattle.sheet.specs.Limits.{mostRegionWords}
 use Rattle.sheet.specs.Words.{words}
-use Rattle.sheet.specs.Heights.{Nesting}
+use Rattle.sheet.specs.Inner.{Nesting}
 use Rattle.sheet.specs.Regions.{regionCount, leafWord, arcWord, isLeaf, parent, height}
-use Rattle.run_arrays.specs.Tables.{noArc, arcEntry, heightEntry}
+use Rattle.judge_division.specs.Heights.{HeightsFound}
+use Rattle.run_arrays.specs.Fixed.{noArc, arcEntry, heightEntry}
 
 -- few region words, which nest
 pub record Nested (d : List ℕ) : Type 0 where
@@ -31,20 +32,14 @@ abbrev pub arcInRow : List ℕ → ℕ → ℕ
 arcInRow d zero = noArc
 arcInRow d (suc k) = if leafWord d k then arcWord d k else noArc
 
--- the regions' rows before any height is known
-pub record ArcsEntered (d regionRows : List ℕ) : Type 0 where
-  pub all : length regionRows ≡ 2 * regionCount d
-  pub arcs : (r : ℕ) → r < regionCount d → arcEntry regionRows r ≡ arcInRow d r
-  pub zeros : (r : ℕ) → r < regionCount d → heightEntry regionRows r ≡ 0
-
--- and with the heights
-pub record HeightsEntered (d regionRows : List ℕ) : Type 0 where
+-- the regions' rows
+pub record RowsEntered (d regionRows : List ℕ) : Type 0 where
   pub all : length regionRows ≡ 2 * regionCount d
   pub arcs : (r : ℕ) → r < regionCount d → arcEntry regionRows r ≡ arcInRow d r
   pub heights : (r : ℕ) → r < regionCount d → heightEntry regionRows r ≡ height d r
 
--- what the heights are entered from
-pub record HeightsLent (d parents regionRows : List ℕ) : Type 0 where
-  pub nested : Nested d
-  pub parents-in : ParentsEntered d parents
-  pub arcs-in : ArcsEntered d regionRows
+-- few region words, their heights, and a row for each region
+pub record RowsLent (d heights regionRows : List ℕ) : Type 0 where
+  pub few : words d ≤ mostRegionWords
+  pub found : HeightsFound d heights
+  pub each-row : length regionRows ≡ 2 * regionCount d

@@ -1,5 +1,5 @@
--- What the code reads out of valid queues: the first-chosen child and the smallest key.
-use Prim.Native.Nat.{ℕ, _+_, _/_, _%_, _<_}
+-- What the root of a tree tells in valid queues: the first-chosen child and the smallest key.
+use Prim.Native.Nat.{ℕ, _+_, _*_, _/_, _<_}
 use mathlib.Core.Path.{_≡_, sym, _∙_}
 use mathlib.Core.Logic.{_≢_}
 use mathlib.Core.List.{List}
@@ -11,41 +11,45 @@ use Rattle.procedure.specs.Division.{Division, regions}
 use Rattle.procedure.specs.Queues.{minItem}
 use Rattle.theory.proofs.Chosen.{Child, minKey-item, minKey-none}
 use Rattle.run_arrays.specs.Rows.{field}
-use Rattle.run_arrays.specs.Trees.{entry, childCount, IsMinKey, QueuesOk}
+use Rattle.run_arrays.specs.Trees.{entry, childCount, QueuesOk}
 use Rattle.run_arrays.proofs.trees.Seats.{tree-room}
+use Rattle.run_queue.specs.First.{FirstEntry}
 use Rattle.run_queue.proofs.Trees.{minItem-place, minItem-childless}
 
 module _ {d : Division} {rows keys winners : List ℕ} (Q : QueuesOk d rows keys winners) {r : ℕ} (inside : r < regions d) where
-  -- its row says that r has no child
-  pub item-none : field rows r 1 ≡ 0 → minItem d keys r ≡ 0
-  item-none e = minItem-childless Q r (sym (Q .entered .laid .planned .counted .counts r inside) ∙ e)
-
-  pub key-none : field rows r 1 ≡ 0 → IsMinKey d keys r top
-  key-none e = λ inner own updates. sym (minKey-none d (record { own = own; keys = keys; updates = updates }) r inner (item-none e))
+  -- its row says that r has no child: key none and region 0
+  pub first-none : field rows r 1 ≡ 0 → {e : ℕ} → e ≡ top * 65536 + 0 → FirstEntry d keys r e
+  unfolding top
+  first-none none is = record {
+    item = rw is (sym no-item);
+    key = λ inner own updates. rw is (sym (minKey-none d (record { own = own; keys = keys; updates = updates }) r inner no-item));
+    fits = omega (arith, is);
+  }
+    where
+      no-item : minItem d keys r ≡ 0
+      no-item = minItem-childless Q r (sym (Q .seated .laid .planned .counted .counts r inside) ∙ none)
 
   -- it says that r has some, and where r's tree begins
   module _ (some : field rows r 1 ≢ 0) {start : ℕ} (row : start ≡ field rows r 2) where
     count-some : 0 < childCount d r
-    count-some = omega (arith, Q .entered .laid .planned .counted .counts r inside)
+    count-some = omega (arith, Q .seated .laid .planned .counted .counts r inside)
 
     -- the first-chosen child stands at place 1
     pub first-in : start + 1 < length winners
-    first-in = omega (arith, row, Q .entered .laid .planned .starts r inside, count-some, tree-room d r, Q .entered .laid .room)
+    first-in = omega (arith, row, Q .seated .laid .planned .starts r inside, count-some, tree-room d r, Q .seated .laid .room)
 
     child : Child d r (minItem d keys r)
     child = minItem-place Q r count-some .0
 
     held : at winners (start + 1) ≡ entry keys (minItem d keys r)
-    held = rw (row, Q .entered .laid .planned .starts r inside) (minItem-place Q r count-some .1)
-
-    pub item-some : at winners (start + 1) % 65536 ≡ minItem d keys r
-    item-some = omega (arith, held, child .in-range, Q .entered .laid .planned .counted .numbered .few)
+    held = rw (row, Q .seated .laid .planned .starts r inside) (minItem-place Q r count-some .1)
 
     key-is : at winners (start + 1) / 65536 ≡ at keys (minItem d keys r)
-    key-is = omega (arith, held, child .in-range, Q .entered .laid .planned .counted .numbered .few)
+    key-is = omega (arith, held, child .in-range, Q .seated .laid .planned .counted .numbered .few)
 
-    pub key-fits : at winners (start + 1) / 65536 < 4294967296
-    key-fits = omega (arith, key-is, Q .entered .fit (minItem d keys r))
-
-    pub key-some : IsMinKey d keys r (at winners (start + 1) / 65536)
-    key-some = λ inner own updates. key-is ∙ minKey-item d (record { own = own; keys = keys; updates = updates }) r inner (child .positive)
+    pub first-some : FirstEntry d keys r (at winners (start + 1))
+    first-some = record {
+      item = omega (arith, held, child .in-range, Q .seated .laid .planned .counted .numbered .few);
+      key = λ inner own updates. key-is ∙ minKey-item d (record { own = own; keys = keys; updates = updates }) r inner (child .positive);
+      fits = omega (arith, key-is, Q .seated .fit (minItem d keys r));
+    }

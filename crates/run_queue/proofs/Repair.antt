@@ -33,27 +33,27 @@ pub repair-start : {d : Division} {rows keys winners : List ℕ} {c up start p b
     → Repairing d up rows (set keys c k) (set winners (start + p) best) start p best
 repair-start {d} {rows} {keys} {winners} {c} k Q L pos inside small is =
     let h = parent-child d c pos inside in
-    let P = Q .entered .laid .planned in
+    let P = Q .seated .laid .planned in
     rw (seat-at P L pos inside, is, L .over, L .own ∙ P .seats c pos inside) (record {
       row = rw (L .over) at (L .row);
       valid = written c k Q pos inside small;
       low = omega (arith, seat-low d h, seat-high d h);
       high = seat-high d h;
-      held = seat-elim d winners (Q .entered .laid .room) c (k * 65536 + c) pos inside (λ y. y ≡ k * 65536 + c) c pos inside (λ _. refl) (λ n. absurd (n refl));
+      held = seat-elim d winners (Q .seated .laid .room) c (k * 65536 + c) pos inside (λ y. y ≡ k * 65536 + c) c pos inside (λ _. refl) (λ n. absurd (n refl));
     })
 
 module _ {d : Division} {r : ℕ} {rows keys winners : List ℕ} {start a best : ℕ} (R : Repairing d r rows keys winners start a best) where
   from : start ≡ treeStart d r
-  from = begins r start (R .valid .entered .laid .planned) (R .row) (omega (arith, R .high))
+  from = begins r start (R .valid .seated .laid .planned) (R .row) (omega (arith, R .high))
 
   pub repair-small : a < 65536
-  repair-small = omega (arith, R .high, tree-room d r, R .valid .entered .laid .planned .counted .numbered .few)
+  repair-small = omega (arith, R .high, tree-room d r, R .valid .seated .laid .planned .counted .numbered .few)
 
   -- the places beside this one and above it
   pub repair-bounds : (q : ℕ) → q / 2 ≤ a / 2 → PlaceBounds winners start q
   repair-bounds q l = record {
-    inside = omega (arith, from, R .high, tree-room d r, R .valid .entered .laid .room);
-    fits = omega (arith, from, R .high, tree-room d r, R .valid .entered .laid .planned .counted .numbered .few);
+    inside = omega (arith, from, R .high, tree-room d r, R .valid .seated .laid .room);
+    fits = omega (arith, from, R .high, tree-room d r, R .valid .seated .laid .planned .counted .numbered .few);
   }
 
   -- x is the lower of this place and its sibling s
@@ -83,7 +83,7 @@ module _ {d : Division} {r : ℕ} {rows keys winners : List ℕ} {start a best :
           (λ _. (refl, refl));
       low = omega arith;
       high = omega (arith, R .high);
-      held = place-same d winners (R .valid .entered .laid .room) r (a / 2) x (omega (arith, R .high));
+      held = place-same d winners (R .valid .seated .laid .room) r (a / 2) x (omega (arith, R .high));
     })
 
 -- and ends with valid queues

@@ -12,7 +12,7 @@ use Rattle.procedure.specs.Division.{Division, regions, parent}
 use Rattle.procedure.specs.Queues.{minItem}
 use Rattle.theory.proofs.Chosen.{Child, parent-child, minItem-first, first-one}
 use Rattle.run_arrays.specs.Rows.{field, rowCount}
-use Rattle.run_arrays.specs.Trees.{entry, childCount, treeStart, seat, place, Wins, Planned, LaidOut, QueuesOk, Entered}
+use Rattle.run_arrays.specs.Trees.{entry, childCount, treeStart, seat, place, Wins, Planned, LaidOut, QueuesOk, Seated}
 use Rattle.run_queue.proofs.Comparison.{entry-behind}
 use Rattle.run_arrays.proofs.trees.Seats.{tree-room, trees-apart, seat-low, seat-high, seat-one, place-child, parent-in}
 use Rattle.run_arrays.proofs.trees.RegionRows.{row-in}
@@ -114,13 +114,13 @@ module _ (d : Division) (winners : List ℕ) (room : 2 * regions d ≤ length wi
 
 -- every place holds what it should, but for those in Open, by region and place
 pub record ValidBut (d : Division) (rows keys winners : List ℕ) (Open : ℕ → ℕ → Type 0) : Type 0 where
-  pub entered : Entered d rows keys winners
+  pub seated : Seated d rows keys winners
   pub rest : (r p : ℕ) → 0 < p → p < childCount d r → Wins d winners r p ⊎ Open r p
 
 -- what was open is decided
 pub valid-all : {d : Division} {rows keys winners : List ℕ} {Open : ℕ → ℕ → Type 0} → ValidBut d rows keys winners Open
     → ((r p : ℕ) → 0 < p → p < childCount d r → Open r p → Wins d winners r p) → QueuesOk d rows keys winners
-valid-all B rest = record { entered = B .entered; wins = λ r p pos l. ⊎-elim (λ w. w) (λ o. rest r p pos l o) (B .rest r p pos l) }
+valid-all B rest = record { seated = B .seated; wins = λ r p pos l. ⊎-elim (λ w. w) (λ o. rest r p pos l o) (B .rest r p pos l) }
 
 -- winners that were stored to are laid out still
 pub laid-set : {d : Division} {rows winners : List ℕ} (i x : ℕ) → LaidOut d rows winners → LaidOut d rows (set winners i x)
@@ -130,28 +130,28 @@ laid-set i x L = record { planned = L .planned; room = simp length-set (L .room)
 module _ {d : Division} {rows keys winners : List ℕ} {Open : ℕ → ℕ → Type 0} (B : ValidBut d rows keys winners Open)
     (r p x : ℕ) (pos : 0 < p) (hp : p < childCount d r) (lowest : x ≡ min (place d winners r (2 * p)) (place d winners r (2 * p + 1))) where
   other : (r′ q : ℕ) → q < 2 * childCount d r′ → (r′ ≡ r → q ≢ p) → place d (set winners (treeStart d r + p) x) r′ q ≡ place d winners r′ q
-  other = place-other d winners (B .entered .laid .room) r p x (omega arith)
+  other = place-other d winners (B .seated .laid .room) r p x (omega arith)
 
   win-here : Wins d (set winners (treeStart d r + p) x) r p
   win-here =
-      place-same d winners (B .entered .laid .room) r p x (omega arith) ∙ lowest
+      place-same d winners (B .seated .laid .room) r p x (omega arith) ∙ lowest
       ∙ sym (rw (other r (2 * p) (omega arith) (λ _. omega arith), other r (2 * p + 1) (omega arith) (λ _. omega arith)))
 
   -- what was open is open still, or is this place; the place above it is open
   pub decided : (Open′ : ℕ → ℕ → Type 0) → ((r′ q : ℕ) → Open r′ q → Open′ r′ q ⊎ ((r′ ≡ r) × (q ≡ p))) → (0 < p / 2 → Open′ r (p / 2))
       → ValidBut d rows keys (set winners (treeStart d r + p) x) Open′
   decided Open′ f above = record {
-    entered =
+    seated =
         record {
-          laid = laid-set (treeStart d r + p) x (B .entered .laid);
-          keyed = B .entered .keyed;
-          fit = B .entered .fit;
+          laid = laid-set (treeStart d r + p) x (B .seated .laid);
+          keyed = B .seated .keyed;
+          fit = B .seated .fit;
           stands =
               λ c l h.
               let k = parent-child d c l h in
-              other (parent d c) (seat d c) (seat-high d k) (λ e f. omega (arith, seat-low d k, ap (childCount d) e)) ∙ B .entered .stands c l h;
+              other (parent d c) (seat d c) (seat-high d k) (λ e f. omega (arith, seat-low d k, ap (childCount d) e)) ∙ B .seated .stands c l h;
         };
-    rest = rest-kept d winners (B .entered .laid .room) r p x (omega arith) Open Open′ (B .rest) f (λ _. win-here) above;
+    rest = rest-kept d winners (B .seated .laid .room) r p x (omega arith) Open Open′ (B .rest) f (λ _. win-here) above;
   }
 
 -- VALID QUEUES
@@ -161,20 +161,20 @@ pub written : {d : Division} {rows keys winners : List ℕ} (c k : ℕ) → Queu
     → ValidBut d rows (set keys c k) (set winners (treeStart d (parent d c) + seat d c) (k * 65536 + c)) (λ r q. (r ≡ parent d c) × (q ≡ seat d c / 2))
 written {d} {rows} {keys} {winners} c k Q pos inside small =
     let h = parent-child d c pos inside in
-    let keyed : c < length keys = omega (arith, Q .entered .keyed) in
+    let keyed : c < length keys = omega (arith, Q .seated .keyed) in
     record {
-      entered =
+      seated =
           record {
-            laid = laid-set (treeStart d (parent d c) + seat d c) (k * 65536 + c) (Q .entered .laid);
-            keyed = simp length-set (Q .entered .keyed);
-            fit = λ i. set-elim (λ y. y < 4294967296) keys c i k 0 keyed (λ _. small) (λ _. Q .entered .fit i);
+            laid = laid-set (treeStart d (parent d c) + seat d c) (k * 65536 + c) (Q .seated .laid);
+            keyed = simp length-set (Q .seated .keyed);
+            fit = λ i. set-elim (λ y. y < 4294967296) keys c i k 0 keyed (λ _. small) (λ _. Q .seated .fit i);
             stands =
                 λ b pb lb.
-                seat-elim d winners (Q .entered .laid .room) c (k * 65536 + c) pos inside (λ y. y ≡ entry (set keys c k) b) b pb lb
-                (λ e. rw (e, getD-set-same keys c k 0 keyed)) (λ n. rw (getD-set-other keys c b k 0 n) (Q .entered .stands b pb lb));
+                seat-elim d winners (Q .seated .laid .room) c (k * 65536 + c) pos inside (λ y. y ≡ entry (set keys c k) b) b pb lb
+                (λ e. rw (e, getD-set-same keys c k 0 keyed)) (λ n. rw (getD-set-other keys c b k 0 n) (Q .seated .stands b pb lb));
           };
       rest =
-          rest-kept d winners (Q .entered .laid .room) (parent d c) (seat d c) (k * 65536 + c) (seat-high d h) (λ _ _. ⊥)
+          rest-kept d winners (Q .seated .laid .room) (parent d c) (seat d c) (k * 65536 + c) (seat-high d h) (λ _ _. ⊥)
           (λ r q. (r ≡ parent d c) × (q ≡ seat d c / 2)) (λ r q p l. inl (Q .wins r q p l)) (λ r q o. absurd o)
           (λ l. absurd (omega (arith, seat-low d h))) (λ _. (refl, refl));
     }
@@ -195,7 +195,7 @@ module _ {d : Division} {rows keys winners : List ℕ} (Q : QueuesOk d rows keys
       (λ h.
       let f = place-child d r q h l in
       let k = f .1 in
-      (f .0, k, rw (k .under, f .2) at (Q .entered .stands (f .0) (k .positive) (k .in-range))))
+      (f .0, k, rw (k .under, f .2) at (Q .seated .stands (f .0) (k .positive) (k .in-range))))
 
   held : (r f q : ℕ) → 0 < q → q < 2 * childCount d r → 2 * childCount d r ≤ q + f → Held r q
   held r zero q pos l m = absurd (omega arith)
@@ -222,7 +222,7 @@ module _ {d : Division} {rows keys winners : List ℕ} (Q : QueuesOk d rows keys
   minItem-place r some =
       let h = held r (2 * childCount d r) 1 (omega arith) (omega arith) (omega arith) in
       let k = h .1 in
-      let few = Q .entered .laid .planned .counted .numbered .few in
+      let few = Q .seated .laid .planned .counted .numbered .few in
       let e : minItem d keys r ≡ h .0 =
       first-one d keys r (regions d) (minItem d keys r) (h .0) (minItem-first d keys r)
       (record {
@@ -231,7 +231,7 @@ module _ {d : Division} {rows keys winners : List ℕ} (Q : QueuesOk d rows keys
         least =
             λ c l pos u.
             let b : Child d r c = record { in-range = l; positive = pos; under = u } in
-            let at-seat : place d winners r (seat d c) ≡ entry keys c = rw u at (Q .entered .stands c pos l) in
+            let at-seat : place d winners r (seat d c) ≡ entry keys c = rw u at (Q .seated .stands c pos l) in
             let lowest = first-lowest r (seat d c) (seat d c) (omega arith) (omega (arith, seat-low d b)) (seat-high d b) in
             entry-behind d keys c (h .0) (omega (arith, few)) (omega (arith, few, k .in-range)) (omega (arith, lowest, at-seat, h .2));
       }) in

@@ -5,7 +5,7 @@ ghost use Prim.Native.Nat.{ℕ, _+_, _<_};
 ghost use lib.ListN.{replicate};
 ghost use Rattle.sheet.specs.Words.{top};
 ghost use Rattle.procedure.specs.Division.{Division, regions};
-ghost use Rattle.run_arrays.specs.Trees.{LaidOut, QueuesOk, Entered, ValidBelow, SomeLaidOut};
+ghost use Rattle.run_arrays.specs.Trees.{LaidOut, QueuesOk, Seated, ValidBelow, SomeLaidOut};
 ghost use Rattle.run_queue.specs.Trees.{ToBuild};
 use sheet::Region;
 
@@ -27,14 +27,14 @@ fn build_tree(rows: &[u16], winners: &mut [u64], r: Region)
 fn enter_children(rows: &[u16], winners: &mut [u64], count: u16)
     requires { ⌜ SomeLaidOut (now rows) (now winners) count ⌝ }
     ensures { λ _. ⌜ ((d : Division) → LaidOut d (now (rows .entry)) (now (winners .entry)) → count ≡ regions d
-        → Entered d (now (rows .entry)) (replicate (regions d) top) (now (winners .exit))) ⌝ }
+        → Seated d (now (rows .entry)) (replicate (regions d) top) (now (winners .exit))) ⌝ }
 {
     let mut c: u16 = 1;
     while c < count {
         let parent = run_arrays::trees::parent_of(rows, Region(c));
         let start = run_arrays::trees::start_of(rows, parent) as usize;
         let place = run_arrays::trees::seat_of(rows, Region(c)) as usize;
-        winners[start + place] = run_arrays::trees::entry_of(crate::NONE, Region(c));
+        winners[start + place] = run_arrays::trees::entry_of(sheet::NONE, Region(c));
         c += 1;
     }
 }

@@ -9,22 +9,30 @@ ghost use lib.ListN.{set};
 ghost use Rattle.procedure.specs.Division.{Division, regions};
 ghost use Rattle.procedure.specs.Queues.{minItem};
 ghost use Rattle.run_arrays.specs.Trees.{IsMinKey, QueuesOk, SomeQueue, SomeItem};
+ghost use Rattle.run_queue.specs.First.{FirstEntry};
+use sheet::NONE;
 use sheet::Region;
 
-// The key 'none'.
-pub const NONE: u32 = 268435455;
+// The root of r's tree, the entry of its first-chosen child; key none and region 0, which is nobody's child, where it has none.
+fn first_entry(rows: &[u16], winners: &[u64], r: Region) -> u64
+    requires { ⌜ SomeQueue (now rows) (now winners) (r .0) ⌝ }
+    ensures { λ e. ⌜ ((d : Division) (keys : List ℕ) → QueuesOk d (now (rows .entry)) keys (now (winners .entry)) → r .0 < regions d
+        → FirstEntry d keys (r .0) e) ⌝ }
+{
+    if run_arrays::trees::children_of(rows, r) == 0 {
+        return run_arrays::trees::entry_of(NONE, Region(0));
+    }
+    let start = run_arrays::trees::start_of(rows, r) as usize;
+    winners[start + 1]
+}
 
-// The first-chosen child of r; 0, which is nobody's child, where it has none.
+// The first-chosen child of r; 0 where it has none.
 pub fn min_item(rows: &[u16], winners: &[u64], r: Region) -> Region
     requires { ⌜ SomeQueue (now rows) (now winners) (r .0) ⌝ }
     ensures { λ c. ⌜ ((d : Division) (keys : List ℕ) → QueuesOk d (now (rows .entry)) keys (now (winners .entry)) → r .0 < regions d
         → c .0 ≡ minItem d keys (r .0)) ⌝ }
 {
-    if run_arrays::trees::children_of(rows, r) == 0 {
-        return Region(0);
-    }
-    let start = run_arrays::trees::start_of(rows, r) as usize;
-    Region((winners[start + 1] % 65536) as u16)
+    Region((first_entry(rows, winners, r) % 65536) as u16)
 }
 
 // The smallest key of an inner region.
@@ -33,11 +41,7 @@ pub fn min_key(rows: &[u16], winners: &[u64], r: Region) -> u32
     ensures { λ k. ⌜ ((d : Division) (keys : List ℕ) → QueuesOk d (now (rows .entry)) keys (now (winners .entry)) → r .0 < regions d
         → IsMinKey d keys (r .0) k) ⌝ }
 {
-    if run_arrays::trees::children_of(rows, r) == 0 {
-        return NONE;
-    }
-    let start = run_arrays::trees::start_of(rows, r) as usize;
-    (winners[start + 1] / 65536) as u32
+    (first_entry(rows, winners, r) / 65536) as u32
 }
 
 // Writes the key of a region other than 0 and repairs its parent's tree, from its place up, until a place does not change.

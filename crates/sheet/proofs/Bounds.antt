@@ -9,7 +9,8 @@ use lib.Seq.{take-all, getD-drop}
 use Rattle.indices.proofs.Tests.{lead-le}
 use Rattle.sheet.specs.declared.Sections.{Sections}
 use Rattle.sheet.specs.Words.{words, word, kindOf, kind}
-use Rattle.sheet.specs.Sections.{Located, isSpan, isArc, spansFrom, arcsFrom, arcsAt, arcCount, regionsAt, regionWords}
+use Rattle.sheet.specs.Sections.{isSpan, isArc, spansFrom, arcsFrom, arcsAt, arcCount, regionsAt, regionWords}
+use Rattle.sheet.specs.Inner.{Located}
 
 pub spans-le : (b : List ℕ) (i : ℕ) → spansFrom b i ≤ words b - i
 unfolding spansFrom
@@ -20,7 +21,7 @@ unfolding arcsFrom
 arcs-le b i = lead-le (isArc b i) ((words b - i) / 2)
 
 -- the words of an arc are words of the sheet
-pub arc-inside : {b : List ℕ} {at : Sections} → Located b at → (a : ℕ) → a < arcCount b → 2 + at .spans + 2 * a + 1 < words b
+pub arc-inside : {b : List ℕ} {sections : Sections} → Located b sections → (a : ℕ) → a < arcCount b → 2 + sections .spans + 2 * a + 1 < words b
 arc-inside {b} found a l = omega (arith, spans-le b 2, arcs-le b (arcsAt b), found .front, found .spans-all)
 
 -- the last arc ends within the sheet
@@ -28,7 +29,7 @@ pub regions-inside : (b : List ℕ) → 2 ≤ words b → regionsAt b ≤ words 
 regions-inside b two = omega (arith, spans-le b 2, arcs-le b (arcsAt b))
 
 -- the same of the sections that were found
-pub located-inside : {b : List ℕ} {at : Sections} → Located b at → 4 * (2 + at .spans + 2 * at .arcs) ≤ length b
+pub located-inside : {b : List ℕ} {sections : Sections} → Located b sections → 4 * (2 + sections .spans + 2 * sections .arcs) ≤ length b
 located-inside {b} found = omega (arith, regions-inside b (found .front), found .spans-all, found .arcs-all)
 
 -- there are as many region words as words are left

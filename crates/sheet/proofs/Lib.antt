@@ -2,3 +2,4 @@ pub mod Heights
 pub mod Handed
 pub mod Bounds
 pub mod Regions
+pub mod Samples

@@ -4,4 +4,4 @@ pub mod Sections
 pub mod Arcs
 pub mod Heights
 pub mod Regions
-pub mod Samples
+pub mod Inner

@@ -31,3 +31,15 @@ mostArcsEachWay = 2
 -- "kinds 6 and 7 in any mixture, up to 4,094"
 abbrev pub mostRegionWords : ℕ
 mostRegionWords = 4094
+
+-- "bits 19 to 10 the tail node, bits 9 to 0 the head": so many numbers has the field of a node,
+abbrev pub nodeNumbers : ℕ
+nodeNumbers = 1024
+
+-- "bits 10 to 0 its arc": so many that of an arc,
+abbrev pub arcNumbers : ℕ
+arcNumbers = 2048
+
+-- "bits 22 to 11 its parent": and so many that of a leaf's parent.
+abbrev pub regionNumbers : ℕ
+regionNumbers = 4096

@@ -1,25 +1,23 @@
 -- The sections of a sheet, each found where the one before it ends: node count and source, spans, arcs, region words. Definitions.
-use Prim.Native.Nat.{ℕ, _+_, _-_, _*_, _/_, _≤_}
+use Prim.Native.Nat.{ℕ, _+_, _-_, _*_, _/_}
 use mathlib.Core.List.{List}
 use mathlib.Core.Bool.{Bool, _&&_}
-use mathlib.Core.Path.{_≡_}
 use lib.ListN.{drop}
 use lib.Dec.{eqb, ltb}
 use Rattle.indices.specs.Steps.{if_then_else_}
 use Rattle.indices.specs.Tests.{lead}
 use Rattle.sheet.specs.declared.Cursor.{Cursor}
-use Rattle.sheet.specs.declared.Sections.{Sections}
 use Rattle.sheet.specs.declared.Step.{Step}
 use Rattle.sheet.specs.declared.Step.the-variants.{Word, End}
 use Rattle.sheet.specs.Words.{words, word, kind, payload}
 
 -- "A sheet is read word by word from its front": the word at a place with the place after it, or the end
 abbrev pub stepAt : List ℕ → Cursor → Step
-stepAt b c = if ltb (c .at) (words b) then Word (word b (c .at)) (record { at = c .at + 1 }) else End
+stepAt b c = if ltb (c .place) (words b) then Word (word b (c .place)) (record { place = c .place + 1 }) else End
 
 -- the part of a sheet after a place
 abbrev pub partAfter : List ℕ → Cursor → List ℕ
-partAfter b c = drop (4 * c .at) b
+partAfter b c = drop (4 * c .place) b
 
 -- "kind 1, once: the node count n"
 abbrev pub nodeCount : List ℕ → ℕ
@@ -62,10 +60,4 @@ abbrev pub regionsAt : List ℕ → ℕ
 regionsAt b = arcsAt b + 2 * arcCount b
 
 unfoldable pub regionWords : List ℕ → List ℕ
-regionWords b = partAfter b (record { at = regionsAt b })
-
--- the sizes of the sections of a sheet that has its first two words
-pub record Located (b : List ℕ) (at : Sections) : Type 0 where
-  pub front : 2 ≤ words b
-  pub spans-all : at .spans ≡ spanCount b
-  pub arcs-all : at .arcs ≡ arcCount b
+regionWords b = partAfter b (record { place = regionsAt b })

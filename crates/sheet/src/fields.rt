@@ -2,29 +2,31 @@
 ghost use mathlib.Core.Path.{_≡_};
 ghost use Prim.Native.Nat.{_≤_, _<_};
 ghost use Rattle.sheet.specs.Words.{words, payload};
-ghost use Rattle.sheet.specs.Sections.{Located, arcCount};
+ghost use Rattle.sheet.specs.Sections.{arcCount};
+ghost use Rattle.sheet.specs.Inner.{Located};
 ghost use Rattle.sheet.specs.Arcs.{endsWord, arcLength, endOf};
 ghost use Rattle.sheet.specs.Regions.{leafWord, parentWord, arcWord, isLeaf};
+ghost use Rattle.sheet.specs.Limits.{nodeNumbers, arcNumbers};
 use crate::Arc;
 use crate::Node;
 use crate::Region;
 use crate::Sections;
 
 // The payload of the first word of an arc: its two ends.
-pub fn ends_at(s: &[u8], at: Sections, a: Arc) -> u32
-    requires { ⌜ Located (now s) at × (a .0 < arcCount (now s)) ⌝ }
+pub fn ends_payload(s: &[u8], sections: Sections, a: Arc) -> u32
+    requires { ⌜ Located (now s) sections × (a .0 < arcCount (now s)) ⌝ }
     ensures { λ r. ⌜ r ≡ payload (now (s .entry)) (endsWord (now (s .entry)) (a .0)) ⌝ }
 {
     let i = a.0 as usize;
-    crate::payload_at(s, 2 + at.spans + 2 * i)
+    crate::payload_at(s, 2 + sections.spans + 2 * i)
 }
 
 // One end of an arc: its head, or else its tail.
-pub fn end_at(s: &[u8], at: Sections, a: Arc, head: bool) -> Node
-    requires { ⌜ Located (now s) at × (a .0 < arcCount (now s)) ⌝ }
-    ensures { λ r. ⌜ (r .0 ≡ endOf head (now (s .entry)) (a .0)) × (r .0 < 1024) ⌝ }
+pub fn end_at(s: &[u8], sections: Sections, a: Arc, head: bool) -> Node
+    requires { ⌜ Located (now s) sections × (a .0 < arcCount (now s)) ⌝ }
+    ensures { λ r. ⌜ (r .0 ≡ endOf head (now (s .entry)) (a .0)) × (r .0 < nodeNumbers) ⌝ }
 {
-    let ends = ends_at(s, at, a);
+    let ends = ends_payload(s, sections, a);
     if head {
         return Node((ends % 1024) as u16);
     }
@@ -32,12 +34,12 @@ pub fn end_at(s: &[u8], at: Sections, a: Arc, head: bool) -> Node
 }
 
 // The length of an arc.
-pub fn length_at(s: &[u8], at: Sections, a: Arc) -> u32
-    requires { ⌜ Located (now s) at × (a .0 < arcCount (now s)) ⌝ }
+pub fn length_at(s: &[u8], sections: Sections, a: Arc) -> u32
+    requires { ⌜ Located (now s) sections × (a .0 < arcCount (now s)) ⌝ }
     ensures { λ r. ⌜ r ≡ arcLength (now (s .entry)) (a .0) ⌝ }
 {
     let i = a.0 as usize;
-    crate::payload_at(s, 2 + at.spans + 2 * i + 1)
+    crate::payload_at(s, 2 + sections.spans + 2 * i + 1)
 }
 
 // Whether word k of the region words is a leaf.
@@ -63,7 +65,7 @@ pub fn parent_word(d: &[u8], k: usize) -> u32
 // The arc that word k of the region words names, a leaf.
 pub fn arc_word(d: &[u8], k: usize) -> Arc
     requires { ⌜ k < words (now d) ⌝ }
-    ensures { λ r. ⌜ (r .0 ≡ arcWord (now (d .entry)) k) × (r .0 < 2048) ⌝ }
+    ensures { λ r. ⌜ (r .0 ≡ arcWord (now (d .entry)) k) × (r .0 < arcNumbers) ⌝ }
 {
     Arc((crate::payload_at(d, k) % 2048) as u16)
 }

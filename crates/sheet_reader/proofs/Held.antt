@@ -11,8 +11,7 @@ use base.Fml.{Lft, Share, Fml, ftrue, flft}
 use prog.Wp.{Heap}
 use ghost.Atoms.{Atoms, sem}
 use contract.Monad.{fact}
-use types.Kit.{Given, Item, ‵, raw, _⊛_, given, some, later, mean, _$_, _∵_, !, qed, move, drop, use1, split, join, learn, pick}
-use types.Kit.{updating, now as at-once, show, check, await, done}
+use types.Kit.{Given, Item, ‵, raw, _⊛_, given, some, later, mean, _$_, _∵_, !, qed, move, drop, use1, split, join, learn, pick, updating, now as at-once, show, check, await, done}
 use denote.RattleType.{RattleType}
 use denote.Laws.{Is, shows}
 use denote.Builtin.{u8}
@@ -62,7 +61,7 @@ module _ {M : Type 1} (𝓤 : URA M) (H : Heap 𝓤) (A : Atoms 𝓤) (W : Given
     L = T′.the-laws (α κ)
 
     abbrev vd : Values (D .parts)
-    vd = (d .sheet, (d .at, tt))
+    vd = (d .sheet, (d .place, tt))
 
     -- a reader is Copy
     pub own-twice : ent 𝓤 (sem 𝓤 H A (Own κ d)) (sep 𝓤 (sem 𝓤 H A (Own κ d)) (sem 𝓤 H A (Own κ d)))

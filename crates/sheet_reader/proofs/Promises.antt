@@ -1,4 +1,4 @@
--- The two promises that `reader` has in both forms: the word after a place, and the part of a sheet after a place.
+-- The two promises that `sheet_reader` has in both forms: the word after a place, and the part of a sheet after a place.
 use Prim.Native.Nat.{_≤_}
 use mathlib.Core.Path.{_≡_}
 use mathlib.Core.List.{[], _∷_}
@@ -35,7 +35,7 @@ abbrev pub sliceType : Ty
 sliceType = sliceTy (tyRef (named 0) imm (tyInt w8))
 
 abbrev pub restAfter : {M : Type 1} (𝓤 : URA M) → Promise 𝓤 slice
-restAfter 𝓤 = record { asks = λ s c. fact 𝓤 (c .at ≤ words s); ensures = λ κ s c x. now x ≡ partAfter s c }
+restAfter 𝓤 = record { asks = λ s c. fact 𝓤 (c .place ≤ words s); ensures = λ κ s c x. now x ≡ partAfter s c }
 
 module _ {M : Type 1} (𝓤 : URA M) (H : Heap 𝓤) (A : Atoms 𝓤) (W : Given 𝓤 H A) where
   pub step-shaped : Shaped step S′.mir

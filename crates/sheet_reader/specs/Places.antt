@@ -6,7 +6,7 @@ use Rattle.sheet.specs.declared.Cursor.{Cursor}
 use Rattle.sheet_reader.specs.declared.Reader.{Reader}
 
 abbrev pub readerAt : RefT (List ℕ) → Cursor → Reader
-readerAt s c = record { sheet = s; at = c .at }
+readerAt s c = record { sheet = s; place = c .place }
 
 abbrev pub placeOf : Reader → Cursor
-placeOf r = record { at = r .at }
+placeOf r = record { place = r .place }

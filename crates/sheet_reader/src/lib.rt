@@ -1,32 +1,36 @@
 // How a sheet is read: a struct that holds the sheet and a place in it, and thin functions over it. The borrow checker covers none of these, so
-// each takes the struct apart for a function of `sections`, which does the work, and is proved by hand; callers use the functions below them.
+// each takes the struct apart for a function of `sheet::scan`, which does the work, and is proved by hand; callers use the functions below them.
 ghost use mathlib.Core.Path.{_≡_};
 ghost use Prim.Native.Nat.{_≤_};
 ghost use Rattle.sheet.specs.Words.{words};
-ghost use Rattle.sheet.specs.Sections.{Located, stepAt, partAfter, regionWords};
+ghost use Rattle.sheet.specs.Sections.{stepAt, partAfter, regionWords};
+ghost use Rattle.sheet.specs.Inner.{Located};
 ghost use Rattle.sheet_reader.specs.Places.{readerAt, placeOf};
 use sheet::Cursor;
 use sheet::Sections;
 use sheet::Step;
 
-// "A sheet is read word by word from its front": `at` words have been read.
+// "A sheet is read word by word from its front": `place` words have been read.
 pub struct Reader<'a> {
     pub sheet: &'a [u8],
-    pub at: usize,
+    pub place: usize,
 }
 
 // A reader of a sheet, at a place.
 pub fn reader_at<'a>(sheet: &'a [u8], c: Cursor) -> Reader<'a>
     ensures { λ r. ⌜ r ≡ readerAt (sheet .entry) c ⌝ }
 {
-    Reader { sheet, at: c.at }
+    Reader {
+        sheet,
+        place: c.place,
+    }
 }
 
 // The place that a reader is at.
 pub fn place<'a>(r: Reader<'a>) -> Cursor
     ensures { λ c. ⌜ c ≡ placeOf (r .entry) ⌝ }
 {
-    Cursor { at: r.at }
+    Cursor { place: r.place }
 }
 
 // The next word, with the place after it, or the end.
@@ -38,7 +42,7 @@ pub fn next<'a>(r: Reader<'a>) -> Step
 
 // What is left of the sheet.
 pub fn rest<'a>(r: Reader<'a>) -> &'a [u8]
-    requires { ⌜ r .at ≤ words (now (r .sheet)) ⌝ }
+    requires { ⌜ r .place ≤ words (now (r .sheet)) ⌝ }
     ensures { λ s. ⌜ now s ≡ partAfter (now (r .entry .sheet)) (placeOf (r .entry)) ⌝ }
 {
     sheet::scan::part_after(r.sheet, place(r))
@@ -53,21 +57,21 @@ pub fn word_after(s: &[u8], c: Cursor) -> Step
 
 // The part of the sheet after a place.
 pub fn rest_after(s: &[u8], c: Cursor) -> &[u8]
-    requires { ⌜ c .at ≤ words (now s) ⌝ }
+    requires { ⌜ c .place ≤ words (now s) ⌝ }
     ensures { λ r. ⌜ now r ≡ partAfter (now (s .entry)) c ⌝ }
 {
     rest(reader_at(s, c))
 }
 
 // The region words: the part of the sheet after the last arc.
-pub fn region_words(s: &[u8], at: Sections) -> &[u8]
-    requires { ⌜ Located (now s) at ⌝ }
+pub fn region_words(s: &[u8], sections: Sections) -> &[u8]
+    requires { ⌜ Located (now s) sections ⌝ }
     ensures { λ r. ⌜ now r ≡ regionWords (now (s .entry)) ⌝ }
 {
     rest_after(
         s,
         Cursor {
-            at: 2 + at.spans + 2 * at.arcs,
+            place: 2 + sections.spans + 2 * sections.arcs,
         },
     )
 }

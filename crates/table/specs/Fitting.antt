@@ -5,21 +5,22 @@ use mathlib.Core.List.{List}
 use lib.ListN.{length}
 use Rattle.indices.specs.Columns.{at}
 use Rattle.sheet.specs.declared.Sections.{Sections}
-use Rattle.sheet.specs.Sections.{Located, nodeCount, arcCount}
+use Rattle.sheet.specs.Sections.{nodeCount, arcCount}
+use Rattle.sheet.specs.Inner.{Located}
 use Rattle.judgement.specs.Judgement.{Accepted}
 use Rattle.procedure.specs.Graph.{tail}
 use Rattle.procedure.specs.OfSheet.{graphOf}
 use Rattle.calls.specs.Tables.{tableLength, predecessorIn, labelsIn, predecessorsIn}
 
 -- an accepted sheet whose sections are found, and a table of its length
-pub record Fitting (b : List ℕ) (at : Sections) (table : List ℕ) : Type 0 where
-  pub located : Located b at
+pub record Fitting (b : List ℕ) (sections : Sections) (table : List ℕ) : Type 0 where
+  pub located : Located b sections
   pub accepted : Accepted b
   pub sized : length table ≡ tableLength (nodeCount b)
 
 -- and a node of the sheet whose predecessor is one of its arcs
-pub record Fed (b : List ℕ) (at : Sections) (table : List ℕ) (v : ℕ) : Type 0 where
-  pub fitting : Fitting b at table
+pub record Fed (b : List ℕ) (sections : Sections) (table : List ℕ) (v : ℕ) : Type 0 where
+  pub fitting : Fitting b sections table
   pub inside : v < nodeCount b
   pub by-arc : predecessorIn table v < arcCount b
 

@@ -5,6 +5,7 @@ use mathlib.Core.Path.{_≡_}
 use mathlib.Core.List.{List}
 use lib.ListN.{length}
 use Rattle.indices.specs.Columns.{at}
+use Rattle.sheet.specs.Words.{payloads}
 use Rattle.run_counts.specs.declared.Counts.{Counts}
 use Rattle.calls.specs.Tables.{tableLength}
 use Rattle.table.specs.Countable.{Countable}
@@ -14,8 +15,8 @@ pub use Rattle.table.specs.Countable.{countsOf}
 pub record Listed (labels predecessors : List ℕ) (words : ℕ) : Type 0 where
   pub room : words ≡ tableLength (length labels)
   pub fed : length predecessors ≡ length labels
-  pub label : (v : ℕ) → v < length labels → at labels v < 268435456
-  pub predecessor : (v : ℕ) → v < length labels → at predecessors v < 268435456
+  pub label : (v : ℕ) → v < length labels → at labels v < payloads
+  pub predecessor : (v : ℕ) → v < length labels → at predecessors v < payloads
 
 pub record Writable (c : Counts) (labels predecessors : List ℕ) (words : ℕ) : Type 0 where
   pub counts : Countable c

@@ -4,13 +4,13 @@ ghost use mathlib.Core.List.{_∷_};
 ghost use Prim.Native.Nat.{_≤_};
 ghost use lib.ListN.{length};
 ghost use lib.Seq.{sets};
-ghost use Rattle.procedure.specs.Table.{statusWord, countWords};
+ghost use Rattle.procedure.specs.Table.{statusWord, countWords, headerLength};
 ghost use Rattle.table.specs.Countable.{countsOf, Countable};
 use run_counts::Counts;
 
 // Writes the status and the counts.
 pub fn write_header(table: &mut [u32], ended: bool, counts: Counts)
-    requires { ⌜ (9 ≤ length (now table)) × Countable counts ⌝ }
+    requires { ⌜ (headerLength ≤ length (now table)) × Countable counts ⌝ }
     ensures { λ _. ⌜ now (table .exit) ≡ sets (now (table .entry)) 0 (statusWord ended ∷ countWords (countsOf counts)) ⌝ }
 {
     crate::words::write_word(table, 0, crate::words::status_word(ended));

@@ -1,4 +1,4 @@
-// Writes the answer table of a state: its status, its counts, and each node's label and predecessor.
+// The answer table: its words, its length (21), what is read of it, and the table of a state written whole.
 pub mod header;
 pub mod length;
 pub mod read;
@@ -7,7 +7,7 @@ pub mod words;
 ghost use mathlib.Core.Path.{_≡_};
 ghost use lib.ListN.{length};
 ghost use lib.Seq.{sets};
-ghost use Rattle.procedure.specs.Table.{nodeWords, tableOf};
+ghost use Rattle.procedure.specs.Table.{nodeWords, tableOf, headerLength};
 ghost use Rattle.table.specs.Countable.{countsOf};
 ghost use Rattle.table.specs.Writable.{Listed, Writable};
 use crate::words::HEADER;
@@ -16,7 +16,7 @@ use run_counts::Counts;
 // Writes the label and the predecessor of each node, after the header.
 fn write_nodes(table: &mut [u32], labels: &[u32], predecessors: &[u32])
     requires { ⌜ Listed (now labels) (now predecessors) (length (now table)) ⌝ }
-    ensures { λ _. ⌜ now (table .exit) ≡ sets (now (table .entry)) 9
+    ensures { λ _. ⌜ now (table .exit) ≡ sets (now (table .entry)) headerLength
         (nodeWords (now (labels .entry)) (now (predecessors .entry)) (length (now (labels .entry)))) ⌝ }
 {
     let mut v = 0;

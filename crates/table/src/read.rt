@@ -5,13 +5,11 @@ ghost use lib.ListN.{length};
 ghost use Rattle.sheet.specs.Words.{words};
 ghost use Rattle.calls.specs.Tables.{tableLength, wrongLength, labelIn, predecessorIn};
 ghost use Rattle.table.specs.Fitting.{Fed, nodeBefore};
+ghost use Rattle.sheet.specs.Limits.{nodeNumbers};
 use crate::words::HEADER;
 use sheet::Arc;
 use sheet::Node;
 use sheet::Sections;
-
-// Unreached, and no arc.
-pub const NONE: u32 = 268435455;
 
 // The label of a node.
 pub fn label_of(table: &[u32], v: Node) -> u32
@@ -40,9 +38,9 @@ pub fn wrong_length(s: &[u8], table: &[u32]) -> bool
 }
 
 // The node that a node's predecessor, an arc, leads from.
-pub fn previous(s: &[u8], at: Sections, table: &[u32], v: Node) -> Node
-    requires { ⌜ Fed (now s) at (now table) (v .0) ⌝ }
-    ensures { λ u. ⌜ (u .0 ≡ nodeBefore (now (s .entry)) (now (table .entry)) (v .0)) × (u .0 < 1024) ⌝ }
+pub fn previous(s: &[u8], sections: Sections, table: &[u32], v: Node) -> Node
+    requires { ⌜ Fed (now s) sections (now table) (v .0) ⌝ }
+    ensures { λ u. ⌜ (u .0 ≡ nodeBefore (now (s .entry)) (now (table .entry)) (v .0)) × (u .0 < nodeNumbers) ⌝ }
 {
-    sheet::fields::end_at(s, at, Arc(predecessor_of(table, v) as u16), false)
+    sheet::fields::end_at(s, sections, Arc(predecessor_of(table, v) as u16), false)
 }

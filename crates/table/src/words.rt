@@ -5,48 +5,55 @@ ghost use Prim.Native.Nat.{_+_, _^_, _<_};
 ghost use lib.ListN.{length, set};
 ghost use lib.Seq.{sets};
 ghost use Rattle.procedure.specs.Table.{tableWord, statusWord, countWords};
+ghost use Rattle.sheet.specs.Words.{payloads};
+use sheet::COUNT_BASE;
+use sheet::PAYLOADS;
 
-// How many words of a table stand before those of the nodes.
-pub const HEADER: usize = 9;
+// How many counts a table has, how many words they take, and how many words stand before those of the nodes: these, and the status.
+pub const COUNTS: usize = 4;
+
+pub const COUNT_WORDS: usize = 2 * COUNTS;
+
+pub const HEADER: usize = 1 + COUNT_WORDS;
 
 // The kinds of table words.
-const STATUS: u32 = 8;
+const STATUS_KIND: u32 = 8;
 
-const LABEL: u32 = 9;
+const LABEL_KIND: u32 = 9;
 
-const PREDECESSOR: u32 = 10;
+const PREDECESSOR_KIND: u32 = 10;
 
-const COUNT: u32 = 11;
+const COUNT_KIND: u32 = 11;
 
 // A word of the given kind.
 fn word(kind: u32, payload: u32) -> u32
-    requires { ⌜ (kind < 16) × (payload < 268435456) ⌝ }
+    requires { ⌜ (kind < 16) × (payload < payloads) ⌝ }
     ensures { λ w. ⌜ w ≡ tableWord kind payload ⌝ }
 {
-    kind * 268435456 + payload
+    kind * PAYLOADS + payload
 }
 
 pub fn status_word(ended: bool) -> u32
     ensures { λ w. ⌜ w ≡ statusWord ended ⌝ }
 {
     if ended {
-        return word(STATUS, 1);
+        return word(STATUS_KIND, 1);
     }
-    word(STATUS, 0)
+    word(STATUS_KIND, 0)
 }
 
 pub fn label_word(label: u32) -> u32
-    requires { ⌜ label < 268435456 ⌝ }
+    requires { ⌜ label < payloads ⌝ }
     ensures { λ w. ⌜ w ≡ tableWord 9 label ⌝ }
 {
-    word(LABEL, label)
+    word(LABEL_KIND, label)
 }
 
 pub fn predecessor_word(predecessor: u32) -> u32
-    requires { ⌜ predecessor < 268435456 ⌝ }
+    requires { ⌜ predecessor < payloads ⌝ }
     ensures { λ w. ⌜ w ≡ tableWord 10 predecessor ⌝ }
 {
-    word(PREDECESSOR, predecessor)
+    word(PREDECESSOR_KIND, predecessor)
 }
 
 // Writes a word at place i.
@@ -71,7 +78,7 @@ pub fn write_count(table: &mut [u32], i: usize, count: u64)
     requires { ⌜ (i + 1 < length (now table)) × (count < 2 ^ 56) ⌝ }
     ensures { λ _. ⌜ now (table .exit) ≡ sets (now (table .entry)) i (countWords (count ∷ [])) ⌝ }
 {
-    let high = (count / 268435456) as u32;
-    let low = (count % 268435456) as u32;
-    write_pair(table, i, word(COUNT, high), word(COUNT, low));
+    let high = (count / COUNT_BASE) as u32;
+    let low = (count % COUNT_BASE) as u32;
+    write_pair(table, i, word(COUNT_KIND, high), word(COUNT_KIND, low));
 }

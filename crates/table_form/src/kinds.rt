@@ -1,11 +1,13 @@
 // The kinds of a lent table's words, and the arcs that its nodes name. The counts' payloads are not looked at.
 ghost use mathlib.Core.Path.{_≡_};
-ghost use Prim.Native.Nat.{_+_, _≤_, _<_};
+ghost use Prim.Native.Nat.{_+_, _≤_, _<_, _*_};
 ghost use lib.ListN.{length};
 ghost use Rattle.indices.specs.Tests.{any};
 ghost use Rattle.calls.specs.Tables.{tableLength};
 ghost use Rattle.calls.specs.Routes.{wrongKind, wrongCount, wrongNode};
+ghost use Rattle.procedure.specs.Table.{countsLength};
 use sheet::Node;
+use table::words::COUNT_WORDS;
 
 // Whether the word at i is not of the kind.
 pub fn wrong_kind(table: &[u32], i: usize, kind: u32) -> bool
@@ -18,10 +20,10 @@ pub fn wrong_kind(table: &[u32], i: usize, kind: u32) -> bool
 // Whether a word of the counts is not of its kind.
 pub fn wrong_counts(table: &[u32]) -> bool
     requires { ⌜ tableLength 0 ≤ length (now table) ⌝ }
-    ensures { λ r. ⌜ r ≡ any (wrongCount (now (table .entry))) 8 ⌝ }
+    ensures { λ r. ⌜ r ≡ any (wrongCount (now (table .entry))) (2 * countsLength) ⌝ }
 {
     let mut i = 0;
-    while i < 8 {
+    while i < COUNT_WORDS {
         if wrong_kind(table, 1 + i, 11) {
             return true;
         }
@@ -46,7 +48,7 @@ fn wrong_node(table: &[u32], arcs: u32, v: Node) -> bool
     if a < arcs {
         return false;
     }
-    a != table::read::NONE
+    a != sheet::NONE
 }
 
 // Whether a node's words are wrong.

@@ -18,8 +18,8 @@ fn status(table: &[u32]) -> u32
 }
 
 // Refusal 22: a wrong kind, status or predecessor.
-pub fn malformed(s: &[u8], at: Sections, table: &[u32]) -> bool
-    requires { ⌜ Fitting (now s) at (now table) ⌝ }
+pub fn malformed(s: &[u8], sections: Sections, table: &[u32]) -> bool
+    requires { ⌜ Fitting (now s) sections (now table) ⌝ }
     ensures { λ r. ⌜ r ≡ malformed (now (s .entry)) (now (table .entry)) ⌝ }
 {
     if crate::kinds::wrong_kind(table, 0, 8) {
@@ -31,7 +31,7 @@ pub fn malformed(s: &[u8], at: Sections, table: &[u32]) -> bool
     if status(table) > 1 {
         return true;
     }
-    crate::kinds::wrong_nodes(table, sheet::node_count(s) as u16, at.arcs as u32)
+    crate::kinds::wrong_nodes(table, sheet::node_count(s) as u16, sections.arcs as u32)
 }
 
 // Refusal 23: the table is paused.

@@ -25,7 +25,7 @@ module _ (b table : List ℕ) where
   nodeFits v = unfedTest (graphOf b) (labels b table) (predecessors b table) v && fedTest (graphOf b) (labels b table) (predecessors b table) v
 
 -- an arc and a node of a sheet whose table is tested
-pub record Tried (b : List ℕ) (at : Sections) (table : List ℕ) (a v : ℕ) : Type 0 where
-  pub fitting : Fitting b at table
+pub record Tried (b : List ℕ) (sections : Sections) (table : List ℕ) (a v : ℕ) : Type 0 where
+  pub fitting : Fitting b sections table
   pub arc-in : a < arcCount b
   pub node-in : v < nodeCount b

@@ -13,10 +13,11 @@ use Rattle.procedure.specs.OfSheet.{graphOf}
 use Rattle.theory_shortest.specs.TableTest.{leadsBack}
 use Rattle.table.specs.Fitting.{Fitting, predecessors}
 use Rattle.table_shortest.specs.NodeChecks.{nodeFits}
+use Rattle.sheet.specs.Limits.{nodeNumbers}
 
 -- predecessors that can be followed back: every node but the source that is reached has one, from a reached node
-pub record Followable (b : List ℕ) (at : Sections) (table : List ℕ) : Type 0 where
-  pub fitting : Fitting b at table
+pub record Followable (b : List ℕ) (sections : Sections) (table : List ℕ) : Type 0 where
+  pub fitting : Fitting b sections table
   pub fit : all (nodeFits b table) (nodeCount b) ≡ true
 
 -- v leads back to the source
@@ -26,13 +27,13 @@ leads b table v = leadsBack (graphOf b) (predecessors b table) (pred (nodeCount 
 -- The stamps after the walks from the nodes below v: 1 at the source, w + 2 at the nodes that the walk from w was the first to pass, 0 at the others.
 -- Every stamped node leads back to the source.
 pub record Stamped (b table stamps : List ℕ) (v : ℕ) : Type 0 where
-  pub long : length stamps ≡ 1024
+  pub long : length stamps ≡ nodeNumbers
   pub home : at stamps (source b) ≡ 1
   pub low : (w : ℕ) → w < nodeCount b → at stamps w ≤ v + 1
   pub led : (w : ℕ) → w < nodeCount b → at stamps w ≢ 0 → leads b table w ≡ true
 
 -- a node from which a walk is to go, with the stamps of the walks from the nodes below it
-pub record Walkable (b : List ℕ) (at : Sections) (table stamps : List ℕ) (v : ℕ) : Type 0 where
-  pub followable : Followable b at table
+pub record Walkable (b : List ℕ) (sections : Sections) (table stamps : List ℕ) (v : ℕ) : Type 0 where
+  pub followable : Followable b sections table
   pub inside : v < nodeCount b
   pub stamped : Stamped b table stamps v

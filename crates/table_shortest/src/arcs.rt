@@ -10,39 +10,39 @@ use sheet::Node;
 use sheet::Sections;
 
 // Whether the source has label 0 and no predecessor.
-pub fn source_fits(s: &[u8], at: Sections, table: &[u32]) -> bool
-    requires { ⌜ Fitting (now s) at (now table) ⌝ }
+pub fn source_fits(s: &[u8], sections: Sections, table: &[u32]) -> bool
+    requires { ⌜ Fitting (now s) sections (now table) ⌝ }
     ensures { λ r. ⌜ r ≡ sourceFits (now (s .entry)) (now (table .entry)) ⌝ }
 {
     let v = Node(sheet::source_number(s) as u16);
     if table::read::label_of(table, v) != 0 {
         return false;
     }
-    table::read::predecessor_of(table, v) == table::read::NONE
+    table::read::predecessor_of(table, v) == sheet::NONE
 }
 
 // Whether an arc from a reached node leads to no higher label than it gives.
-fn arc_relaxed(s: &[u8], at: Sections, table: &[u32], a: Arc) -> bool
-    requires { ⌜ Fitting (now s) at (now table) × (a .0 < arcCount (now s)) ⌝ }
+fn arc_relaxed(s: &[u8], sections: Sections, table: &[u32], a: Arc) -> bool
+    requires { ⌜ Fitting (now s) sections (now table) × (a .0 < arcCount (now s)) ⌝ }
     ensures { λ r. ⌜ r ≡ arcRelaxed (now (s .entry)) (now (table .entry)) (a .0) ⌝ }
 {
-    let from = table::read::label_of(table, sheet::fields::end_at(s, at, a, false));
-    if from == table::read::NONE {
+    let from = table::read::label_of(table, sheet::fields::end_at(s, sections, a, false));
+    if from == sheet::NONE {
         return true;
     }
-    table::read::label_of(table, sheet::fields::end_at(s, at, a, true))
-        <= from + sheet::fields::length_at(s, at, a)
+    table::read::label_of(table, sheet::fields::end_at(s, sections, a, true))
+        <= from + sheet::fields::length_at(s, sections, a)
 }
 
 // Whether every arc is relaxed.
-pub fn arcs_relaxed(s: &[u8], at: Sections, table: &[u32]) -> bool
-    requires { ⌜ Fitting (now s) at (now table) ⌝ }
+pub fn arcs_relaxed(s: &[u8], sections: Sections, table: &[u32]) -> bool
+    requires { ⌜ Fitting (now s) sections (now table) ⌝ }
     ensures { λ r. ⌜ r ≡ all (arcRelaxed (now (s .entry)) (now (table .entry))) (arcCount (now (s .entry))) ⌝ }
 {
-    let arcs = at.arcs as u16;
+    let arcs = sections.arcs as u16;
     let mut a: u16 = 0;
     while a < arcs {
-        if !arc_relaxed(s, at, table, Arc(a)) {
+        if !arc_relaxed(s, sections, table, Arc(a)) {
             return false;
         }
         a += 1;

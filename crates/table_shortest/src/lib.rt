@@ -2,7 +2,6 @@
 pub mod arcs;
 pub mod nodes;
 pub mod walk;
-pub mod walks;
 
 ghost use mathlib.Core.Path.{_≡_};
 ghost use Rattle.answer.specs.Answer.{accepted, lowest};
@@ -12,34 +11,34 @@ ghost use Rattle.table_shortest.specs.Numbers.{stateNumbered};
 use sheet::Sections;
 
 // Refusal 24: a distance is not the shortest, or the predecessors are no routes of those lengths.
-fn not_shortest(s: &[u8], at: Sections, table: &[u32]) -> bool
-    requires { ⌜ Fitting (now s) at (now table) ⌝ }
+fn not_shortest(s: &[u8], sections: Sections, table: &[u32]) -> bool
+    requires { ⌜ Fitting (now s) sections (now table) ⌝ }
     ensures { λ r. ⌜ r ≡ notShortest (now (s .entry)) (now (table .entry)) ⌝ }
 {
-    if !crate::arcs::source_fits(s, at, table) {
+    if !crate::arcs::source_fits(s, sections, table) {
         return true;
     }
-    if !crate::nodes::nodes_fit(s, at, table) {
+    if !crate::nodes::nodes_fit(s, sections, table) {
         return true;
     }
-    if !crate::arcs::arcs_relaxed(s, at, table) {
+    if !crate::arcs::arcs_relaxed(s, sections, table) {
         return true;
     }
-    !crate::walks::nodes_led(s, at, table)
+    !crate::walk::nodes_led(s, sections, table)
 }
 
 // Refusals 22 to 24 of a table that has its length: the number, or 0.
-pub fn table_refusal(s: &[u8], at: Sections, table: &[u32]) -> u8
-    requires { ⌜ Fitting (now s) at (now table) ⌝ }
+pub fn table_refusal(s: &[u8], sections: Sections, table: &[u32]) -> u8
+    requires { ⌜ Fitting (now s) sections (now table) ⌝ }
     ensures { λ r. ⌜ stateNumbered r ≡ lowest (tableRefusals (now (s .entry)) (now (table .entry))) accepted ⌝ }
 {
-    if table_form::malformed(s, at, table) {
+    if table_form::malformed(s, sections, table) {
         return 22;
     }
     if table_form::is_paused(table) {
         return 23;
     }
-    if not_shortest(s, at, table) {
+    if not_shortest(s, sections, table) {
         return 24;
     }
     0

@@ -10,48 +10,48 @@ use sheet::Node;
 use sheet::Sections;
 
 // Whether an arc leads to v from a reached node, and v's label allows for just that arc.
-fn feeds(s: &[u8], at: Sections, table: &[u32], a: Arc, v: Node) -> bool
-    requires { ⌜ Tried (now s) at (now table) (a .0) (v .0) ⌝ }
+fn feeds(s: &[u8], sections: Sections, table: &[u32], a: Arc, v: Node) -> bool
+    requires { ⌜ Tried (now s) sections (now table) (a .0) (v .0) ⌝ }
     ensures { λ r. ⌜ r ≡ feeds (now (s .entry)) (now (table .entry)) (a .0) (v .0) ⌝ }
 {
-    let to = sheet::fields::end_at(s, at, a, true);
+    let to = sheet::fields::end_at(s, sections, a, true);
     if to.0 != v.0 {
         return false;
     }
-    let from = table::read::label_of(table, sheet::fields::end_at(s, at, a, false));
-    if from == table::read::NONE {
+    let from = table::read::label_of(table, sheet::fields::end_at(s, sections, a, false));
+    if from == sheet::NONE {
         return false;
     }
-    from + sheet::fields::length_at(s, at, a) == table::read::label_of(table, v)
+    from + sheet::fields::length_at(s, sections, a) == table::read::label_of(table, v)
 }
 
 // Whether a node has the predecessor that its label asks for: none if it is unreached, and else, but for the source, an arc that feeds it.
-fn node_fits(s: &[u8], at: Sections, table: &[u32], v: Node) -> bool
-    requires { ⌜ Fitting (now s) at (now table) × (v .0 < nodeCount (now s)) ⌝ }
+fn node_fits(s: &[u8], sections: Sections, table: &[u32], v: Node) -> bool
+    requires { ⌜ Fitting (now s) sections (now table) × (v .0 < nodeCount (now s)) ⌝ }
     ensures { λ r. ⌜ r ≡ nodeFits (now (s .entry)) (now (table .entry)) (v .0) ⌝ }
 {
     let a = table::read::predecessor_of(table, v);
-    if table::read::label_of(table, v) == table::read::NONE {
-        return a == table::read::NONE;
+    if table::read::label_of(table, v) == sheet::NONE {
+        return a == sheet::NONE;
     }
     if v.0 as u32 == sheet::source_number(s) {
         return true;
     }
-    if a as usize >= at.arcs {
+    if a as usize >= sections.arcs {
         return false;
     }
-    feeds(s, at, table, Arc(a as u16), v)
+    feeds(s, sections, table, Arc(a as u16), v)
 }
 
 // Whether every node fits.
-pub fn nodes_fit(s: &[u8], at: Sections, table: &[u32]) -> bool
-    requires { ⌜ Fitting (now s) at (now table) ⌝ }
+pub fn nodes_fit(s: &[u8], sections: Sections, table: &[u32]) -> bool
+    requires { ⌜ Fitting (now s) sections (now table) ⌝ }
     ensures { λ r. ⌜ r ≡ all (nodeFits (now (s .entry)) (now (table .entry))) (nodeCount (now (s .entry))) ⌝ }
 {
     let nodes = sheet::node_count(s) as u16;
     let mut v: u16 = 0;
     while v < nodes {
-        if !node_fits(s, at, table, Node(v)) {
+        if !node_fits(s, sections, table, Node(v)) {
             return false;
         }
         v += 1;

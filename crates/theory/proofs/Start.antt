@@ -14,8 +14,8 @@ use Rattle.procedure.specs.Graph.{Graph, arcs, tail}
 use Rattle.procedure.specs.Division.{Division, regions, arcOf, isLeaf}
 use Rattle.procedure.specs.State.{Queues}
 use Rattle.procedure.specs.Procedure.{start}
-use Rattle.procedure.specs.Settled.{home}
-use Rattle.procedure.specs.WellFormed.{WellFormed}
+use Rattle.theory_shortest.specs.Settled.{home}
+use Rattle.theory_shortest.specs.WellFormed.{WellFormed}
 use Rattle.theory.specs.Sound.{Sized, Shape, Valued, Sound, Root}
 use Rattle.theory.proofs.Chosen.{minKey-leaf, minKey-all-none}
 use Rattle.theory.proofs.Smallest.{Closed}

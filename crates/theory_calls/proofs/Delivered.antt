@@ -17,9 +17,9 @@ use Rattle.procedure.specs.OfSheet.{graphOf, divisionOf, spansOf}
 use Rattle.procedure.specs.State.{counts}
 use Rattle.procedure.specs.Procedure.{enoughRounds, final}
 use Rattle.procedure.specs.Table.{largestLabel}
-use Rattle.procedure.specs.WellFormed.{WellFormed}
+use Rattle.theory_shortest.specs.WellFormed.{WellFormed}
 use Rattle.procedure.proofs.OfSheet.{graph-nodes}
-use Rattle.procedure.proofs.WellFormed.{accepted-well-formed}
+use Rattle.theory_shortest.proofs.WellFormed.{accepted-well-formed}
 use Rattle.theory.proofs.Final.{after-shape, label-fits, label-word, predecessor-word, final-ended}
 use Rattle.theory.proofs.Distances.{ended-shortest, counts-fit}
 use Rattle.calls.specs.Tables.{statusIn, countIn, labelIn, labelsIn, predecessorsIn}

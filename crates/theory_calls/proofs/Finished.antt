@@ -1,4 +1,4 @@
--- A table that a run has left as ended is never refused with 22 to 24: the route reader answers by its search for the route.
+-- A table that a run has left as ended is never refused with 21 to 24: the route reader answers by its search for the route.
 use Prim.Native.Nat.{ℕ, _+_, _*_, _<_}
 use mathlib.Core.Bool.{true, false, not, _||_}
 use mathlib.Core.Path.{_≡_, refl, ap, _∙_}
@@ -19,8 +19,7 @@ use Rattle.theory.proofs.Final.{predecessor-fits}
 use Rattle.theory.proofs.Distances.{ended-shortest}
 use Rattle.calls.specs.Tables.{wrongLength, kindIn, statusIn, predecessorIn}
 use Rattle.calls.specs.Runs.{stateAfter, endedAfter, runTable}
-use Rattle.calls.specs.Routes.{nodeOutside, wrongNode, malformed, isPaused, notShortest, tableRefusals}
-use Rattle.calls.specs.Routes.{foundRoute, routeAnswer}
+use Rattle.calls.specs.Routes.{nodeOutside, wrongNode, malformed, isPaused, notShortest, tableRefusals, foundRoute, routeAnswer}
 use Rattle.calls.proofs.Reading.{table-long, status-kind, count-kind, label-in, predecessor-in}
 use Rattle.calls.proofs.Routes.{shortest-agrees, after-sheet}
 use Rattle.theory_calls.proofs.Delivered.{well, label-small, predecessor-small, counts-small, table-status, table-labels, table-predecessors}

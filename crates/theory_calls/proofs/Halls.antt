@@ -21,7 +21,7 @@ use Rattle.sheet.specs.Words.{words, word, payloadOf, kind, payload}
 use Rattle.sheet.specs.Sections.{nodeCount, source, isSpan, isArc, spansFrom, arcsFrom, spanCount, arcCount, arcsAt, regionsAt, regionWords}
 use Rattle.sheet.specs.Arcs.{tail, head, arcLength, endsWord}
 use Rattle.sheet.proofs.Bounds.{region-words, regions-inside, region-kind}
-use Rattle.answer.proofs.Lowest.{clear-at}
+use Rattle.answer.proofs.Lowest.{clear-of}
 use Rattle.judgement.specs.Form.{wrongFront, outOfOrder}
 use Rattle.judgement.specs.Judgement.{formRefusals, refusals, judgement, Accepted}
 use Rattle.judgement.proofs.Accepted.{front-there, region-kinds}
@@ -110,7 +110,7 @@ module _ (b : List ℕ) where
   module _ (ok : Accepted b) where
     in-order : outOfOrder b ≡ false
     unfolding judgement refusals formRefusals
-    in-order = clear-at (refusals b) ok 1
+    in-order = clear-of (refusals b) ok 2
 
     -- "kind 1, once", "kind 2, once"
     front-kinds : (kind b 0 ≡ 1) × (kind b 1 ≡ 2)

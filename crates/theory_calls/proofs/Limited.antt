@@ -11,7 +11,7 @@ use Rattle.procedure.specs.Graph.{Graph}
 use Rattle.procedure.specs.Division.{Division}
 use Rattle.procedure.specs.State.{State}
 use Rattle.procedure.specs.Procedure.{enoughRounds, ended, after, final}
-use Rattle.procedure.specs.WellFormed.{WellFormed}
+use Rattle.theory_shortest.specs.WellFormed.{WellFormed}
 use Rattle.judgement.specs.Judgement.{Accepted}
 use Rattle.theory.proofs.Final.{next-round, rounds-in-parts, ended-stays, final-ended, ended-final}
 use Rattle.theory.proofs.Counts.{round-more, still-running}

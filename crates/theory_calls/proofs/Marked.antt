@@ -11,29 +11,24 @@ use Rattle.sheet.specs.Sections.{spansFrom, arcsFrom, regionWords}
 use Rattle.sheet.specs.Arcs.{tail, head, arcLength}
 use Rattle.sheet.specs.Heights.{heightIn, heightOf}
 use Rattle.sheet.specs.Regions.{leafWord, parentWord, arcWord}
-use Rattle.sheet.specs.Samples.{bytesOf, mostOfHallA, hallA, oneNode}
+use Rattle.sheet.proofs.Samples.{bytesOf, mostOfHallA, hallA, oneNode}
 use Rattle.answer.specs.Answer.{input, state, Answer, accepted, ended, paused, route, refused}
 use Rattle.judgement.specs.Form.{wrongSize, outOfOrder, bitSet, nodesOutside, sourceOutside, spansOutside, tooMany}
-use Rattle.judgement.specs.Fields.{endsOutside, lengthsOutside, crowdedNodes, tooManyAtNode}
-use Rattle.judgement.specs.Nesting.{wrongParents, wrongLeaves, childlessRegions, spansDiffer}
+use Rattle.judgement.specs.Arcs.{endsOutside, lengthsOutside, crowdedNodes, tooManyAtNode}
+use Rattle.judgement.specs.Division.{wrongParents, wrongLeaves, childlessRegions, spansDiffer}
 use Rattle.judgement.specs.Judgement.{formRefusals, countRefusals, arcRefusals, divisionRefusals, refusals, judgement}
 use Rattle.procedure.specs.Division.{leafOf}
 use Rattle.procedure.specs.OfSheet.{graphOf, divisionOf, spansOf}
 use Rattle.procedure.specs.Queues.{before, choose, minItemBelow, minItem, minKey, write, updateFor, update, updateArc, updateOutgoing}
-use Rattle.procedure.specs.Procedure.{relax, clearKey, processLeaf, rewriteKey, countInner, countRound, processChild, alive, ended as hasEnded}
-use Rattle.procedure.specs.Procedure.{enoughRounds, processFor, process, start, round, after}
+use Rattle.procedure.specs.Procedure.{relax, clearKey, processLeaf, rewriteKey, countInner, countRound, processChild, alive, ended as hasEnded, enoughRounds, processFor, process, start, round, after}
 use Rattle.procedure.specs.Table.{nodeWords, tableOf}
 use Rattle.procedure.specs.Routes.{followed}
 use Rattle.theory_shortest.specs.TableTest.{leadsBack, sourceTest, unfedTest, fedTest, relaxedTest, ledTest, settled?}
 use Rattle.calls.specs.Tables.{tableLength, wrongLength, labelsIn, predecessorsIn}
 use Rattle.calls.specs.Runs.{runRefusals, runAnswer, runTable, tableAfter}
-use Rattle.calls.specs.Routes.{nodeOutside, wrongNode, isPaused, malformed, notShortest, tableRefusals, routeRefusals, routeTo, foundRoute}
-use Rattle.calls.specs.Routes.{routeAnswer, leftBy, bufferAfter}
+use Rattle.calls.specs.Routes.{nodeOutside, wrongNode, isPaused, malformed, notShortest, tableRefusals, routeRefusals, routeTo, foundRoute, routeAnswer, leftBy, bufferAfter}
 use Rattle.listing.specs.Text.{ascii, lastDigits, decimal}
-use Rattle.listing.specs.Fields.{field, spaced}
-use Rattle.listing.specs.StatusLine.{status, counted, statusLine}
-use Rattle.listing.specs.NodeLines.{nodeLine, nodeLines}
-use Rattle.listing.specs.Listing.{listingOf, refusedLine}
+use Rattle.listing.specs.Listing.{cell, spaced, status, counted, statusLine, nodeLine, nodeLines, listingOf, refusedLine}
 use Rattle.listing.specs.Printed.{printed}
 
 -- a call: to judge a sheet, given by its words; to run it for at most so many rounds, with a table lent; to read the route to a node out of a table, with
@@ -160,5 +155,5 @@ unfolding any count lead most upTo times column word kind payload top spansFrom 
     countInner countRound processChild alive hasEnded processFor process start round after nodeWords tableOf wrongLength runRefusals runAnswer runTable
     tableAfter all labelsIn predecessorsIn followed leadsBack sourceTest unfedTest fedTest relaxedTest ledTest settled? nodeOutside wrongNode isPaused
     malformed notShortest tableRefusals routeRefusals routeTo foundRoute routeAnswer leftBy bufferAfter
-    lastDigits decimal field spaced status counted statusLine nodeLine nodeLines listingOf refusedLine printed
+    lastDigits decimal cell spaced status counted statusLine nodeLine nodeLines listingOf refusedLine printed
 marked = refl

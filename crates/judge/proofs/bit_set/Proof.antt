@@ -16,4 +16,4 @@ bit-set-spec =
     (λ c κs. search needs)
     (λ c κs. search needs)
     (λ c. let clear : tie.Else1 = search needs in
-    rw (sym (clear .before .bit-set .ensures) ∙ clear .if1 .left, ← c .before .region-words .ensures) (c .bit-set2 .ensures)))
+    rw (sym (clear .before .bit-set .ensures) ∙ clear .if1 .left, ← c .before .region-words .ensures) (c .leaf-bits-set .ensures)))

@@ -5,7 +5,7 @@ use Rattle.judge.proofs.judge.Statement.{statement}
 use Rattle.judge.proofs.judge.Tie as tie
 
 returns : tie.Need-returns
-returns c = c .answer .ensures ∙ c .before .lowest-refusal .ensures
+returns c = c .of-number .ensures ∙ c .before .lowest-refusal .ensures
 
 pub judge-spec : {M : Type 1} → statement M
 judge-spec = tie.close (tie.spec (λ c κs. search needs) (λ c κs. search needs) returns)

@@ -29,7 +29,7 @@ arced : (c : tie.Else3) → lowest (arcRefusals (begun (c .before .before) .args
 arced c = sym (c .before .arc-refusal .ensures) ∙ ap numbered (c .if3 .left)
 
 -- so the arcs that were found are few
-few-arcs : (c : tie.Else2) → begun c .args .at .arcs ≤ mostArcs
+few-arcs : (c : tie.Else2) → begun c .args .sections .arcs ≤ mostArcs
 few-arcs c = omega (arith, begun c .pre .located .arcs-all, count-arcs (begun c .args .s .now) (counted c))
 
 returns : tie.Need-returns
@@ -44,9 +44,9 @@ division-refusal-requires c κs = (rw (c .before .region-words .ensures) (count-
 returns-4 : tie.Need-returns-4
 returns-4 c =
     let past : tie.Else2 = search needs in
-    let at = begun past .pre .located in
+    let found = begun past .pre .located in
     c .division-refusal .ensures
-    ∙ division-decides _ (formed (search needs)) (counted past) (arced (search needs)) (c .before .before .region-words .ensures) (at .arcs-all) (at .spans-all)
+    ∙ division-decides _ (formed (search needs)) (counted past) (arced (search needs)) (c .before .before .region-words .ensures) (found .arcs-all) (found .spans-all)
 
 pub later-refusal-spec : {M : Type 1} → statement M
 later-refusal-spec =

@@ -5,8 +5,8 @@ use mathlib.Core.List.{List}
 use mathlib.Core.Path.{_≡_, sym, ap, _∙_}
 use borrow.Author.Needs.{needs}
 use Rattle.answer.specs.Answer.{numbered, accepted, lowest}
-use Rattle.answer.proofs.Lowest.{clear-at, stage-stops}
-use Rattle.judgement.specs.Fields.{endsOutside, lengthsOutside}
+use Rattle.answer.proofs.Lowest.{clear-of, stage-stops}
+use Rattle.judgement.specs.Arcs.{endsOutside, lengthsOutside}
 use Rattle.judgement.specs.Judgement.{arcRefusals}
 use Rattle.judge_arcs.specs.Fields.{fieldRefusals}
 use Rattle.judge_arcs.proofs.arc_refusal.Statement.{statement}
@@ -20,10 +20,10 @@ clear : (c : tie.Else1) → lowest (fieldRefusals (sheet c)) accepted ≡ accept
 clear c = sym (c .before .field-refusal .ensures) ∙ ap numbered (c .if1 .left)
 
 ends-in : (c : tie.Else1) → endsOutside (sheet c) ≡ false
-ends-in c = clear-at (fieldRefusals _) (clear c) 0
+ends-in c = clear-of (fieldRefusals _) (clear c) 8
 
 lengths-in : (c : tie.Else1) → lengthsOutside (sheet c) ≡ false
-lengths-in c = clear-at (fieldRefusals _) (clear c) 1
+lengths-in c = clear-of (fieldRefusals _) (clear c) 9
 
 pub arc-refusal-spec : {M : Type 1} → statement M
 unfolding arcRefusals
@@ -32,5 +32,5 @@ arc-refusal-spec =
     (λ c κs. search needs)
     (λ c. stage-stops (fieldRefusals _) _ _ (c .if1 .taken) (c .before .field-refusal .ensures))
     (λ c κs. search (needs, ends-in))
-    (λ c. rw (ends-in (search needs), lengths-in (search needs), sym (c .before .crowded-nodes .ensures) ∙ c .if2 .taken))
-    (λ c. rw (ends-in (search needs), lengths-in (search needs), sym (c .before .crowded-nodes .ensures) ∙ c .if2 .left)))
+    (λ c. rw (ends-in (search needs), lengths-in (search needs), sym (c .before .too-many-at-node .ensures) ∙ c .if2 .taken))
+    (λ c. rw (ends-in (search needs), lengths-in (search needs), sym (c .before .too-many-at-node .ensures) ∙ c .if2 .left)))

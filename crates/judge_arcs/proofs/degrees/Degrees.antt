@@ -1,4 +1,4 @@
--- What the counters say of the arcs at each node: a third one, or none.
+-- What the counters say of the arcs at each node: one too many, or none.
 use Prim.Native.Nat.{ℕ, _+_, _<_, _≤_}
 use mathlib.Core.Bool.{Bool, true, false, or-true}
 use mathlib.Core.List.{List}
@@ -7,20 +7,19 @@ use borrow.Author.Tests.{eq-eqb, ne-eqb, lt-ltb, le-ltb}
 use native.Mathlib.Omega.{arith}
 use lib.ListN.{length, getD, set}
 use Rattle.indices.specs.Tests.{count}
-use Rattle.indices.specs.Tally.{Tally}
+use Rattle.indices.proofs.Tally.{Tally, tally-in}
 use Rattle.indices.proofs.Tests.{any-hit, any-false, count-in, count-mono}
-use Rattle.indices.proofs.Tally.{tally-in}
-use Rattle.sheet.specs.Limits.{mostArcsEachWay}
+use Rattle.sheet.specs.Limits.{mostArcsEachWay, nodeNumbers, mostNodes}
 use Rattle.sheet.specs.Sections.{nodeCount, arcCount}
 use Rattle.sheet.specs.Arcs.{endOf}
-use Rattle.judgement.specs.Fields.{endsOutside, endsAt, crowded, crowdedNodes, tooManyAtNode}
+use Rattle.judgement.specs.Arcs.{endsOutside, endsAt, crowded, crowdedNodes, tooManyAtNode}
 use Rattle.judgement.proofs.Clear.{end-in}
 
 -- the counters, once a arcs are passed: how many of them leave each node, and enter it
 pub record Counting (b tails heads : List ℕ) (a : ℕ) : Type 0 where
   pub passed : a ≤ arcCount b
-  pub tails-long : length tails ≡ 1024
-  pub heads-long : length heads ≡ 1024
+  pub tails-long : length tails ≡ nodeNumbers
+  pub heads-long : length heads ≡ nodeNumbers
   pub out : Tally (endsAt false b) mostArcsEachWay tails a
   pub into : Tally (endsAt true b) mostArcsEachWay heads a
 
@@ -57,7 +56,7 @@ module _ (b : List ℕ) where
       any-false (crowded heads b) (nodeCount b)
       (λ v l. le-ltb mostArcsEachWay (count (endsAt heads b v) (arcCount b)) (omega (arith, t .counts v (omega arith), t .below v (omega arith))))
 
-  pub none-too-many : {tails heads : List ℕ} {a : ℕ} → Counting b tails heads a → nodeCount b ≤ 1024 → a ≡ arcCount b → tooManyAtNode b ≡ false
+  pub none-too-many : {tails heads : List ℕ} {a : ℕ} → Counting b tails heads a → nodeCount b ≤ mostNodes → a ≡ arcCount b → tooManyAtNode b ≡ false
   unfolding tooManyAtNode
   none-too-many {tails} {heads} now few all =
       rw (uncrowded false tails (omega (arith, now .tails-long)) (rw all at (now .out)))

@@ -11,16 +11,16 @@ use Rattle.indices.specs.Tests.{any}
 use Rattle.indices.proofs.Tests.{any-none}
 use Rattle.sheet.specs.Limits.{mostLength}
 use Rattle.sheet.specs.Sections.{arcCount}
-use Rattle.judgement.specs.Fields.{endOutside, endsOutside, tooLong, lengthsOutside}
+use Rattle.judgement.specs.Arcs.{endOutside, endsOutside, tooLong, lengthsOutside}
 use Rattle.judge_arcs.proofs.Flags.{flag-set, flag-kept}
 use Rattle.judge_arcs.proofs.field_refusal.Statement.{statement}
 use Rattle.judge_arcs.proofs.field_refusal.Tie as tie
 
 abbrev Inv-loop : tie.InvT-loop
-Inv-loop s at arcs outside₀ long₀ a₀ outside long a = (a ≤ arcCount s) × (outside ≡ any (endOutside s) a) × (long ≡ any (tooLong s) a)
+Inv-loop s sections arcs outside₀ long₀ a₀ outside long a = (a ≤ arcCount s) × (outside ≡ any (endOutside s) a) × (long ≡ any (tooLong s) a)
 
 abbrev μ-loop : tie.MeasureT-loop
-μ-loop s at arcs outside₀ long₀ a₀ outside long a = arcCount s - a
+μ-loop s sections arcs outside₀ long₀ a₀ outside long a = arcCount s - a
 
 -- THE PLACES: a turn of the loop, and where each of its tests has set a flag or not
 abbrev Turn : Type 0
@@ -39,7 +39,7 @@ turn c = c .before .before .before
 ends-told : (c : Ends) → c .if1 .outside ≡ any (endOutside (sheet (turn c))) (turn c .loop .a + 1)
 ends-told c =
     let loop = turn c .loop in
-    let seen = sym (c .before .ends-outside .ensures) in
+    let seen = sym (c .before .arc-outside .ensures) in
     ⊎-elim (λ w. flag-set _ (loop .a) _ (w .1) (seen ∙ w .0 .taken))
     (λ w. flag-kept _ (loop .a) _ (w .1 ∙ loop .inv .1) (seen ∙ w .0 .left)) (c .if1 .came)
 

@@ -2,7 +2,7 @@
 use mathlib.Core.Bool.{false}
 use mathlib.Core.Path.{_≡_, sym, _∙_}
 use borrow.Author.Needs.{needs}
-use Rattle.judgement.specs.Nesting.{wrongParents, wrongLeaves}
+use Rattle.judgement.specs.Division.{wrongParents, wrongLeaves}
 use Rattle.judgement.specs.Judgement.{divisionRefusals}
 use Rattle.judge_division.proofs.division_refusal.Statement.{statement}
 use Rattle.judge_division.proofs.division_refusal.Tie as tie

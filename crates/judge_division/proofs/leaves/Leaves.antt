@@ -12,8 +12,8 @@ use Rattle.indices.proofs.Steps.{by-order, by-truth}
 use Rattle.indices.proofs.Tests.{and-left, and-right, any-at, any-hit, any-false, count-hit, count-some}
 use Rattle.sheet.specs.Words.{words}
 use Rattle.sheet.specs.Regions.{leafWord, arcWord}
-use Rattle.judgement.specs.Nesting.{noSuchArc, leafOfArc, notOneLeaf, wrongLeaves}
-use Rattle.judge_division.proofs.leaf_words.Counted.{leaf-counts}
+use Rattle.judgement.specs.Division.{noSuchArc, leafOfArc, notOneLeaf, wrongLeaves}
+use Rattle.judge_division.proofs.leaves.Counted.{leaf-counts}
 
 module _ (d : List ℕ) where
   -- an arc's number has 11 bits

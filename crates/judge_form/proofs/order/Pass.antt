@@ -17,30 +17,30 @@ use Rattle.judge_form.proofs.order.Order.{in-order}
 
 -- a step of the cursor
 pub record Stepped (b : List ℕ) (c : Cursor) (w : ℕ) (next : Cursor) : Type 0 where
-  pub inside : c .at < words b
-  pub read : w ≡ word b (c .at)
-  pub moved : next .at ≡ c .at + 1
+  pub inside : c .place < words b
+  pub read : w ≡ word b (c .place)
+  pub moved : next .place ≡ c .place + 1
 
 pub step-word : (b : List ℕ) (c : Cursor) (w : ℕ) (next : Cursor) → stepAt b c ≡ Word w next → Stepped b c w next
 step-word b c w next e =
-    by-truth (ltb (c .at) (words b))
+    by-truth (ltb (c .place) (words b))
     (λ h.
-    let after : Cursor = record { at = c .at + 1 } in
-    let read : Word (word b (c .at)) after ≡ Word w next = rw h at e in
+    let after : Cursor = record { place = c .place + 1 } in
+    let read : Word (word b (c .place)) after ≡ Word w next = rw h at e in
     let same : after ≡ next = cc in
-    record { inside = ltb-true (c .at) (words b) h; read = cc; moved = ap (λ (x : Cursor). x .at) (sym same) })
+    record { inside = ltb-true (c .place) (words b) h; read = cc; moved = ap (λ (x : Cursor). x .place) (sym same) })
     (λ h. let none : End ≡ Word w next = rw h at e in let z : _≡_ {A = ℕ} 0 1 = cc in absurd (omega arith))
 
 -- the kind that was read
-pub step-kind : {b : List ℕ} {c next : Cursor} {w k : ℕ} → Stepped b c w next → k ≡ kindOf w → k ≡ kind b (c .at)
+pub step-kind : {b : List ℕ} {c next : Cursor} {w k : ℕ} → Stepped b c w next → k ≡ kindOf w → k ≡ kind b (c .place)
 unfolding kind
 step-kind st e = e ∙ ap kindOf (st .read)
 
-pub step-end : (b : List ℕ) (c : Cursor) → stepAt b c ≡ End → words b ≤ c .at
+pub step-end : (b : List ℕ) (c : Cursor) → stepAt b c ≡ End → words b ≤ c .place
 step-end b c e =
-    by-truth (ltb (c .at) (words b))
-    (λ h. let some : Word (word b (c .at)) (record { at = c .at + 1 }) ≡ End = rw h at e in let z : _≡_ {A = ℕ} 0 1 = cc in absurd (omega arith))
-    (λ h. ltb-false (c .at) (words b) h)
+    by-truth (ltb (c .place) (words b))
+    (λ h. let some : Word (word b (c .place)) (record { place = c .place + 1 }) ≡ End = rw h at e in let z : _≡_ {A = ℕ} 0 1 = cc in absurd (omega arith))
+    (λ h. ltb-false (c .place) (words b) h)
 
 follow-ext : (before : ℕ) (kinds kinds′ : ℕ → ℕ) (n : ℕ) → ((i : ℕ) → kinds i ≡ kinds′ i) → followOn before kinds n ≡ followOn before kinds′ n
 unfolding followOn
@@ -54,7 +54,7 @@ unrolled before kinds n = refl
 
 -- the words from `at` on, after one of kind `before`, are in order
 unfoldable pub rest : List ℕ → ℕ → ℕ → Bool
-rest b before at = followOn before (λ i. kind b (at + i)) (words b - at)
+rest b before place = followOn before (λ i. kind b (place + i)) (words b - place)
 
 -- what is left of the pass
 pub record Passing (b : List ℕ) (before at : ℕ) : Type 0 where

@@ -6,11 +6,11 @@ use native.Mathlib.Numerals.{add-one}
 use native.Mathlib.Omega.{arith}
 use lib.ListN.{length, length-append}
 use Rattle.calls.specs.Tables.{labelIn, predecessorIn}
-use Rattle.listing.specs.NodeLines.{nodeLine, nodeLines}
-use Rattle.listing.specs.Written.{Room, Wrote}
+use Rattle.listing.specs.Listing.{nodeLine, nodeLines}
+use Rattle.listing.specs.Inner.{Room, Wrote}
 use Rattle.listing.proofs.text.Writing.{length-wrote}
 use Rattle.listing.proofs.text.Numbers.{decimal-within}
-use Rattle.listing.proofs.fields.Fields.{spaced-within}
+use Rattle.listing.proofs.cells.Cells.{spaced-within}
 
 -- a line more
 pub line-more : (table : List ℕ) (v : ℕ) → nodeLines table (v + 1) ≡ nodeLines table v ++ nodeLine table v

@@ -9,7 +9,7 @@ use lib.ListN.{length, length-append}
 use Rattle.indices.proofs.Steps.{by-equal}
 use Rattle.calls.specs.Tables.{statusIn, countIn}
 use Rattle.listing.specs.Text.{ascii, decimal}
-use Rattle.listing.specs.StatusLine.{status, counted, statusLine}
+use Rattle.listing.specs.Listing.{status, counted, statusLine}
 use Rattle.listing.proofs.text.Numbers.{decimal-within}
 
 pub status-ended : (table : List ℕ) → statusIn table ≡ 1 → status table ≡ ascii "ended"

@@ -8,7 +8,7 @@ use borrow.Author.Tests.{lt-ltb, le-ltb}
 use lib.ListN.{length, length-append}
 use Rattle.indices.proofs.Steps.{by-order}
 use Rattle.listing.specs.Text.{digit, lastDigits, decimal}
-use Rattle.listing.specs.Written.{Room, Wrote}
+use Rattle.listing.specs.Inner.{Room, Wrote}
 use Rattle.listing.proofs.text.Writing.{wrote-then, room-before, room-after, byte-room}
 
 one-digit : (most n : ℕ) → n < 10 → lastDigits (suc most) n ≡ digit n ∷ []

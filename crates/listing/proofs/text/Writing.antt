@@ -7,7 +7,7 @@ use native.Mathlib.Numerals.{add-one}
 use native.Mathlib.Omega.{arith}
 use lib.ListN.{length, getD, set, take, length-append}
 use lib.Seq.{sets, length-sets, take-suc, take-all, length-take-le}
-use Rattle.listing.specs.Written.{Room, Wrote}
+use Rattle.listing.specs.Inner.{Room, Wrote}
 
 sets-sets : (l s t : List ℕ) (i : ℕ) → sets (sets l i s) (i + length s) t ≡ sets l i (s ++ t)
 sets-sets l [] t i = ap (λ (k : ℕ). sets l k t) (omega arith)

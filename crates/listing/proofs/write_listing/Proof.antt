@@ -1,6 +1,6 @@
 -- `write_listing` meets its contract: the first line, then the lines of the nodes, have room and are written from the front on.
 use borrow.Author.Needs.{needs}
-use Rattle.listing.specs.Written.{Room}
+use Rattle.listing.specs.Inner.{Room}
 use Rattle.listing.proofs.text.Writing.{wrote-then}
 use Rattle.listing.specs.Listing.{listingOf}
 use Rattle.listing.proofs.Writing.{filled}

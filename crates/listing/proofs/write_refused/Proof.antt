@@ -3,7 +3,7 @@ use mathlib.Core.Path.{refl}
 use mathlib.Core.List.{_++_}
 use borrow.Author.Needs.{needs}
 use Rattle.listing.specs.Text.{ascii, decimal}
-use Rattle.listing.specs.Written.{Room, Wrote}
+use Rattle.listing.specs.Inner.{Room, Wrote}
 use Rattle.listing.proofs.text.Writing.{wrote-then, room-before, room-after, byte-room}
 use Rattle.listing.specs.Listing.{refusedLine}
 use Rattle.listing.proofs.Writing.{filled}

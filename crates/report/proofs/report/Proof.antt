@@ -1,7 +1,7 @@
 -- `report` meets its contract: the line of the judge's refusal, or what is printed of the accepted sheet.
 use mathlib.Core.Path.{sym, ap, _∙_}
 use Rattle.io.proofs.Counting.{counts}
-use Rattle.answer.specs.JudgeSaid.{said}
+use Rattle.answer.specs.Said.{judgeSaid}
 use Rattle.listing.proofs.Writing.{filled-within}
 use Rattle.report.proofs.Outcomes.{reported-refusal}
 use borrow.Author.Needs.{needs}
@@ -11,7 +11,7 @@ use Rattle.report.proofs.report.Tie as tie
 report-accepted-requires : tie.Need-report-accepted-requires
 report-accepted-requires c κs =
     let heard : tie.After-judge = search needs in
-    (sym (heard .judge .ensures) ∙ ap said (c .before .before .enum-told .given .1), search needs, search needs)
+    (sym (heard .judge .ensures) ∙ ap judgeSaid (c .before .before .enum-told .given .1), search needs, search needs)
 
 returns : tie.Need-returns
 returns c =
@@ -19,7 +19,7 @@ returns c =
     let fault : tie.After-judged = search needs in
     let numbered : tie.After-number-of = search needs in
     let line = c .before .before .write-refused .ensures in (
-      reported-refusal _ _ (sym (heard .judge .ensures) ∙ ap said (fault .judged .given .1)) (rw (numbered .number-of .ensures) at line),
+      reported-refusal _ _ (sym (heard .judge .ensures) ∙ ap judgeSaid (fault .judged .given .1)) (rw (numbered .number-of .ensures) at line),
       counts _ _ (filled-within line),
     )
 

@@ -13,10 +13,10 @@ use Rattle.sheet.specs.Words.{top}
 use Rattle.sheet.specs.Sections.{nodeCount, source, arcCount}
 use Rattle.judgement.proofs.Accepted.{few-nodes}
 use Rattle.procedure.specs.OfSheet.{graphOf}
-use Rattle.procedure.specs.WellFormed.{GraphOk}
+use Rattle.theory_shortest.specs.WellFormed.{GraphOk}
 use Rattle.procedure.specs.Routes.{chainTo}
 use Rattle.procedure.proofs.OfSheet.{graph-nodes, graph-source, graph-arcs}
-use Rattle.procedure.proofs.WellFormed.{accepted-well-formed}
+use Rattle.theory_shortest.proofs.WellFormed.{accepted-well-formed}
 use Rattle.theory_shortest.proofs.TightTree.{chain-few}
 use Rattle.theory_shortest.proofs.Chains.{chain-home, chain-arc, chain-from, chain-reached, chain-back, chain-longer}
 use Rattle.calls.specs.Tables.{labelIn, predecessorIn}
@@ -34,7 +34,7 @@ not-home e n h = n (h ∙ sym e)
 pub node-reached : {b table : List ℕ} {v x : ℕ} → v < nodeCount b → x ≡ labelIn table v → x ≢ top → Reached b table v
 node-reached l ex n = record { inside = l; labelled = λ e. n (ex ∙ e) }
 
-module _ {b table : List ℕ} {at′ : Sections} (R : Ready b at′ table) where
+module _ {b table : List ℕ} {sections′ : Sections} (R : Ready b sections′ table) where
   good : GraphOk mostArcsEachWay (graphOf b)
   good = accepted-well-formed b (R .fitting .accepted) .graph
 
@@ -95,7 +95,7 @@ pub record Counting (b table : List ℕ) (v u n : ℕ) : Type 0 where
   pub reached : Reached b table u
   pub total : n + length (routeTo b table u) ≡ length (routeTo b table v)
 
-module _ {b table : List ℕ} {at′ : Sections} {v u n : ℕ} (R : Ready b at′ table) (C : Counting b table v u n) where
+module _ {b table : List ℕ} {sections′ : Sections} {v u n : ℕ} (R : Ready b sections′ table) (C : Counting b table v u n) where
   pub count-on : u ≢ source b → Counting b table v (nodeBefore b table u) (n + 1)
   count-on away = record {
     reached = before-reached R (C .reached) away;
@@ -123,7 +123,7 @@ drop-set l i a h =
     let there : i < length (set l i a) = simp length-set h in
     drop-cons (set l i a) i 0 there ∙ rw (getD-set-same l i a 0 h, drop-set-lt (suc i) l i a (omega arith))
 
-module _ {b table buffer₀ buffer : List ℕ} {at′ : Sections} {v n u k : ℕ} (R : Ready b at′ table) (W : Writing b table buffer₀ v n buffer u k) where
+module _ {b table buffer₀ buffer : List ℕ} {sections′ : Sections} {v n u k : ℕ} (R : Ready b sections′ table) (W : Writing b table buffer₀ v n buffer u k) where
   -- one arc more, in front of those that are written
   module _ (some : 0 < k) where
     pub write-away : u ≢ source b

@@ -18,7 +18,7 @@ use Rattle.calls.specs.Tables.{tableLength}
 use Rattle.calls.specs.Runs.{stateAfter, runTable}
 use Rattle.theory_calls.proofs.Delivered.{labels-all, predecessors-all, label-small, predecessor-small, counts-small}
 use Rattle.run_counts.specs.declared.Counts.{Counts}
-use Rattle.run_arrays.specs.Tables.{Tables}
+use Rattle.run_arrays.specs.Fixed.{Fixed}
 use Rattle.run_arrays.specs.States.{stateIn, Computed, Blank}
 use Rattle.run_engine.proofs.rounds.Runs.{rounds-after}
 use Rattle.table.specs.Writable.{countsOf, Writable}
@@ -26,11 +26,11 @@ use Rattle.run_layout.specs.Layout.{Laid}
 use Rattle.run.specs.Outcome.{Outcome}
 
 -- what the start asks
-pub blank : {b : List ℕ} {t : Tables} → Laid b t → Blank (graphOf b) (divisionOf b) t
-blank L = record { tabled = L .tabled; planned = L .planned }
+pub blank : {b : List ℕ} {t : Fixed} → Laid b t → Blank (graphOf b) (divisionOf b) t
+blank L = record { fixed = L .fixed; planned = L .planned }
 
 -- the rounds, from the state after none
-pub rounds-run : {b : List ℕ} {t : Tables} {winners : List ℕ} {s₀ s : State} (limit : ℕ) → Laid b t → s₀ ≡ after (graphOf b) (divisionOf b) (t .spans) 0
+pub rounds-run : {b : List ℕ} {t : Fixed} {winners : List ℕ} {s₀ s : State} (limit : ℕ) → Laid b t → s₀ ≡ after (graphOf b) (divisionOf b) (t .spans) 0
     → Computed (graphOf b) (divisionOf b) t
     (times limit (λ s. not (ended (graphOf b) (divisionOf b) s)) (round (graphOf b) (divisionOf b) (t .spans)) s₀) s winners
     → s ≡ stateAfter b limit

@@ -24,7 +24,7 @@ returns c =
     let a = start .args in
     refused-table (a .sheet .now) (a .limit) (a .table .now) (start .pre) (sym (c .before .wrong-length .ensures) ∙ c .if1 .taken)
 
-run-accepted-requires : tie.Need-run-accepted-requires
+run-accepted-requires : tie.Need-run-in-arrays-requires
 run-accepted-requires c κs =
     let fits : tie.Else1 = search needs in
     table-fits (c .before .find-sections .ensures) (entry fits .pre) (right fits)
@@ -32,11 +32,11 @@ run-accepted-requires c κs =
 returns-2 : tie.Need-returns-2
 returns-2 c =
     let fits : tie.Else1 = search needs in
-    let ran : tie.After-run-accepted = search needs in
+    let ran : tie.After-run-in-arrays = search needs in
     let a = entry fits .args in
     let done = made (a .sheet .now) (a .limit) (a .table .now) (entry fits .pre) (right-length _ _ (right fits)) in (
-      c .status .ensures ∙ ap (λ (x : Bool). if x then ended else paused) (ran .run-accepted .ensures .status) ∙ done .0,
-      ran .run-accepted .ensures .words ∙ done .1,
+      c .of-status .ensures ∙ ap (λ (x : Bool). if x then ended else paused) (ran .run-in-arrays .ensures .status) ∙ done .0,
+      ran .run-in-arrays .ensures .words ∙ done .1,
     )
 
 pub run-accepted-spec : {M : Type 1} → statement M

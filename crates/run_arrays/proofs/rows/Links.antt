@@ -13,7 +13,7 @@ use Rattle.indices.specs.Columns.{at}
 use Rattle.indices.specs.Steps.{upTo}
 use Rattle.indices.proofs.Steps.{by-equal, set-elim}
 use Rattle.run_arrays.specs.Rows.{field, rowCount, rowTail, rowNext}
-use Rattle.run_arrays.specs.Links.{nextFor, nextFrom, Links, stepAt, Linkable, Linked}
+use Rattle.run_arrays.specs.Links.{nextFor, nextFrom, Links, stepFrom, Linkable, Linked}
 use Rattle.run_arrays.proofs.rows.Filled.{filled-at, filled-length}
 
 module _ (column : ℕ → ℕ) where
@@ -83,7 +83,7 @@ module _ (column : ℕ → ℕ) where
   module _ {S : Type 0} (step : ℕ → S → S) (v : ℕ) (s : S) where
     -- the steps at the indices below a at which the column has v
     abbrev pub stepsBelow : ℕ → S
-    stepsBelow a = upTo a (stepAt column v step) s
+    stepsBelow a = upTo a (stepFrom column v step) s
 
     steps-hit : (a : ℕ) → column a ≡ v → stepsBelow (suc a) ≡ step a (stepsBelow a)
     unfolding upTo
@@ -120,7 +120,7 @@ module _ (column : ℕ → ℕ) where
     pub record Walk (m a : ℕ) (t : S) : Type 0 where
       pub within : a ≤ m
       pub hit : a < m → column a ≡ v
-      pub sofar : t ≡ upTo a (stepAt column v step) s
+      pub sofar : t ≡ upTo a (stepFrom column v step) s
 
     module _ {m n : ℕ} {first next : ℕ → ℕ} (L : Links column m n first next) where
       -- it begins at the first index with v, in the state s
@@ -141,12 +141,12 @@ module _ (column : ℕ → ℕ) where
           })
 
     -- at its end all steps are made
-    pub walk-end : {m a : ℕ} {t : S} → Walk m a t → m ≤ a → t ≡ upTo m (stepAt column v step) s
+    pub walk-end : {m a : ℕ} {t : S} → Walk m a t → m ≤ a → t ≡ upTo m (stepFrom column v step) s
     walk-end {m} {a} W l = let e : a ≡ m = omega (arith, W .within) in rw e at (W .sofar)
 
     -- a number that no step lowers is, after the step at a, at most what it is at the end
     pub walk-part : (f : S → ℕ) → ((a : ℕ) (t : S) → f t ≤ f (step a t)) → {m a : ℕ} {t : S} → Walk m a t → a < m
-        → f (step a t) ≤ f (upTo m (stepAt column v step) s)
+        → f (step a t) ≤ f (upTo m (stepFrom column v step) s)
     walk-part f up {m} {a} W l =
         let e : suc a + (m - suc a) ≡ m = omega arith in
         rw (W .sofar, ← steps-hit a (W .hit l)) (rw e at (steps-grow f up (suc a) (m - suc a)))

@@ -4,8 +4,8 @@ use mathlib.Core.List.{List}
 use native.Mathlib.Omega.{arith}
 use Rattle.procedure.specs.Division.{Division, regions}
 use Rattle.run_arrays.specs.Rows.{rowCount}
-use Rattle.run_arrays.specs.Trees.{Counted}
+use Rattle.run_arrays.specs.Trees.{ChildrenCounted}
 
 -- a region has a row
-pub row-in : {d : Division} {rows : List ℕ} (r : ℕ) → Counted d rows → r < regions d → r < rowCount rows
+pub row-in : {d : Division} {rows : List ℕ} (r : ℕ) → ChildrenCounted d rows → r < regions d → r < rowCount rows
 row-in r C l = omega (arith, C .all)

@@ -14,10 +14,8 @@ use prog.Wp.{Heap, Calls, WpFn, Tables}
 use ghost.Atoms.{Atoms}
 use contract.Monad.{Fun}
 use contract.Running.{givenOf, tables, tablesOf}
-use types.Kit.{Given, Item, ‵, ⋆, _$_, _∵_, !, qed, by, move, join, fjoin, suffices, frame}
-use types.Kit.{done}
-use types.Run.{look, init, store, forget, stop, from, load, addr, of-opd, and-then, no-more, assigns, land, returns}
-use types.Run.{enter, alloc1, alloc0, params1, pass1, pass0, free1, free0}
+use types.Kit.{Given, Item, ‵, ⋆, _$_, _∵_, !, qed, by, move, join, fjoin, suffices, frame, done}
+use types.Run.{look, init, store, forget, stop, from, load, addr, of-opd, and-then, no-more, assigns, land, returns, enter, alloc1, alloc0, params1, pass1, pass0, free1, free0}
 use sound.WpLaws.{fmOf, WpFn-mono}
 use denote.RattleType.{owns}
 use denote.Laws.{Is, shows}

@@ -19,17 +19,17 @@ use Rattle.theory.proofs.Grows.{relax-grows}
 use Rattle.run_arrays.specs.Rows.{rowCount, rowTail, rowHead}
 use Rattle.run_counts.specs.Counted.{leafCounted}
 use Rattle.run_counts.specs.declared.Counts.{Counts}
-use Rattle.run_arrays.specs.Tables.{Tables, arcEntry}
+use Rattle.run_arrays.specs.Fixed.{Fixed, arcEntry}
 use Rattle.run_arrays.specs.States.{queuesOf, queuesIn, stateIn, Updatable, UpdatingOutgoing, Queued, Represents, Processing, Computed}
 use Rattle.run_engine.proofs.updates.Updates.{outgoing-owned}
 
 -- what the updates of arcs need of a represented state
-pub updatable : {g : Graph} {d : Division} {t : Tables} {s : State} {winners : List ℕ} → Represents g d t s winners
+pub updatable : {g : Graph} {d : Division} {t : Fixed} {s : State} {winners : List ℕ} → Represents g d t s winners
     → Updatable g d (t .rows) (t .arcRows) (s .queues) winners
 updatable R = record {
-  graph = R .tabled .ok .graph;
-  division = R .tabled .ok .division;
-  arc-rows = R .tabled .arc-rows;
+  graph = R .fixed .ok .graph;
+  division = R .fixed .ok .division;
+  arc-rows = R .fixed .arc-rows;
   owned = R .owned;
   queues = R .queues;
 }
@@ -50,7 +50,7 @@ unfolding processLeaf clearKey
 leaf-cleared g d r s = refl
 
 -- the leaf r, whose arc is a
-module _ {g : Graph} {d : Division} {t : Tables} {s : State} {winners : List ℕ} {r : ℕ} (P : Processing g d t s winners r (processLeaf g d r s))
+module _ {g : Graph} {d : Division} {t : Fixed} {s : State} {winners : List ℕ} {r : ℕ} (P : Processing g d t s winners r (processLeaf g d r s))
     (leaf : isLeaf d r ≡ true) where
   pub leaf-count-fits : s .leaves + 1 < 18446744073709551616
   leaf-count-fits =
@@ -59,40 +59,40 @@ module _ {g : Graph} {d : Division} {t : Tables} {s : State} {winners : List ℕ
 
   module _ {a : ℕ} (row : a ≡ arcEntry (t .regionRows) r) where
     is-arc : a ≡ arcOf d r
-    is-arc = row ∙ P .represents .tabled .region-rows .leaf r (P .in-range) leaf
+    is-arc = row ∙ P .represents .fixed .region-rows .leaf r (P .in-range) leaf
 
     arc-in : a < arcs g
-    arc-in = omega (arith, is-arc, P .represents .tabled .ok .division .leaf-arc r (P .in-range) leaf .0)
+    arc-in = omega (arith, is-arc, P .represents .fixed .ok .division .leaf-arc r (P .in-range) leaf .0)
 
     pub leaf-row-in : a < rowCount (t .arcRows)
-    leaf-row-in = omega (arith, arc-in, P .represents .tabled .arc-rows .all)
+    leaf-row-in = omega (arith, arc-in, P .represents .fixed .arc-rows .all)
 
     pub leaf-arc-in : a < 2048
-    leaf-arc-in = omega (arith, arc-in, P .represents .tabled .ok .graph .few-arcs)
+    leaf-arc-in = omega (arith, arc-in, P .represents .fixed .ok .graph .few-arcs)
 
     module _ {u : ℕ} (from : u ≡ rowTail (t .arcRows) a) where
       is-tail : u ≡ tail g a
-      is-tail = from ∙ P .represents .tabled .arc-rows .tails a arc-in
+      is-tail = from ∙ P .represents .fixed .arc-rows .tails a arc-in
 
       tail-in : u < g .nodes
-      tail-in = omega (arith, is-tail, P .represents .tabled .ok .graph .tail-in a arc-in)
+      tail-in = omega (arith, is-tail, P .represents .fixed .ok .graph .tail-in a arc-in)
 
       pub leaf-tail-in : u < 1024
-      leaf-tail-in = omega (arith, tail-in, P .represents .tabled .ok .graph .few-nodes)
+      leaf-tail-in = omega (arith, tail-in, P .represents .fixed .ok .graph .few-nodes)
 
     module _ {v : ℕ} (to : v ≡ rowHead (t .arcRows) a) where
       is-head : v ≡ head g a
-      is-head = to ∙ P .represents .tabled .arc-rows .heads a arc-in
+      is-head = to ∙ P .represents .fixed .arc-rows .heads a arc-in
 
       head-in : v < g .nodes
-      head-in = omega (arith, is-head, P .represents .tabled .ok .graph .head-in a arc-in)
+      head-in = omega (arith, is-head, P .represents .fixed .ok .graph .head-in a arc-in)
 
       pub leaf-head-in : v < 1024
-      leaf-head-in = omega (arith, head-in, P .represents .tabled .ok .graph .few-nodes)
+      leaf-head-in = omega (arith, head-in, P .represents .fixed .ok .graph .few-nodes)
 
 -- Arc a of the leaf r leads from u to v; x is the label of u, y the arc's length, and z the label of v. Labels, predecessors and own keys are the fronts of
 -- arrays.
-pub record Weighed (g : Graph) (d : Division) (t : Tables) (labels predecessors own keys winners : List ℕ) (c : Counts) (r a u v x y z : ℕ) : Type 0 where
+pub record Weighed (g : Graph) (d : Division) (t : Fixed) (labels predecessors own keys winners : List ℕ) (c : Counts) (r a u v x y z : ℕ) : Type 0 where
   pub processing : let s = stateIn g labels predecessors own keys c in Processing g d t s winners r (processLeaf g d r s)
   pub leaf : isLeaf d r ≡ true
   pub row : a ≡ arcEntry (t .regionRows) r
@@ -102,7 +102,7 @@ pub record Weighed (g : Graph) (d : Division) (t : Tables) (labels predecessors 
   pub arc-length : y ≡ at (t .lengths) a
   pub head-label : z ≡ at labels v
 
-module _ {g : Graph} {d : Division} {t : Tables} {labels predecessors own keys winners : List ℕ} {c : Counts} {r a u v x y z : ℕ}
+module _ {g : Graph} {d : Division} {t : Fixed} {labels predecessors own keys winners : List ℕ} {c : Counts} {r a u v x y z : ℕ}
     (w : Weighed g d t labels predecessors own keys winners c r a u v x y z) where
   abbrev s : State
   s = stateIn g labels predecessors own keys c
@@ -132,7 +132,7 @@ module _ {g : Graph} {d : Division} {t : Tables} {labels predecessors own keys w
         w .tail-label,
         ← getD-take (g .nodes) labels u 0 (tail-in (w .processing) (w .leaf) (w .row) (w .from)),
         w .arc-length,
-        R .tabled .lengths a in-arcs,
+        R .fixed .lengths a in-arcs,
         is-tail (w .processing) (w .leaf) (w .row) (w .from),
       )
       (ap (λ (b : ℕ). at (take (g .nodes) labels) (tail g b) + len g b) is-arc-of)
@@ -153,7 +153,7 @@ module _ {g : Graph} {d : Division} {t : Tables} {labels predecessors own keys w
             rw (counted, written, is-arc-of, add-one (c .leaves))
             (sym (leaf-cleared g d r s ∙ ap (cleared (arcOf d r)) (relax-stays g d (arcOf d r) s (omega (arith, is-sum, is-label)))));
         represents = record {
-          tabled = R .tabled;
+          fixed = R .fixed;
           labelled = R .labelled;
           fed = R .fed;
           owned = rw written (length-set (take (arcs g) own) a top ∙ R .owned);
@@ -169,7 +169,7 @@ module _ {g : Graph} {d : Division} {t : Tables} {labels predecessors own keys w
     pub leaf-asks : UpdatingOutgoing g d (t .rows) (t .arcRows) (t .firsts) (queuesIn g own keys (c .updates)) winners v (x + y)
     leaf-asks = record {
       updatable = updatable R;
-      links = R .tabled .links;
+      links = R .fixed .links;
       in-range = in-nodes;
       small = rw (is-head-of, is-sum, ← ap (λ (s : State). s .queues .updates) is-lowered) (w .processing .small .updates);
     }
@@ -206,7 +206,7 @@ module _ {g : Graph} {d : Division} {t : Tables} {labels predecessors own keys w
               rw (low .0, low .1, label-written, predecessor-written, written, counted, add-one (c .leaves))
               (ap (λ (q : Queues). cleared a (withQueues q)) (Q .result) ∙ is-cleared);
           represents = record {
-            tabled = R .tabled;
+            fixed = R .fixed;
             labelled = rw (low .0, label-written) (length-set (take (g .nodes) labels) v (x + y) ∙ R .labelled);
             fed = rw (low .1, predecessor-written) (length-set (take (g .nodes) predecessors) v a ∙ R .fed);
             owned =

@@ -12,9 +12,9 @@ use Rattle.indices.proofs.Steps.{by-truth}
 use Rattle.sheet.specs.Limits.{mostArcs}
 use Rattle.procedure.specs.Division.{Division, regions, arcOf, isLeaf}
 use Rattle.procedure.specs.Queues.{minKey}
-use Rattle.procedure.specs.WellFormed.{DivisionOk}
+use Rattle.theory_shortest.specs.WellFormed.{DivisionOk}
 use Rattle.theory.proofs.Chosen.{minKey-leaf}
-use Rattle.run_arrays.specs.Tables.{RegionRows, noArc, arcEntry}
+use Rattle.run_arrays.specs.Fixed.{RegionRows, noArc, arcEntry}
 use Rattle.run_arrays.specs.States.{queuesOf, Keyed}
 
 -- a is what the row of region r has in place of its arc

@@ -15,7 +15,7 @@ use Rattle.procedure.specs.Procedure.{start}
 use Rattle.theory.specs.Counts.{Small}
 use Rattle.theory.proofs.Final.{no-rounds, after-small}
 use Rattle.run_arrays.specs.Trees.{LaidOut, QueuesOk}
-use Rattle.run_arrays.specs.Tables.{Tables}
+use Rattle.run_arrays.specs.Fixed.{Fixed}
 use Rattle.run_arrays.specs.States.{queuesOf, queuesIn, stateIn, UpdatingOutgoing, Queued, Computed, Blank}
 use Rattle.run_engine.proofs.updates.Updates.{outgoing-owned}
 
@@ -47,22 +47,22 @@ filled n {m = m} e long l =
     let parts : n + (m - n) ≡ m = omega arith in
     rw (e, long, ← parts, ← replicate-append-replicate n (m - n) top) (take-at (replicate n top) (replicate (m - n) top) n (length-replicate n top))
 
-module _ {g : Graph} {d : Division} {t : Tables} (B : Blank g d t) where
+module _ {g : Graph} {d : Division} {t : Fixed} (B : Blank g d t) where
   pub nodes-filled : {k : ℕ} {ys : List ℕ} → ys ≡ replicate k top → k ≡ 1024 → take (g .nodes) ys ≡ replicate (g .nodes) top
-  nodes-filled e long = filled (g .nodes) e long (B .tabled .ok .graph .few-nodes)
+  nodes-filled e long = filled (g .nodes) e long (B .fixed .ok .graph .few-nodes)
 
   pub arcs-filled : {k : ℕ} {ys : List ℕ} → ys ≡ replicate k top → k ≡ 2048 → take (arcs g) ys ≡ replicate (arcs g) top
-  arcs-filled e long = filled (arcs g) e long (B .tabled .ok .graph .few-arcs)
+  arcs-filled e long = filled (arcs g) e long (B .fixed .ok .graph .few-arcs)
 
   -- the array of the queues has room for the most regions
   pub start-laid : {winners : List ℕ} → length winners ≡ 8190 → LaidOut d (t .rows) winners
-  start-laid long = record { planned = B .planned; room = omega (arith, B .tabled .ok .division .few-regions) }
+  start-laid long = record { planned = B .planned; room = omega (arith, B .fixed .ok .division .few-regions) }
 
   start-small : Small (start g d (t .spans))
-  start-small = rw (no-rounds g d (t .spans)) at (after-small (B .tabled .ok) few-out 0)
+  start-small = rw (no-rounds g d (t .spans)) at (after-small (B .fixed .ok) few-out 0)
 
 -- arrays filled with 'none', and cleared queues, in place of what was lent
-pub record Filled (g : Graph) (d : Division) (t : Tables) (labels predecessors own winners : List ℕ) (source : ℕ) : Type 0 where
+pub record Filled (g : Graph) (d : Division) (t : Fixed) (labels predecessors own winners : List ℕ) (source : ℕ) : Type 0 where
   pub blank : Blank g d t
   pub at-source : source ≡ g .source
   pub labels-none : take (g .nodes) labels ≡ replicate (g .nodes) top
@@ -70,10 +70,10 @@ pub record Filled (g : Graph) (d : Division) (t : Tables) (labels predecessors o
   pub own-none : take (arcs g) own ≡ replicate (arcs g) top
   pub valid : QueuesOk d (t .rows) (replicate (regions d) top) winners
 
-module _ {g : Graph} {d : Division} {t : Tables} {labels predecessors own winners : List ℕ} {source : ℕ}
+module _ {g : Graph} {d : Division} {t : Fixed} {labels predecessors own winners : List ℕ} {source : ℕ}
     (F : Filled g d t labels predecessors own winners source) where
   source-node : source < g .nodes
-  source-node = omega (arith, F .at-source, F .blank .tabled .ok .graph .source-in)
+  source-node = omega (arith, F .at-source, F .blank .fixed .ok .graph .source-in)
 
   is-blank : queuesIn g own (replicate (regions d) top) 0 ≡ noKeys g d
   is-blank = rw (F .own-none)
@@ -81,13 +81,13 @@ module _ {g : Graph} {d : Division} {t : Tables} {labels predecessors own winner
   pub start-asks : UpdatingOutgoing g d (t .rows) (t .arcRows) (t .firsts) (queuesIn g own (replicate (regions d) top) 0) winners source 0
   start-asks = record {
     updatable = record {
-      graph = F .blank .tabled .ok .graph;
-      division = F .blank .tabled .ok .division;
-      arc-rows = F .blank .tabled .arc-rows;
+      graph = F .blank .fixed .ok .graph;
+      division = F .blank .fixed .ok .division;
+      arc-rows = F .blank .fixed .arc-rows;
       owned = ap length (F .own-none) ∙ length-replicate (arcs g) top;
       queues = F .valid;
     };
-    links = F .blank .tabled .links;
+    links = F .blank .fixed .links;
     in-range = source-node;
     small = rw (F .at-source, is-blank, ← ap (λ (w : State). w .queues .updates) (start-by-updates g d (t .spans))) (start-small (F .blank) .updates);
   }
@@ -104,7 +104,7 @@ module _ {g : Graph} {d : Division} {t : Tables} {labels predecessors own winner
         rw (label-written, F .predecessors-none, F .at-source)
         (ap (startWith g) (R .result ∙ rw (F .at-source, is-blank)) ∙ sym (start-by-updates g d (t .spans)));
     represents = record {
-      tabled = F .blank .tabled;
+      fixed = F .blank .fixed;
       labelled = rw label-written (length-set (replicate (g .nodes) top) source 0 ∙ length-replicate (g .nodes) top);
       fed = ap length (F .predecessors-none) ∙ length-replicate (g .nodes) top;
       owned = ap (λ (q : Queues). length (q .own)) (R .result) ∙ outgoing-owned (start-asks .updatable) source 0;

@@ -21,7 +21,7 @@ use Rattle.theory.proofs.Grows.{grows-small, process-grows, rounds-grow}
 use Rattle.theory.proofs.Final.{rounds-in-parts, after-small}
 use Rattle.run_counts.specs.Counted.{roundCounted}
 use Rattle.run_counts.specs.declared.Counts.{Counts}
-use Rattle.run_arrays.specs.Tables.{Tables}
+use Rattle.run_arrays.specs.Fixed.{Fixed}
 use Rattle.run_arrays.specs.States.{stateOf, Represents, Processing, Computed}
 use Rattle.run_engine.proofs.region.Loops.{Looping, loop-off, loop-on, recounted}
 use Rattle.run_engine.proofs.rounds.Beginning.{few-out}
@@ -33,7 +33,7 @@ ended-by-key g d s k e =
     (λ none. le-leb top k (omega arith) ∙ sym (none-ended g d s none))
 
 -- one round
-module _ {g : Graph} {d : Division} {t : Tables} {labels predecessors own keys winners : List ℕ} {c : Counts}
+module _ {g : Graph} {d : Division} {t : Fixed} {labels predecessors own keys winners : List ℕ} {c : Counts}
     (P : Processing g d t (stateOf labels predecessors own keys c) winners 0 (round g d (t .spans) (stateOf labels predecessors own keys c))) where
   round-counted : {n : Counts} → n ≡ roundCounted c → stateOf labels predecessors own keys n ≡ countRound g d (stateOf labels predecessors own keys c)
   unfolding countRound
@@ -47,7 +47,7 @@ module _ {g : Graph} {d : Division} {t : Tables} {labels predecessors own keys w
   pub round-count-fits : c .rounds + 1 < 18446744073709551616
   round-count-fits =
       let s = countRound g d (stateOf labels predecessors own keys c) in
-      let more = process-grows g d (P .represents .tabled .ok .division) (t .spans) 0 s (P .in-range) in
+      let more = process-grows g d (P .represents .fixed .ok .division) (t .spans) 0 s (P .in-range) in
       let one = ap (λ (w : State). w .rounds) (round-counted refl) in
       let all = ap (λ (w : State). w .rounds) by-process in
       omega (arith, more .rounds, one, all, P .small .rounds)
@@ -75,30 +75,30 @@ module _ {g : Graph} {d : Division} {t : Tables} {labels predecessors own keys w
 abbrev pub running : Graph → Division → State → Bool
 running g d s = not (ended g d s)
 
-pub rounds-first : {g : Graph} {d : Division} {t : Tables} {s : State} {winners : List ℕ} {limit : ℕ} → Represents g d t s winners
+pub rounds-first : {g : Graph} {d : Division} {t : Fixed} {s : State} {winners : List ℕ} {limit : ℕ} → Represents g d t s winners
     → Looping g d t (running g d) (round g d (t .spans)) limit s limit s winners
 rounds-first R = record { represents = R; sofar = refl }
 
-module _ {g : Graph} {d : Division} {t : Tables} {limit : ℕ} {s₀ s : State} {left : ℕ} {winners : List ℕ}
+module _ {g : Graph} {d : Division} {t : Fixed} {limit : ℕ} {s₀ s : State} {left : ℕ} {winners : List ℕ}
     (L : Looping g d t (running g d) (round g d (t .spans)) limit s₀ left s winners) where
   pub rounds-ended : ended g d s ≡ true → Computed g d t (times limit (running g d) (round g d (t .spans)) s₀) s winners
   rounds-ended e = loop-off L (ap not e)
 
 -- the run, begun after k rounds, goes on, and a round is left to make
-pub record Going (g : Graph) (d : Division) (t : Tables) (k limit : ℕ) (s₀ : State) (left : ℕ) (s : State) (winners : List ℕ) : Type 0 where
+pub record Going (g : Graph) (d : Division) (t : Fixed) (k limit : ℕ) (s₀ : State) (left : ℕ) (s : State) (winners : List ℕ) : Type 0 where
   pub begun : s₀ ≡ after g d (t .spans) k
   pub loop : Looping g d t (running g d) (round g d (t .spans)) limit s₀ left s winners
   pub positive : 0 < left
   pub running : ended g d s ≡ false
 
-module _ {g : Graph} {d : Division} {t : Tables} {k limit : ℕ} {s₀ s : State} {left : ℕ} {winners : List ℕ} (G : Going g d t k limit s₀ left s winners) where
+module _ {g : Graph} {d : Division} {t : Fixed} {k limit : ℕ} {s₀ s : State} {left : ℕ} {winners : List ℕ} (G : Going g d t k limit s₀ left s winners) where
   onward-rounds : times (left - 1) (running g d) (round g d (t .spans)) (round g d (t .spans) s) ≡ times limit (running g d) (round g d (t .spans)) s₀
   onward-rounds = loop-on (G .loop) (G .positive) (ap not (G .running))
 
   -- the counts of the whole run are small, and so are those of every round
   pub next-asks : Processing g d t s winners 0 (round g d (t .spans) s)
   next-asks =
-      let ok = G .loop .represents .tabled .ok in
+      let ok = G .loop .represents .fixed .ok in
       let all : Small (times limit (running g d) (round g d (t .spans)) s₀) =
       rw (G .begun, ← rounds-in-parts g d (t .spans) k limit) (after-small ok few-out (k + limit)) in
       record {

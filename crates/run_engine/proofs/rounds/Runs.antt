@@ -9,15 +9,15 @@ use Rattle.procedure.specs.Division.{Division}
 use Rattle.procedure.specs.State.{State}
 use Rattle.procedure.specs.Procedure.{ended, start, round, after}
 use Rattle.theory.proofs.Final.{no-rounds, rounds-in-parts}
-use Rattle.run_arrays.specs.Tables.{Tables}
+use Rattle.run_arrays.specs.Fixed.{Fixed}
 use Rattle.run_arrays.specs.States.{Computed}
 
-module _ {g : Graph} {d : Division} {t : Tables} {s : State} {winners : List ℕ} where
-  -- `start` leaves the state after no rounds, from which `rounds` may go on
+module _ {g : Graph} {d : Division} {t : Fixed} {s : State} {winners : List ℕ} where
+  -- `start` leaves the state after no rounds, from which `run_rounds` may go on
   pub started-after : Computed g d t (start g d (t .spans)) s winners → s ≡ after g d (t .spans) 0
   started-after S = S .result ∙ sym (no-rounds g d (t .spans))
 
-  -- `rounds` leads from the state after k rounds to that after k + limit
+  -- `run_rounds` leads from the state after k rounds to that after k + limit
   pub rounds-after : {s₀ : State} (k limit : ℕ) → s₀ ≡ after g d (t .spans) k
       → Computed g d t (times limit (λ s. not (ended g d s)) (round g d (t .spans)) s₀) s winners → s ≡ after g d (t .spans) (k + limit)
   rounds-after k limit e R =

@@ -17,15 +17,15 @@ use Rattle.procedure.specs.Graph.{Graph, arcs}
 use Rattle.procedure.specs.Division.{Division, regions, parent, arcOf, isLeaf, leafOf}
 use Rattle.procedure.specs.State.{Queues}
 use Rattle.procedure.specs.Queues.{minKey, write, update, updateArc, updateOutgoing}
-use Rattle.procedure.specs.WellFormed.{DivisionOk}
+use Rattle.theory_shortest.specs.WellFormed.{DivisionOk}
 use Rattle.theory.proofs.Chosen.{minKey-leaf}
 use Rattle.theory.proofs.Update.{write-leaf, write-inner, write-counts, update-grows, update-rises, update-stops, update-elim}
 use Rattle.theory.proofs.Outgoing.{arc-leaf-test, arc-updated}
 use Rattle.run_arrays.specs.Rows.{rowTail, rowLeaf, rowNext}
 use Rattle.run_arrays.specs.Trees.{QueuesOk}
-use Rattle.run_arrays.specs.Links.{stepAt}
+use Rattle.run_arrays.specs.Links.{stepFrom}
 use Rattle.run_arrays.proofs.rows.Links.{Walk, walk-start, walk-step, walk-end, walk-part, walk-falls}
-use Rattle.run_arrays.specs.Tables.{ArcRows, ArcLinks}
+use Rattle.run_arrays.specs.Fixed.{ArcRows, ArcLinks}
 use Rattle.run_arrays.specs.States.{queuesOf, queuesIn, Updating, Updatable, UpdatingArc, UpdatingOutgoing, Queued}
 
 -- every update is counted
@@ -229,7 +229,7 @@ updateBy d k a q = updateArc d a k q
 
 -- the rows have the graph's tails
 outgoing-by-rows : {g : Graph} {d : Division} {arcRows : List ℕ} → ArcRows g d arcRows → (v k : ℕ) (q : Queues)
-    → upTo (arcs g) (stepAt (rowTail arcRows) v (updateBy d k)) q ≡ updateOutgoing d (g .tails) v k q
+    → upTo (arcs g) (stepFrom (rowTail arcRows) v (updateBy d k)) q ≡ updateOutgoing d (g .tails) v k q
 unfolding updateOutgoing
 outgoing-by-rows {g} {d} R v k q =
     upTo-cong _ _ q (arcs g) (λ a t l. ap (λ (u : ℕ). if eqb u v then updateArc d a k t else t) (R .tails a l))

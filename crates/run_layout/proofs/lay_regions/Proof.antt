@@ -1,11 +1,12 @@
--- `lay_regions` meets its contract: parents and arcs from the region words, heights from both, and the trees from the parents.
+-- `lay_regions` meets its contract: heights, arcs and parents from the region words, and the trees from the parents.
+use mathlib.Core.Path.{refl}
 use borrow.Author.Needs.{needs}
 use native.Mathlib.Omega.{arith}
 use Rattle.procedure.specs.OfSheet.{divisionOf}
 use Rattle.procedure.proofs.OfSheet.{division-regions}
 use Rattle.run_arrays.specs.Trees.{ParentsOf}
 use Rattle.run_layout.specs.Regions.{Nested}
-use Rattle.run_layout.proofs.Represented.{nested, parents-of, region-rows}
+use Rattle.run_layout.proofs.Represented.{nested, passable, heights-known, parents-of, region-rows}
 use Rattle.run_layout.proofs.lay_regions.Statement.{statement}
 use Rattle.run_layout.proofs.lay_regions.Tie as tie
 
@@ -28,10 +29,18 @@ enter-parents-requires c κs =
     let words : tie.After-region-words = search needs in
     record { nested = nested-words words; each-region = rw (words .region-words .ensures) (entry words .pre .each-parent) }
 
-enter-region-arcs-requires : tie.Need-enter-region-arcs-requires
-enter-region-arcs-requires c κs =
+find-heights-requires : tie.Need-find-heights-requires
+find-heights-requires c κs = let words : tie.After-region-words = search needs in (passable _ (entry words .pre .accepted) (words .region-words .ensures), refl)
+
+enter-regions-requires : tie.Need-enter-regions-requires
+enter-regions-requires c κs =
     let words : tie.After-region-words = search needs in
-    (nested-words words .few, rw (words .region-words .ensures) (entry words .pre .each-region))
+    let told : tie.After-find-heights = search needs in
+    record {
+      few = nested-words words .few;
+      found = heights-known _ (entry words .pre .accepted) (words .region-words .ensures) (told .find-heights .ensures .0) (told .find-heights .ensures .1);
+      each-row = rw (words .region-words .ensures) (entry words .pre .each-region);
+    }
 
 plan-requires : tie.Need-plan-requires
 plan-requires c κs =
@@ -42,10 +51,10 @@ plan-requires c κs =
 returns : tie.Need-returns
 returns c =
     let up : tie.After-enter-parents = search needs in
-    let high : tie.After-enter-heights = search needs in
+    let entered : tie.After-enter-regions = search needs in
     let planned : tie.After-plan = search needs in
     record {
-      region-rows = region-rows _ (entry (words up) .pre .accepted) (words up .region-words .ensures) (high .enter-heights .ensures);
+      region-rows = region-rows _ (entry (words up) .pre .accepted) (words up .region-words .ensures) (entered .enter-regions .ensures);
       planned = planned .plan .ensures _ (parents up);
     }
 
@@ -54,9 +63,9 @@ lay-regions-spec =
     tie.close
     (tie.spec
     (λ c κs. search needs)
+    find-heights-requires
+    enter-regions-requires
     enter-parents-requires
-    enter-region-arcs-requires
-    (λ c κs. search (needs, nested-words))
     plan-requires
     (λ c. search needs)
     (λ c. search needs)

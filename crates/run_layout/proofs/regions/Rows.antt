@@ -1,4 +1,4 @@
--- The regions' parents, and the arcs of their rows, stored region by region.
+-- The regions' parents, and their rows, stored region by region.
 use Prim.Native.Nat.{ℕ, zero, suc, _+_, _-_, _*_, _≤_, _<_}
 use mathlib.Core.Bool.{true, false, true≢false}
 use mathlib.Core.Path.{_≡_, refl, sym, ap, _∙_}
@@ -7,10 +7,10 @@ use native.Mathlib.Omega.{arith}
 use lib.ListN.{length, set, length-set}
 use Rattle.indices.specs.Columns.{at}
 use Rattle.sheet.specs.Words.{words}
-use Rattle.sheet.specs.Regions.{regionCount, arcWord, parentWord, isLeaf, leafArc}
+use Rattle.sheet.specs.Regions.{regionCount, arcWord, parentWord, isLeaf, leafArc, height}
 use Rattle.sheet.proofs.Regions.{parent-of-word}
-use Rattle.run_arrays.specs.Tables.{noArc}
-use Rattle.run_layout.specs.Regions.{Nested, ParentsEntered, arcInRow, ArcsEntered}
+use Rattle.run_arrays.specs.Fixed.{noArc}
+use Rattle.run_layout.specs.Regions.{Nested, ParentsEntered, arcInRow, RowsEntered}
 use Rattle.indices.proofs.Entries.{Entered, entered-kept, entered-more}
 
 -- PARENTS
@@ -42,11 +42,7 @@ parents-all {d} {parents} P l = record {
 pub parent-fits : {d : List ℕ} → Nested d → (k : ℕ) → k < words d → parentWord d k < 65536
 parent-fits ok k l = omega (arith, ok .nesting .lower (suc k) (omega arith) (omega arith), ok .few)
 
--- and it is lower
-pub parent-lower : {d parents : List ℕ} → Nested d → ParentsEntered d parents → (r : ℕ) → 0 < r → r ≤ words d → at parents r < r
-parent-lower ok P r pos l = omega (arith, P .same r pos (omega arith), ok .nesting .lower r pos (omega arith))
-
--- ARCS OF REGIONS
+-- ROWS
 
 -- a leaf is not region 0
 pub leaf-positive : (d : List ℕ) (r : ℕ) → isLeaf d r ≡ true → 0 < r
@@ -63,22 +59,22 @@ pub inner-row : (d : List ℕ) (r : ℕ) → isLeaf d r ≡ false → arcInRow d
 inner-row d zero inner = refl
 inner-row d (suc k) inner = rw inner
 
--- the regions below r have their arcs, and no height
-pub record EnteringArcs (d rows : List ℕ) (r : ℕ) : Type 0 where
+-- the regions below r have their rows
+pub record EnteringRows (d rows : List ℕ) (r : ℕ) : Type 0 where
   pub within : r ≤ regionCount d
   pub all : length rows ≡ 2 * regionCount d
   pub arcs : Entered (λ q. 2 * q) (arcInRow d) rows r
-  pub zeros : Entered (λ q. 2 * q + 1) (λ q. 0) rows r
+  pub heights : Entered (λ q. 2 * q + 1) (height d) rows r
 
-pub region-arcs-more : {d rows : List ℕ} {r a : ℕ} → EnteringArcs d rows r → r < regionCount d → a ≡ arcInRow d r
-    → EnteringArcs d (set (set rows (2 * r) a) (2 * r + 1) 0) (r + 1)
-region-arcs-more {d} {rows} {r} {a} A l e = record {
+pub rows-more : {d rows : List ℕ} {r a h : ℕ} → EnteringRows d rows r → r < regionCount d → a ≡ arcInRow d r → h ≡ height d r
+    → EnteringRows d (set (set rows (2 * r) a) (2 * r + 1) h) (r + 1)
+rows-more {d} {rows} {r} {a} {h} A l ea eh = record {
   within = omega arith;
   all = simp length-set (A .all);
-  arcs = entered-kept (2 * r + 1) 0 (λ j h. omega arith) (entered-more a (λ j h. omega arith) (omega (arith, A .all)) e (A .arcs));
-  zeros =
-      entered-more 0 (λ j h. omega arith) (simp length-set (omega (arith, A .all))) refl (entered-kept (2 * r) a (λ j h. omega arith) (A .zeros));
+  arcs = entered-kept (2 * r + 1) h (λ j m. omega arith) (entered-more a (λ j m. omega arith) (omega (arith, A .all)) ea (A .arcs));
+  heights =
+      entered-more h (λ j m. omega arith) (simp length-set (omega (arith, A .all))) eh (entered-kept (2 * r) a (λ j m. omega arith) (A .heights));
 }
 
-pub region-arcs-all : {d rows : List ℕ} {r : ℕ} → EnteringArcs d rows r → regionCount d ≤ r → ArcsEntered d rows
-region-arcs-all A l = record { all = A .all; arcs = λ q h. A .arcs .entry q (omega arith); zeros = λ q h. A .zeros .entry q (omega arith) }
+pub rows-all : {d rows : List ℕ} {r : ℕ} → EnteringRows d rows r → regionCount d ≤ r → RowsEntered d rows
+rows-all A l = record { all = A .all; arcs = λ q h. A .arcs .entry q (omega arith); heights = λ q h. A .heights .entry q (omega arith) }

@@ -6,14 +6,15 @@ use native.Mathlib.Omega.{arith}
 use lib.ListN.{length, take}
 use lib.Seq.{length-take-le}
 use Rattle.sheet.specs.declared.Sections.{Sections}
-use Rattle.sheet.specs.Sections.{Located, nodeCount, regionWords}
+use Rattle.sheet.specs.Sections.{nodeCount, regionWords}
+use Rattle.sheet.specs.Inner.{Located}
 use Rattle.judgement.specs.Judgement.{Accepted}
 use Rattle.judgement.proofs.Accepted.{few-nodes, few-arcs, few-spans, few-region-words}
 use Rattle.run_layout.specs.InUse.{InUse}
 
 -- the sizes of an accepted sheet, where d is its region words
-pub in-use : {b : List ℕ} {at : Sections} {n : ℕ} {d : List ℕ} → Accepted b → Located b at → n ≡ nodeCount b → d ≡ regionWords b
-    → InUse b (record { nodes = n; arcs = at .arcs; spans = at .spans; regions = length d / 4 + 1 })
+pub in-use : {b : List ℕ} {sections : Sections} {n : ℕ} {d : List ℕ} → Accepted b → Located b sections → n ≡ nodeCount b → d ≡ regionWords b
+    → InUse b (record { nodes = n; arcs = sections .arcs; spans = sections .spans; regions = length d / 4 + 1 })
 in-use {b} ok found en ed = record {
   nodes-all = en;
   arcs-all = found .arcs-all;

@@ -10,7 +10,7 @@ use Rattle.indices.proofs.Steps.{by-order, by-equal}
 use Rattle.sheet.specs.Words.{top}
 use Rattle.procedure.specs.Division.{Division, regions, parent}
 use Rattle.run_arrays.specs.Rows.{field}
-use Rattle.run_arrays.specs.Trees.{entry, childCount, treeStart, seat, place, Decided, LaidOut, QueuesOk, Entered, ValidBelow}
+use Rattle.run_arrays.specs.Trees.{entry, childCount, treeStart, seat, place, Decided, LaidOut, QueuesOk, Seated, ValidBelow}
 use Rattle.run_arrays.proofs.trees.Seats.{tree-room, parent-in}
 use Rattle.run_queue.proofs.Trees.{Lies, seat-at, begins, seat-elim, ValidBut, laid-set, decided}
 
@@ -46,7 +46,7 @@ entering-step {d} {rows} {winners} {c} {up} {start} {p} {x} E l L is = rw (seat-
 })
 
 pub entering-end : {d : Division} {rows winners : List ℕ} {c : ℕ} → Entering d rows winners c → regions d ≤ c
-    → Entered d rows (replicate (regions d) top) winners
+    → Seated d rows (replicate (regions d) top) winners
 entering-end {d} E l = record {
   laid = E .laid;
   keyed = length-replicate (regions d) top;
@@ -69,12 +69,12 @@ pub record Building (d : Division) (r : ℕ) (rows keys winners : List ℕ) (sta
 pub building-start : {d : Division} {rows keys winners : List ℕ} {r start a : ℕ} → ValidBelow d rows keys winners r → r < regions d → start ≡ field rows r 2
     → a ≡ field rows r 1 → Building d r rows keys winners start a
 building-start {d} {rows} {keys} {winners} {r} {start} {a} B inside row e =
-    let count : a ≡ childCount d r = e ∙ B .entered .laid .planned .counted .counts r inside in
+    let count : a ≡ childCount d r = e ∙ B .seated .laid .planned .counted .counts r inside in
     record {
       row = row;
       valid =
           record {
-            entered = B .entered;
+            seated = B .seated;
             rest =
                 λ r′ q pos l.
                 by-order r′ r (λ m. inl (B .wins r′ q m pos l))
@@ -85,10 +85,10 @@ building-start {d} {rows} {keys} {winners} {r} {start} {a} B inside row e =
 
 module _ {d : Division} {r : ℕ} {rows keys winners : List ℕ} {start a : ℕ} (B : Building d r rows keys winners start a) (big : 1 < a) where
   starts : start ≡ treeStart d r
-  starts = begins r start (B .valid .entered .laid .planned) (B .row) (omega (arith, B .high))
+  starts = begins r start (B .valid .seated .laid .planned) (B .row) (omega (arith, B .high))
 
   pub building-in : start + (2 * (a - 1) + 1) < length winners
-  building-in = omega (arith, starts, B .high, tree-room d r, B .valid .entered .laid .room)
+  building-in = omega (arith, starts, B .high, tree-room d r, B .valid .seated .laid .room)
 
   pub building-step : {winners′ : List ℕ} → Decided start (a - 1) winners winners′ → Building d r rows keys winners′ start (a - 1)
   building-step e = rw (e, starts) (record {
@@ -105,17 +105,17 @@ module _ {d : Division} {r : ℕ} {rows keys winners : List ℕ} {start a : ℕ}
 pub building-end : {d : Division} {r : ℕ} {rows keys winners : List ℕ} {start a : ℕ} → Building d r rows keys winners start a → a ≤ 1
     → ValidBelow d rows keys winners (r + 1)
 building-end {d} {r} {rows} {keys} {winners} {start} {a} B l = record {
-  entered = B .valid .entered;
+  seated = B .valid .seated;
   wins = λ r′ q m pos h. ⊎-elim (λ w. w) (λ o. absurd (⊎-elim (λ (n : r < r′). omega arith) (λ n. omega arith) o)) (B .valid .rest r′ q pos h);
 }
 
 -- ALL TREES BUILT
 
-pub valid-none : {d : Division} {rows keys winners : List ℕ} → Entered d rows keys winners → ValidBelow d rows keys winners 0
-valid-none E = record { entered = E; wins = λ r p l. absurd (omega arith) }
+pub valid-none : {d : Division} {rows keys winners : List ℕ} → Seated d rows keys winners → ValidBelow d rows keys winners 0
+valid-none E = record { seated = E; wins = λ r p l. absurd (omega arith) }
 
 pub valid-regions : {d : Division} {rows keys winners : List ℕ} {n : ℕ} → ValidBelow d rows keys winners n → regions d ≤ n → QueuesOk d rows keys winners
 valid-regions {d} B l = record {
-  entered = B .entered;
-  wins = λ r p pos h. B .wins r p (omega (arith, parent-in d (B .entered .laid .planned .counted .numbered .lower) r (omega arith))) pos h;
+  seated = B .seated;
+  wins = λ r p pos h. B .wins r p (omega (arith, parent-in d (B .seated .laid .planned .counted .numbered .lower) r (omega arith))) pos h;
 }

@@ -13,10 +13,10 @@ use Rattle.indices.specs.Tests.{count}
 use Rattle.indices.proofs.Tests.{count-none, count-in, count-out, count-le}
 use Rattle.indices.proofs.Steps.{set-elim}
 use Rattle.procedure.specs.Division.{Division, regions, parent, isChild}
-use Rattle.procedure.specs.WellFormed.{DivisionOk}
+use Rattle.theory_shortest.specs.WellFormed.{DivisionOk}
 use Rattle.theory.proofs.Chosen.{Child, parent-child}
 use Rattle.run_arrays.specs.Rows.{field, rowCount}
-use Rattle.run_arrays.specs.Trees.{childCount, lowerSiblings, treeStart, seat, ParentsOf, Counted, Ranked, Started, Planned}
+use Rattle.run_arrays.specs.Trees.{childCount, lowerSiblings, treeStart, seat, ParentsOf, ChildrenCounted, Ranked, Started, Planned}
 use Rattle.run_arrays.proofs.trees.Seats.{child-passes, other-fails, start-next, start-first, tree-room, seat-high}
 use Rattle.run_arrays.proofs.rows.Filled.{filled-at, filled-length}
 
@@ -26,7 +26,7 @@ field-elim : (P : ℕ → Type 0) (rows : List ℕ) (i j k x : ℕ) → 4 * i + 
 field-elim P rows i j k x l f g = set-elim P rows (4 * i + k) (4 * j + k) x 0 l (λ e. f (omega arith)) (λ n. g (λ e. n (omega arith)))
 
 -- a store in one of the last two columns leaves parents and numbers of children as they were
-counted-set : {d : Division} {rows : List ℕ} (i k x : ℕ) → 1 < k → k < 4 → Counted d rows → Counted d (set rows (4 * i + k) x)
+counted-set : {d : Division} {rows : List ℕ} (i k x : ℕ) → 1 < k → k < 4 → ChildrenCounted d rows → ChildrenCounted d (set rows (4 * i + k) x)
 counted-set {d} {rows} i k x l h C = record {
   numbered = C .numbered;
   all = simp length-set (C .all);
@@ -192,7 +192,7 @@ laying-end L l = record { ranked = L .ranked; starts = λ q m. L .starts q (omeg
 pub record Seating (d : Division) (rows : List ℕ) (c : ℕ) : Type 0 where
   pub above : 0 < c
   pub within : c ≤ regions d
-  pub counted : Counted d rows
+  pub counted : ChildrenCounted d rows
   pub starts : (r : ℕ) → r < regions d → field rows r 2 ≡ treeStart d r
   pub seats : (b : ℕ) → 0 < b → b < c → field rows b 3 ≡ seat d b
   pub ranks : (b : ℕ) → c ≤ b → b < regions d → field rows b 3 ≡ lowerSiblings d b

@@ -53,7 +53,7 @@ given : (s : Start) → Valid s (s .pre .queue .division) (s .pre .queue .keys)
 given s = record { queues = s .pre .queue .queues; inside = s .pre .queue .inside }
 
 over : (c : After-parent-of) (d : Division) (keys : List ℕ) → Valid (entry c) d keys → c .parent-of .result .0 ≡ parent d (entry c .args .child .0)
-over c d keys Q = c .parent-of .ensures d (Q .queues .entered .laid .planned .counted) (Q .inside)
+over c d keys Q = c .parent-of .ensures d (Q .queues .seated .laid .planned .counted) (Q .inside)
 
 lies : (c : After-seat-of) → let up : After-parent-of = search needs in
     (d : Division) (keys : List ℕ) → Valid (entry up) d keys
@@ -63,13 +63,13 @@ lies c d keys Q = record { over = over (c .before .before) d keys Q; row = c .be
 start-of-requires : tie.Need-start-of-requires Inv-loop μ-loop
 start-of-requires c κs =
     let Q = given (entry c) in
-    up-row (Q .queues .entered .laid .planned) (entry c .pre .positive) (Q .inside) (over c _ _ Q)
+    up-row (Q .queues .seated .laid .planned) (entry c .pre .positive) (Q .inside) (over c _ _ Q)
 
 slice-write-winners : tie.Need-slice-write-winners Inv-loop μ-loop
 slice-write-winners c =
     let start : Start = search needs in
     let Q = given start in
-    seat-inside (Q .queues .entered .laid .planned) (lies (c .before) _ _ Q) (start .pre .positive) (Q .inside) (Q .queues .entered .laid)
+    seat-inside (Q .queues .seated .laid .planned) (lies (c .before) _ _ Q) (start .pre .positive) (Q .inside) (Q .queues .seated .laid)
 
 -- THE REPAIR has come to the loop's place
 repairing : (c : At-loop) → let args = called c .args in

@@ -15,8 +15,7 @@ use contract.Monad.{Fun}
 use contract.Running.{givenOf, tables, tablesOf}
 use types.Kit.{Given, ‵, raw, _⊛_, _$_, _∵_, !, qed, by, move, use1, split, fsplit, fjoin, suffices, frame}
 use types.Part.{whole, sub, look-in, agg}
-use types.Run.{look, init, forget, stop, fld, from, load, and-then, no-more, assigns, returns}
-use types.Run.{enter, alloc1, alloc0, params1, pass1, pass0, free1, free0}
+use types.Run.{look, init, forget, stop, fld, from, load, and-then, no-more, assigns, returns, enter, alloc1, alloc0, params1, pass1, pass0, free1, free0}
 use sound.WpLaws.{WpFn-mono}
 use denote.RattleType.{owns}
 use denote.Laws.{Is}
@@ -51,7 +50,7 @@ stayed = (stay-none-slice (0 ∷ []) tt (plain (λ _. u8)) yes, (stay-none (λ _
 module _ {M : Type 1} (𝓤 : URA M) (H : Heap 𝓤) (A : Atoms 𝓤) (W : Given 𝓤 H A) (mem : Memory → SProp 𝓤) (run : Routine → Fun 𝓤) where
   module _ (κ : Lft) (q : Share) (s : RefT (List ℕ)) (c : Cursor) where
     abbrev made : Reader
-    made = record { sheet = s; at = c .at }
+    made = record { sheet = s; place = c .place }
 
     abbrev vals : Vals reader-at.signature (κ, tt)
     vals = (sheetVal made ∷ [], (K′.lowered c ∷ [], tt))
@@ -62,21 +61,21 @@ module _ {M : Type 1} (𝓤 : URA M) (H : Heap 𝓤) (A : Atoms 𝓤) (W : Given
     abbrev Post : Val → SProp 𝓤
     Post = walkOf 𝓤 H A reader-at.ended stayed (reader-at.clauses 𝓤 H A mem run) .post (((κ, tt), (q, tt), tt, (s, (c, tt)), vals), tt)
 
-    exits : c .at < 2 ^ 64 → ent 𝓤 Entry (Post (T′.lowered made))
+    exits : c .place < 2 ^ 64 → ent 𝓤 Entry (Post (T′.lowered made))
     exits fits =
         qed W ((‵ (flft κ q) ⊛ ‵ ftrue) ∷ ‵ (owns (ShrSlice (named 0) κ u8 ∷ K.the-row ∷ []) (s, (c, tt)) vals) ∷ []) ∵
         suffices ! _ (ends-at 𝓤 H A reader-at.ended stayed (reader-at.clauses 𝓤 H A mem run) W (((κ, tt), (q, tt), tt, (s, (c, tt)), vals), tt)
         (T′.lowered made) made (tt, (tt, tt)) (tt, (tt, tt))) $ says ! refl $
         frame ! $ fsplit ! $ use1 W (‵ (OwnSheet κ made) ⊛ ‵ (OwnSheet κ made)) (shr-slice-copy 𝓤 H A W (named 0) κ u8 .twice s (sheetVal made ∷ [])) $
         split ! $ move ! (0 ∷ 2 ∷ []) $ fjoin ! $ frame ! $
-        nothing ! $ owned ! usize (Is usize) (uint-makes 𝓤 H A W w64) (c .at) _ (refl, fits) $ fjoin ! $ move ! (1 ∷ 0 ∷ []) $ fjoin ! $
-        by ! (own-shut 𝓤 H A W (T.the-type (α κ)) (T′.the-laws (α κ)) (s, (c .at, tt)))
+        nothing ! $ owned ! usize (Is usize) (uint-makes 𝓤 H A W w64) (c .place) _ (refl, fits) $ fjoin ! $ move ! (1 ∷ 0 ∷ []) $ fjoin ! $
+        by ! (own-shut 𝓤 H A W (T.the-type (α κ)) (T′.the-laws (α κ)) (s, (c .place, tt)))
 
     walk : (𝓣 : Tables 𝓤 H) → Is (ShrSlice (named 0) κ u8) s (sheetVal made ∷ []) → Is K.the-row c (K′.lowered c ∷ [])
         → ent 𝓤 Entry (WpFn 𝓤 H (𝓣 .C) (𝓣 .Λ) code.function (sheetVal made ∷ K′.lowered c ∷ []) Post)
     walk 𝓣 is-slice is-place =
         let wt = shr-slice-lawful 𝓤 H A W (named 0) κ u8 .typed s (sheetVal made ∷ []) is-slice .0 in
-        let fits : c .at < 2 ^ 64 = is-place .1 .1 .0 .1 in
+        let fits : c .place < 2 ^ 64 = is-place .1 .1 .0 .1 in
         qed W (raw Entry ∷ []) ∵ enter ! (𝓣 .C) (𝓣 .Λ) code.function (sheetVal made ∷ K′.lowered c ∷ []) _ $
         alloc1 ! (λ l₀. alloc1 ! (λ l₁. alloc1 ! (λ l₂. alloc0 ! $ params1 ! $
         pass1 ! (init ! 2 refl wt) $ pass1 ! (init ! 0 refl (LL.lawful K.the-type K′.the-laws 𝓤 H A W .typed c _ is-place .0)) $ pass0 ! $

@@ -22,7 +22,7 @@ module _ (b table : List ℕ) {u v w x : ℕ} (inside : v < nodeCount b) (same :
   predecessor-read : x ≡ predecessorIn table u → x ≡ at (predecessors b table) w
   predecessor-read h = h ∙ ap (predecessorIn table) e ∙ predecessor-there b table v inside ∙ ap (at (predecessors b table)) (sym same)
 
-module _ {b table : List ℕ} {at′ : Sections} (F : Fitting b at′ table) where
+module _ {b table : List ℕ} {sections′ : Sections} (F : Fitting b sections′ table) where
   module _ {a : ℕ} (la : a < arcCount b) where
     -- the label of the tail, and of the head
     pub from-label : {u x : ℕ} → u ≡ tailField b a → x ≡ labelIn table u → x ≡ at (labels b table) (tail (graphOf b) a)

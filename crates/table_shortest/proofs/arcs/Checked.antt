@@ -19,7 +19,7 @@ use Rattle.table.specs.Fitting.{Fitting, labels}
 use Rattle.table_shortest.specs.ArcChecks.{sourceFits, arcRelaxed}
 use Rattle.table.proofs.read.AtArcs.{from-label, to-label, arc-length, source-label, source-predecessor}
 
-module _ {b table : List ℕ} {at′ : Sections} (F : Fitting b at′ table) where
+module _ {b table : List ℕ} {sections′ : Sections} (F : Fitting b sections′ table) where
   -- the source u, with label x
   module _ {u x : ℕ} (e : u ≡ source b) (ex : x ≡ labelIn table u) where
     pub source-not-zero : x ≢ 0 → false ≡ sourceFits b table

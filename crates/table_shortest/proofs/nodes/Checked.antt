@@ -22,7 +22,7 @@ use Rattle.table.proofs.read.Columns.{label-there, predecessor-there}
 use Rattle.table_shortest.specs.NodeChecks.{feeds, nodeFits}
 use Rattle.table.proofs.read.AtArcs.{from-label, to-node, arc-length}
 
-module _ {b table : List ℕ} {at′ : Sections} (F : Fitting b at′ table) where
+module _ {b table : List ℕ} {sections′ : Sections} (F : Fitting b sections′ table) where
   -- arc a from a node u with label x
   module _ {a u x : ℕ} (la : a < arcCount b) (eu : u ≡ tailField b a) (ex : x ≡ labelIn table u) where
     module _ (reached : x ≢ top) {n : ℕ} (en : n ≡ arcLength b a) where

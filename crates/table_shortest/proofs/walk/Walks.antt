@@ -22,7 +22,7 @@ use Rattle.sheet.specs.Sections.{nodeCount, source, arcCount}
 use Rattle.judgement.proofs.Accepted.{few-nodes, source-in}
 use Rattle.procedure.specs.OfSheet.{graphOf}
 use Rattle.procedure.proofs.OfSheet.{graph-nodes, graph-source, graph-arcs}
-use Rattle.procedure.proofs.WellFormed.{accepted-well-formed}
+use Rattle.theory_shortest.proofs.WellFormed.{accepted-well-formed}
 use Rattle.theory_shortest.specs.TableTest.{unfedTest, leadsBack, ledTest}
 use Rattle.theory_shortest.proofs.Depth.{Depth, home, back, depth-unique, depth-below}
 use Rattle.theory_shortest.proofs.LeadsBack.{depth-leads, leads-depth}
@@ -77,7 +77,7 @@ module _ {b table : List ℕ} where
     down = λ p. p;
   }
 
-  module _ {at′ : Sections} (F : Followable b at′ table) where
+  module _ {sections′ : Sections} (F : Followable b sections′ table) where
     -- v has a depth: it leads back
     depth-led : {v : ℕ} → Leads b table v → leads b table v ≡ true
     depth-led p =

@@ -2,8 +2,8 @@
 use mathlib.Core.Bool.{Bool, true, false, true≢false}
 use mathlib.Core.Path.{_≡_, refl, sym}
 use borrow.Author.Needs.{needs}
-use Rattle.judge_division.specs.Turn.{holdsNone}
-use Rattle.judge_division.proofs.heights.Held.{holds-none, holds-one}
+use Rattle.judge_division.specs.Heights.{holdsNone}
+use Rattle.judge_division.proofs.heights.Turn.{holds-none, holds-one}
 use Rattle.judge_division.proofs.heights.without_child.Statement.{statement}
 use Rattle.judge_division.proofs.heights.without_child.Tie as tie
 
@@ -11,7 +11,7 @@ use Rattle.judge_division.proofs.heights.without_child.Tie as tie
 abbrev none-held : tie.After-is-leaf → Bool
 none-held c =
     let start : tie.Start = search needs in
-    holdsNone (start .args .d .now) (start .args .best .now) (start .args .r .0)
+    holdsNone (start .args .d .now) (start .args .heights .now) (start .args .r .0)
 
 none : (c : tie.Then1) → none-held (c .before) ≡ true
 none c = rw (← c .before .is-leaf .ensures) (holds-none _ (c .before .is-leaf .result) (c .if1 .taken))

@@ -7,17 +7,18 @@ use native.Mathlib.Omega.{arith}
 use lib.ListN.{getD}
 use Rattle.indices.specs.Tests.{any, count}
 use Rattle.indices.proofs.Tests.{any-none, any-more, any-end}
+use Rattle.sheet.specs.Limits.{arcNumbers}
 use Rattle.sheet.specs.Words.{words}
-use Rattle.judgement.specs.Nesting.{leafOfArc}
+use Rattle.judgement.specs.Division.{leafOfArc}
 use Rattle.judge_division.proofs.leaves.Leaves.{wrongCount, right-count, one-wrong, none-wrong}
 use Rattle.judge_division.proofs.leaves.wrong_leaves.Statement.{statement}
 use Rattle.judge_division.proofs.leaves.wrong_leaves.Tie as tie
 
 abbrev Inv-loop : tie.InvT-loop
-Inv-loop d arcs seen a₀ a = (a ≤ 2048) × (any (wrongCount d arcs) a ≡ false)
+Inv-loop d arcs seen a₀ a = (a ≤ arcNumbers) × (any (wrongCount d arcs) a ≡ false)
 
 abbrev μ-loop : tie.MeasureT-loop
-μ-loop d arcs seen a₀ a = 2048 - a
+μ-loop d arcs seen a₀ a = arcNumbers - a
 
 -- the counter that is read says how many leaves the number has
 counted : (c : tie.In-loop Inv-loop μ-loop) → let start : tie.Start Inv-loop μ-loop = search needs in
@@ -34,6 +35,7 @@ wrong-leaves-spec =
     μ-loop
     (λ c κs. search needs)
     (λ c. (omega arith, any-none _))
+    (λ c. search needs)
     (λ c. omega arith)
     (λ c. omega arith)
     (λ c. omega arith)

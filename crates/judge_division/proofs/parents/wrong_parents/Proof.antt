@@ -7,7 +7,7 @@ use native.Mathlib.Omega.{arith}
 use Rattle.indices.specs.Tests.{any}
 use Rattle.indices.proofs.Tests.{any-none, any-more, any-hit, any-end}
 use Rattle.sheet.specs.Words.{words}
-use Rattle.judgement.specs.Nesting.{wrongParent, wrongParents}
+use Rattle.judgement.specs.Division.{wrongParent, wrongParents}
 use Rattle.judge_division.proofs.parents.wrong_parents.Statement.{statement}
 use Rattle.judge_division.proofs.parents.wrong_parents.Tie as tie
 

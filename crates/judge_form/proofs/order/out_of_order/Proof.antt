@@ -12,10 +12,10 @@ use Rattle.judge_form.proofs.order.out_of_order.Statement.{statement}
 use Rattle.judge_form.proofs.order.out_of_order.Tie as tie
 
 abbrev Inv-loop : tie.InvT-loop
-Inv-loop s at₀ before₀ at before = Passing s before (at .at)
+Inv-loop s cursor₀ before₀ cursor before = Passing s before (cursor .place)
 
 abbrev μ-loop : tie.MeasureT-loop
-μ-loop s at₀ before₀ at before = words s - at .at
+μ-loop s cursor₀ before₀ cursor before = words s - cursor .place
 
 -- THE PLACES: a turn of the loop, and the word that it reads
 abbrev Turn : Type 0
@@ -31,19 +31,19 @@ abbrev turn : Read → Turn
 turn c = c .before .before .before
 
 -- the cursor has passed the word
-stepped : (c : Read) → Stepped (sheet (turn c)) (turn c .loop .at) (c .word .given .0 .0) (c .word .given .0 .1 .0)
+stepped : (c : Read) → Stepped (sheet (turn c)) (turn c .loop .cursor) (c .word .given .0 .0) (c .word .given .0 .1 .0)
 stepped c = step-word _ _ _ _ (sym (c .before .before .word-after .ensures) ∙ c .word .given .1)
 
 -- the kind that was read is that of the word
 abbrev Told : Type 0
 Told = tie.After-kind-of Inv-loop μ-loop
 
-kind-read : (c : Told) → c .kind-of .result ≡ kind (sheet (turn (c .before .before))) (turn (c .before .before) .loop .at .at)
+kind-read : (c : Told) → c .kind-of .result ≡ kind (sheet (turn (c .before .before))) (turn (c .before .before) .loop .cursor .place)
 kind-read c = step-kind (stepped (c .before .before)) (c .kind-of .ensures)
 
 -- the word may follow just where the test has said so
 tested : (c : tie.After-may-follow Inv-loop μ-loop) → let here = turn (c .before .before .before) in
-    c .may-follow .result ≡ mayFollow (here .loop .before) (kind (sheet here) (here .loop .at .at))
+    c .may-follow .result ≡ mayFollow (here .loop .before) (kind (sheet here) (here .loop .cursor .place))
 tested c = c .may-follow .ensures ∙ ap (mayFollow _) (kind-read (c .before))
 
 -- THE ANSWERS: the end of the sheet, a word that may not follow, and one that may
@@ -51,7 +51,7 @@ returns : tie.Need-returns Inv-loop μ-loop
 returns c =
     let here : Turn = search needs in
     let end = sym (c .before .before .before .word-after .ensures) ∙ c .before .enum-told .given .1 in
-    rw (c .may-end .ensures) (pass-end (here .loop .inv) (step-end (sheet here) (here .loop .at) end))
+    rw (c .may-end .ensures) (pass-end (here .loop .inv) (step-end (sheet here) (here .loop .cursor) end))
 
 returns-2 : tie.Need-returns-2 Inv-loop μ-loop
 returns-2 c =

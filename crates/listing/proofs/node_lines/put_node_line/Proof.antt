@@ -4,10 +4,9 @@ use mathlib.Core.List.{List, _++_}
 use borrow.Author.Needs.{needs}
 use Rattle.calls.specs.Tables.{labelIn, predecessorIn}
 use Rattle.listing.specs.Text.{decimal}
-use Rattle.listing.specs.Written.{Wrote}
+use Rattle.listing.specs.Inner.{Wrote}
 use Rattle.listing.proofs.text.Writing.{wrote-then, room-before, room-after, byte-room}
-use Rattle.listing.specs.Fields.{spaced}
-use Rattle.listing.specs.NodeLines.{nodeLine}
+use Rattle.listing.specs.Listing.{spaced, nodeLine}
 use Rattle.listing.proofs.node_lines.put_node_line.Statement.{statement}
 use Rattle.listing.proofs.node_lines.put_node_line.Tie as tie
 
@@ -21,7 +20,7 @@ module _ (table : List ℕ) (v : ℕ) where
 
 -- so much is written, from the entry on
 abbrev Written : tie.Start → (List ℕ → ℕ → List ℕ) → List ℕ → ℕ → Type 0
-Written c text out end = Wrote (c .args .out .now) (c .args .at) (text (c .args .table .now) (c .args .v)) out end
+Written c text out end = Wrote (c .args .out .now) (c .args .from) (text (c .args .table .now) (c .args .v)) out end
 
 -- each part is written behind the one before it
 distance : (c : tie.After-put-payload) → let start : tie.Start = search needs in

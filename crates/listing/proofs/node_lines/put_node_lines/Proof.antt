@@ -1,8 +1,8 @@
 -- `put_node_lines` meets its contract: before each turn the lines of the nodes below v are written, and the turn writes one line more behind them.
 use borrow.Author.Needs.{needs}
 use Prim.Native.Nat.{_-_, _≤_}
-use Rattle.listing.specs.Written.{Wrote}
-use Rattle.listing.specs.NodeLines.{nodeLines}
+use Rattle.listing.specs.Inner.{Wrote}
+use Rattle.listing.specs.Listing.{nodeLines}
 use Rattle.listing.proofs.text.Writing.{length-wrote, wrote-then}
 use Rattle.listing.proofs.node_lines.NodeLines.{line-room, line-more, all-lines}
 use Rattle.listing.proofs.node_lines.put_node_lines.Statement.{statement}

@@ -2,9 +2,9 @@
 use Prim.Native.Nat.{ℕ}
 use mathlib.Core.List.{List, _++_}
 use borrow.Author.Needs.{needs}
-use Rattle.listing.specs.Written.{Wrote}
+use Rattle.listing.specs.Inner.{Wrote}
 use Rattle.listing.proofs.text.Writing.{wrote-then, room-before, room-after, byte-room}
-use Rattle.listing.specs.StatusLine.{status, counted, statusLine}
+use Rattle.listing.specs.Listing.{status, counted, statusLine}
 use Rattle.listing.proofs.status_line.put_status_line.Statement.{statement}
 use Rattle.listing.proofs.status_line.put_status_line.Tie as tie
 
@@ -24,7 +24,7 @@ module _ (table : List ℕ) where
 
 -- so much is written, from the entry on
 abbrev Written : tie.Start → (List ℕ → List ℕ) → List ℕ → ℕ → Type 0
-Written c text out end = Wrote (c .args .out .now) (c .args .at) (text (c .args .table .now)) out end
+Written c text out end = Wrote (c .args .out .now) (c .args .from) (text (c .args .table .now)) out end
 
 -- each count is written behind what stands before it
 rounds : (c : tie.After-put-count) → let start : tie.Start = search needs in Written start toRounds (c .put-count .last .1 .1 .1 .0) (c .put-count .result)

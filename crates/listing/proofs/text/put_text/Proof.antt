@@ -4,7 +4,7 @@ use native.Mathlib.Omega.{arith}
 use borrow.Author.Needs.{needs}
 use lib.ListN.{length, take}
 use Rattle.listing.proofs.text.Writing.{length-wrote, wrote-none, byte-more, all-bytes}
-use Rattle.listing.specs.Written.{Wrote}
+use Rattle.listing.specs.Inner.{Wrote}
 use Rattle.listing.proofs.text.put_text.Statement.{statement}
 use Rattle.listing.proofs.text.put_text.Tie as tie
 

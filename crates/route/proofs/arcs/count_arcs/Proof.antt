@@ -10,10 +10,10 @@ use Rattle.route.proofs.arcs.count_arcs.Statement.{statement}
 use Rattle.route.proofs.arcs.count_arcs.Tie as tie
 
 abbrev Inv-loop : tie.InvT-loop
-Inv-loop s at table home u₀ arcs₀ u arcs = Counting s table (u₀ .0) (u .0) arcs
+Inv-loop s sections table home u₀ arcs₀ u arcs = Counting s table (u₀ .0) (u .0) arcs
 
 abbrev μ-loop : tie.MeasureT-loop
-μ-loop s at table home u₀ arcs₀ u arcs = length (routeTo s table (u .0))
+μ-loop s sections table home u₀ arcs₀ u arcs = length (routeTo s table (u .0))
 
 abbrev Start : Type 0
 Start = tie.Start Inv-loop μ-loop

@@ -8,10 +8,10 @@ use Rattle.route.proofs.arcs.write_arcs.Statement.{statement}
 use Rattle.route.proofs.arcs.write_arcs.Tie as tie
 
 abbrev Inv-loop : tie.InvT-loop
-Inv-loop s at table arcs buffer₀ u₀ left₀ buffer u left = Writing s table buffer₀ (u₀ .0) arcs buffer (u .0) left
+Inv-loop s sections table arcs buffer₀ u₀ left₀ buffer u left = Writing s table buffer₀ (u₀ .0) arcs buffer (u .0) left
 
 abbrev μ-loop : tie.MeasureT-loop
-μ-loop s at table arcs buffer₀ u₀ left₀ buffer u left = left
+μ-loop s sections table arcs buffer₀ u₀ left₀ buffer u left = left
 
 abbrev Start : Type 0
 Start = tie.Start Inv-loop μ-loop

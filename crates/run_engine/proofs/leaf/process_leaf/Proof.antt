@@ -10,7 +10,7 @@ use Rattle.procedure.specs.Graph.{Graph}
 use Rattle.procedure.specs.Division.{Division, isLeaf}
 use Rattle.procedure.specs.Procedure.{processLeaf}
 use Rattle.run_arrays.specs.Rows.{rowCount}
-use Rattle.run_arrays.specs.Tables.{Tables, tablesOf}
+use Rattle.run_arrays.specs.Fixed.{Fixed, fixedOf}
 use Rattle.run_arrays.specs.States.{stateIn, Processing}
 use Rattle.run_engine.proofs.leaf.Leaves.{
   Weighed,
@@ -43,8 +43,8 @@ to c = search needs
 abbrev summed : tie.After-wide3 → tie.After-wide
 summed c = search needs
 
-abbrev tables : tie.Start → List ℕ → Tables
-tables c spans = tablesOf (c .args .rows .now) (c .args .arcs .now) (c .args .firsts .now) (c .args .lengths .now) spans (c .args .regions .now)
+abbrev fixed : tie.Start → List ℕ → Fixed
+fixed c spans = fixedOf (c .args .rows .now) (c .args .arcs .now) (c .args .firsts .now) (c .args .lengths .now) spans (c .args .regions .now)
 
 -- THE COUNT fits
 fits : (c : tie.Start) → c .args .c .leaves + 1 < 18446744073709551616
@@ -60,8 +60,8 @@ arc-in c = search (needs, leaf-arc-in)
 -- THE SUM is weighed against the head's label
 weighed : (c : tie.After-wide3) {g : Graph} {d : Division} {spans keys : List ℕ} → let start = entry (found c) in let a = start .args in
     let s = stateIn g (a .labels .now) (a .predecessors .now) (a .own .now) keys (a .c) in
-    Processing g d (tables start spans) s (a .winners .now) (a .r .0) (processLeaf g d (a .r .0) s) → isLeaf d (a .r .0) ≡ true
-    → Weighed g d (tables start spans) (a .labels .now) (a .predecessors .now) (a .own .now) keys (a .winners .now) (a .c) (a .r .0)
+    Processing g d (fixed start spans) s (a .winners .now) (a .r .0) (processLeaf g d (a .r .0) s) → isLeaf d (a .r .0) ≡ true
+    → Weighed g d (fixed start spans) (a .labels .now) (a .predecessors .now) (a .own .now) keys (a .winners .now) (a .c) (a .r .0)
     (found c .arc-of .result .0) (from c .tail-of .result .0) (to c .head-of .result .0) (summed c .wide .result) (c .before .before .wide2 .result)
     (c .wide3 .result)
 weighed c P leaf = record {

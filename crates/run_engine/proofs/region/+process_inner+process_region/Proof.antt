@@ -14,7 +14,7 @@ use Rattle.procedure.specs.Graph.{Graph, arcs}
 use Rattle.procedure.specs.Division.{Division, isLeaf}
 use Rattle.procedure.specs.Procedure.{alive, process}
 use Rattle.run_arrays.specs.Trees.{SomeQueue}
-use Rattle.run_arrays.specs.Tables.{Tables, tablesOf, heightEntry}
+use Rattle.run_arrays.specs.Fixed.{Fixed, fixedOf, heightEntry}
 use Rattle.run_arrays.specs.States.{stateIn, Processing}
 use Rattle.run_engine.proofs.region.Loops.{
   Looping,
@@ -100,7 +100,7 @@ region-heard t = (arc-of.Asked, arc-of.Learnt, inner-below t, process-inner.Post
 
 abbrev Inv-loop : inner-lts.InvT-loop
 Inv-loop rows arcs firsts lengths spans regions labels₀ predecessors₀ own₀ winners₀ r left₀ n₀ labels predecessors own winners left n =
-    (g : Graph) (d : Division) (keys₀ : List ℕ) → let t = tablesOf rows arcs firsts lengths spans regions in
+    (g : Graph) (d : Division) (keys₀ : List ℕ) → let t = fixedOf rows arcs firsts lengths spans regions in
     let s₀ = stateIn g labels₀ predecessors₀ own₀ keys₀ n₀ in
     Framed g d t (r .0) left₀ s₀ winners₀
     → ((keys : List ℕ) × Looping g d t (alive g d (r .0)) (turn g d t (r .0)) left₀ s₀ left (stateIn g labels predecessors own keys n) winners)
@@ -143,14 +143,14 @@ module _ (t : ℕ) where
   abbrev looped : Found → At-loop
   looped c = search needs
 
-  abbrev tables : Start → Tables
-  tables c = let a = c .args in tablesOf (a .rows .now) (a .arcs .now) (a .firsts .now) (a .lengths .now) (a .spans .now) (a .regions .now)
+  abbrev fixed : Start → Fixed
+  fixed c = let a = c .args in fixedOf (a .rows .now) (a .arcs .now) (a .firsts .now) (a .lengths .now) (a .spans .now) (a .regions .now)
 
   -- THE REGION IS COUNTED, and its span known
   opened : (c : Begun) {g : Graph} {d : Division} {keys : List ℕ} → let start = entry c in let a = start .args in
       let s = stateIn g (a .labels .now) (a .predecessors .now) (a .own .now) keys (a .c) in
-      Processing g d (tables start) s (a .winners .now) (a .r .0) (process g d (a .spans .now) (a .r .0) s) → isLeaf d (a .r .0) ≡ false
-      → Opened g d (tables start) (take (g .nodes) (a .labels .now)) (take (g .nodes) (a .predecessors .now)) (take (arcs g) (a .own .now)) keys
+      Processing g d (fixed start) s (a .winners .now) (a .r .0) (process g d (a .spans .now) (a .r .0) s) → isLeaf d (a .r .0) ≡ false
+      → Opened g d (fixed start) (take (g .nodes) (a .labels .now)) (take (g .nodes) (a .predecessors .now)) (take (arcs g) (a .own .now)) keys
       (a .winners .now) (a .c) (a .r .0) (c .before .span-of .result) (c .count-inner .result)
   opened c P inner = record { processing = P; inner = inner; span = c .before .span-of .ensures; counted = c .count-inner .ensures }
 
@@ -159,7 +159,7 @@ module _ (t : ℕ) where
   Frame c g d keys =
       let start = entry c in
       let a = start .args in
-      Framed g d (tables start) (a .r .0) (c .before .span-of .result)
+      Framed g d (fixed start) (a .r .0) (c .before .span-of .result)
       (stateIn g (a .labels .now) (a .predecessors .now) (a .own .now) keys (c .count-inner .result)) (a .winners .now)
 
   frame : (c : Begun) → let pre = entry c .pre .1 in Frame c (pre .graph) (pre .division) (pre .keys)
@@ -183,7 +183,7 @@ module _ (t : ℕ) where
       let begun = looped c .before in
       let start = entry begun in
       let a = start .args in
-      Turning g d (tables start) (a .r .0) (begun .before .span-of .result)
+      Turning g d (fixed start) (a .r .0) (begun .before .span-of .result)
       (stateIn g (a .labels .now) (a .predecessors .now) (a .own .now) keys₀ (begun .count-inner .result)) (a .winners .now) (loop .left)
       (stateIn g (loop .labels) (loop .predecessors) (loop .own) keys (loop .n)) (loop .winners) (c .min-item .result .0)
 

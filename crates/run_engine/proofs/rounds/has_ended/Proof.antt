@@ -10,7 +10,7 @@ returns : tie.Need-returns
 unfolding top
 returns c g d labels predecessors own keys counts Q inner =
     ended-by-key g d (stateOf labels predecessors own keys counts) _
-    (c .min-key .ensures d keys Q (Q .entered .laid .planned .counted .numbered .root) inner own (counts .updates))
+    (c .min-key .ensures d keys Q (Q .seated .laid .planned .counted .numbered .root) inner own (counts .updates))
 
 pub has-ended-spec : {M : Type 1} → statement M
 has-ended-spec =

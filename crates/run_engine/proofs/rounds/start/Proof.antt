@@ -6,7 +6,7 @@ use Prim.Native.Nat.{ℕ}
 use Rattle.sheet.specs.Words.{top}
 use Rattle.procedure.specs.Graph.{Graph}
 use Rattle.procedure.specs.Division.{Division, regions}
-use Rattle.run_arrays.specs.Tables.{tablesOf}
+use Rattle.run_arrays.specs.Fixed.{fixedOf}
 use Rattle.run_arrays.specs.States.{Blank}
 use Rattle.run_engine.proofs.rounds.Beginning.{Filled, nodes-filled, arcs-filled, start-laid, start-asks, started}
 use Rattle.run_engine.proofs.rounds.start.Statement.{statement}
@@ -29,7 +29,7 @@ owned c = c .before .before .before
 filled : (c : tie.After-clear) {g : Graph} {d : Division} {lengths spans regionRows : List ℕ} → let predecessors = fed (owned c) in
     let labels = labelled predecessors in
     let a = entry labels .args in
-    let t = tablesOf (a .rows .now) (a .arcs .now) (a .firsts .now) lengths spans regionRows in
+    let t = fixedOf (a .rows .now) (a .arcs .now) (a .firsts .now) lengths spans regionRows in
     Blank g d t → a .source .0 ≡ g .source → a .count ≡ regions d
     → Filled g d t (labels .fill-keys .last .0) (predecessors .fill-keys2 .last .0) (owned c .fill-keys3 .last .0) (c .clear .last .1 .0) (a .source .0)
 unfolding top

@@ -107,7 +107,7 @@ module _ (t : ℕ) where
   climbing c {d} U = record {
     positive = search needs;
     fell = search needs;
-    up-parent = c .parent-of .ensures d (U .queues .entered .laid .planned .counted) (region-in U);
+    up-parent = c .parent-of .ensures d (U .queues .seated .laid .planned .counted) (region-in U);
   }
 
   parent-of-requires : here lts.Need-parent-of-requires
@@ -116,7 +116,7 @@ module _ (t : ℕ) where
       let U = start .pre .1 .updating in
       record {
         division = start .pre .1 .division;
-        counted = U .queues .entered .laid .planned .counted;
+        counted = U .queues .seated .laid .planned .counted;
         positive = search needs;
         inside = region-in U;
       }

@@ -26,7 +26,7 @@ climbing : (c : tie.After-parent-of) {g : Graph} {d : Division} {keys : List ℕ
     → ArcClimbing d (a .arcs .now) (a .own .now) (a .a .0) (a .key) (leafed c .leaf-of .result .0) (c .parent-of .result .0)
 climbing c {d = d} U =
     let row = leafed c .leaf-of .ensures in
-    let counted = U .updatable .queues .entered .laid .planned .counted in
+    let counted = U .updatable .queues .seated .laid .planned .counted in
     record { fell = search needs; leaf-row = row; up-parent = c .parent-of .ensures d counted (leaf-region U row) }
 
 update-requires : tie.Need-update-requires

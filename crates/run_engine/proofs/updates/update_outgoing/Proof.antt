@@ -6,7 +6,7 @@ use native.Mathlib.Omega.{arith}
 use Rattle.procedure.specs.Graph.{Graph, arcs}
 use Rattle.procedure.specs.Division.{Division}
 use Rattle.procedure.specs.State.{Queues}
-use Rattle.run_arrays.specs.Tables.{ArcRows}
+use Rattle.run_arrays.specs.Fixed.{ArcRows}
 use Rattle.run_arrays.specs.States.{queuesIn}
 use Rattle.run_engine.proofs.updates.Updates.{Spread, spread-start, spread-asks, spread-falls, spread-step, spread-end}
 use Rattle.run_engine.proofs.updates.update_outgoing.Statement.{statement}

@@ -12,8 +12,8 @@ pub enter-ends-spec : {M : Type 1} → statement M
 enter-ends-spec =
     tie.close
     (tie.spec
-    (λ s at arcs₀ n i₀ arcs i. EnteringEnds s arcs i)
-    (λ s at arcs₀ n i₀ arcs i. arcCount s - i)
+    (λ s sections arcs₀ n i₀ arcs i. EnteringEnds s arcs i)
+    (λ s sections arcs₀ n i₀ arcs i. arcCount s - i)
     (λ c. search needs)
     (λ c. omega arith)
     (λ c. omega arith)

@@ -14,8 +14,8 @@ unfolding graphOf
 enter-lengths-spec =
     tie.close
     (tie.spec
-    (λ s at lengths₀ n a₀ lengths a. Prefix (arcCount s) (arcLength s) lengths a)
-    (λ s at lengths₀ n a₀ lengths a. arcCount s - a)
+    (λ s sections lengths₀ n a₀ lengths a. Prefix (arcCount s) (arcLength s) lengths a)
+    (λ s sections lengths₀ n a₀ lengths a. arcCount s - a)
     (λ c. prefix-none _ _ _ (search needs))
     (λ c. omega arith)
     (λ c κs. search needs)

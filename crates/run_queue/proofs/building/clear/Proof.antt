@@ -7,7 +7,7 @@ use native.Mathlib.Omega.{arith}
 use lib.ListN.{length, replicate}
 use Rattle.sheet.specs.Words.{top}
 use Rattle.procedure.specs.Division.{Division, regions}
-use Rattle.run_arrays.specs.Trees.{LaidOut, Entered, ValidBelow}
+use Rattle.run_arrays.specs.Trees.{LaidOut, Seated, ValidBelow}
 use Rattle.run_queue.proofs.building.Building.{valid-none, valid-regions}
 use Rattle.run_queue.proofs.building.clear.Statement.{statement}
 use Rattle.run_queue.proofs.building.clear.Tie as tie
@@ -15,7 +15,7 @@ use Rattle.run_queue.proofs.building.clear.Tie as tie
 abbrev Inv-loop : tie.InvT-loop
 Inv-loop rows winners₀ count r₀ winners r =
     (length winners ≡ length winners₀)
-    × ((d : Division) (keys : List ℕ) → count ≡ regions d → Entered d rows keys winners₀ → ValidBelow d rows keys winners r)
+    × ((d : Division) (keys : List ℕ) → count ≡ regions d → Seated d rows keys winners₀ → ValidBelow d rows keys winners r)
 
 abbrev μ-loop : tie.MeasureT-loop
 μ-loop rows winners₀ count r₀ winners r = count - r

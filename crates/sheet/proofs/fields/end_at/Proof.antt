@@ -8,11 +8,11 @@ use Rattle.sheet.proofs.fields.end_at.Tie as tie
 
 returns : tie.Need-returns
 unfolding head
-returns c = rw (c .if1 .taken, c .before .ends-at .ensures) (refl, omega arith)
+returns c = rw (c .if1 .taken, c .before .ends-payload .ensures) (refl, omega arith)
 
 returns-2 : tie.Need-returns-2
 unfolding tail
-returns-2 c = rw (c .if1 .left, c .before .ends-at .ensures) (refl, omega arith)
+returns-2 c = rw (c .if1 .left, c .before .ends-payload .ensures) (refl, omega arith)
 
 pub end-at-spec : {M : Type 1} → statement M
 end-at-spec = tie.close (tie.spec (λ c κs. search needs) (λ c. search needs) returns (λ c. search needs) returns-2)

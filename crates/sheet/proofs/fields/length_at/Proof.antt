@@ -10,7 +10,7 @@ use Rattle.sheet.proofs.fields.length_at.Statement.{statement}
 use Rattle.sheet.proofs.fields.length_at.Tie as tie
 
 -- the word that is read stands inside the sheet
-inside : (c : tie.Start) → 2 + c .args .at .spans + 2 * (c .args .a .0) + 1 < words (c .args .s .now)
+inside : (c : tie.Start) → 2 + c .args .sections .spans + 2 * (c .args .a .0) + 1 < words (c .args .s .now)
 inside c = arc-inside (c .pre .0) (c .args .a .0) (c .pre .1)
 
 returns : tie.Need-returns

@@ -6,7 +6,7 @@ use Rattle.sheet.proofs.scan.part_after.Statement.{statement}
 use Rattle.sheet.proofs.scan.part_after.Tie as tie
 
 returns : tie.Need-returns
-returns c = to-end (c .before .before .args .s .now) (4 * c .before .before .args .c .at)
+returns c = to-end (c .before .before .args .s .now) (4 * c .before .before .args .c .place)
 
 pub part-after-spec : {M : Type 1} → statement M
 part-after-spec = tie.close (tie.spec (λ c. search needs) (λ c. search needs) (λ c. search needs) (λ c. search needs) returns)

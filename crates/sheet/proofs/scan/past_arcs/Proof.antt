@@ -19,7 +19,7 @@ abbrev μ-loop : tie.MeasureT-loop
 
 -- the place after so many arcs
 abbrev after : tie.Start Inv-loop μ-loop → ℕ → ℕ
-after c n = c .args .c .at + 2 * n
+after c n = c .args .c .place + 2 * n
 
 -- a pair that is no arc: those before it are all
 returns : tie.Need-returns Inv-loop μ-loop

@@ -19,7 +19,7 @@ abbrev μ-loop : tie.MeasureT-loop
 
 -- the place after so many spans
 abbrev after : tie.Start Inv-loop μ-loop → ℕ → ℕ
-after c n = c .args .c .at + n
+after c n = c .args .c .place + n
 
 -- a word that is no span: those before it are all
 returns : tie.Need-returns Inv-loop μ-loop

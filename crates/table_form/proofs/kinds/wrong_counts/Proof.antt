@@ -1,5 +1,5 @@
 -- `wrong_counts` meets its contract: a scan for `any`. While it goes on, the words passed are of their kind.
-use Prim.Native.Nat.{_-_, _≤_}
+use Prim.Native.Nat.{_-_, _≤_, _*_}
 use mathlib.Core.Path.{_≡_, sym, _∙_}
 use mathlib.Core.Bool.{false}
 use borrow.Author.Needs.{needs}
@@ -9,13 +9,14 @@ use Rattle.indices.proofs.Tests.{any-none, any-more, any-hit, any-end}
 use Rattle.calls.specs.Routes.{wrongCount}
 use Rattle.table_form.proofs.kinds.wrong_counts.Statement.{statement}
 use Rattle.table_form.proofs.kinds.wrong_counts.Tie as tie
+use Rattle.procedure.specs.Table.{countsLength}
 
 pub wrong-counts-spec : {M : Type 1} → statement M
 wrong-counts-spec =
     tie.close
     (tie.spec
-    (λ table i₀ i. (i ≤ 8) × (any (wrongCount table) i ≡ false))
-    (λ table i₀ i. 8 - i)
+    (λ table i₀ i. (i ≤ 2 * countsLength) × (any (wrongCount table) i ≡ false))
+    (λ table i₀ i. 2 * countsLength - i)
     (λ c. (omega arith, any-none _))
     (λ c. search needs)
     (λ c κs. search needs)

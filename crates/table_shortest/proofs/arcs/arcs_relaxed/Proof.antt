@@ -17,8 +17,8 @@ pub arcs-relaxed-spec : {M : Type 1} → statement M
 arcs-relaxed-spec =
     tie.close
     (tie.spec
-    (λ s at table arcs a₀ a. (a ≤ arcCount s) × (all (arcRelaxed s table) a ≡ true))
-    (λ s at table arcs a₀ a. arcCount s - a)
+    (λ s sections table arcs a₀ a. (a ≤ arcCount s) × (all (arcRelaxed s table) a ≡ true))
+    (λ s sections table arcs a₀ a. arcCount s - a)
     (λ c. omega (arith, few-arcs))
     (λ c. (omega arith, all-none _))
     (λ c κs. search needs)

@@ -8,10 +8,10 @@ use Rattle.table_shortest.proofs.walk.node_led.Statement.{statement}
 use Rattle.table_shortest.proofs.walk.node_led.Tie as tie
 
 abbrev Inv-loop : tie.InvT-loop
-Inv-loop s at table stamps₀ stamp u₀ stamps u = Walking s table stamps (u₀ .0) (u .0)
+Inv-loop s sections table stamps₀ stamp u₀ stamps u = Walking s table stamps (u₀ .0) (u .0)
 
 abbrev μ-loop : tie.MeasureT-loop
-μ-loop s at table stamps₀ stamp u₀ stamps u = unstamped s stamps
+μ-loop s sections table stamps₀ stamp u₀ stamps u = unstamped s stamps
 
 abbrev Start : Type 0
 Start = tie.Start Inv-loop μ-loop

@@ -1,0 +1,45 @@
+// The cells of a listing, figures of an answer table: read, and written into a lent buffer from a place on.
+ghost use mathlib.Core.Path.{_≡_};
+ghost use Prim.Native.Nat.{_≤_, _<_};
+ghost use lib.ListN.{length};
+ghost use Rattle.calls.specs.Tables.{payloadIn, countIn};
+ghost use Rattle.listing.specs.Listing.{cell, spaced};
+ghost use Rattle.listing.specs.Inner.{Room, Wrote};
+ghost use Rattle.procedure.specs.Table.{countsLength, headerLength};
+
+pub fn payload_at(table: &[u32], i: usize) -> u32
+    requires { ⌜ i < length (now table) ⌝ }
+    ensures { λ r. ⌜ r ≡ payloadIn (now (table .entry)) i ⌝ }
+{
+    sheet::payload_of(table[i])
+}
+
+// Count i: its high 28 bits stand before its low 28.
+pub fn count_at(table: &[u32], i: usize) -> u64
+    requires { ⌜ (i < countsLength) × (headerLength ≤ length (now table)) ⌝ }
+    ensures { λ r. ⌜ r ≡ countIn (now (table .entry)) i ⌝ }
+{
+    let high = payload_at(table, 1 + 2 * i) as u64;
+    let low = payload_at(table, 2 + 2 * i) as u64;
+    high * sheet::COUNT_BASE + low
+}
+
+// A distance or a feeding arc.
+fn put_cell(payload: u32, out: &mut [u8], from: usize) -> usize
+    requires { ⌜ Room (now out) from (cell payload) ⌝ }
+    ensures { λ r. ⌜ Wrote (now (out .entry)) from (cell payload) (now (out .exit)) r ⌝ }
+{
+    if payload == sheet::NONE {
+        return crate::text::put_byte(b'-', out, from);
+    }
+    crate::text::put_number(payload as u64, out, from)
+}
+
+// The payload of a word, after a space.
+pub fn put_payload(table: &[u32], i: usize, out: &mut [u8], from: usize) -> usize
+    requires { ⌜ (i < length (now table)) × Room (now out) from (spaced (payloadIn (now table) i)) ⌝ }
+    ensures { λ r. ⌜ Wrote (now (out .entry)) from (spaced (payloadIn (now (table .entry)) i)) (now (out .exit)) r ⌝ }
+{
+    let next = crate::text::put_byte(b' ', out, from);
+    put_cell(payload_at(table, i), out, next)
+}
