@@ -1,32 +1,14 @@
-// The leaves among the region words: refusal 12, and of refusal 3 what it asks of a leaf's word.
+// The leaves among the region words: of refusal 3 what it asks of a leaf's word, and refusal 12.
 ghost use mathlib.Core.Path.{_≡_};
 ghost use Prim.Native.Nat.{_≤_, _<_};
+ghost use lib.ListN.{length};
 ghost use Rattle.sheet.specs.Limits.{mostArcs, mostRegionWords, arcNumbers};
 ghost use Rattle.sheet.specs.Words.{words};
 ghost use Rattle.judgement.specs.Division.{wrongLeaves, leafOfArc};
-ghost use lib.ListN.{length};
 ghost use Rattle.indices.specs.Tests.{any};
 ghost use Rattle.indices.proofs.Tally.{Tally};
 ghost use Rattle.judgement.specs.Form.{leafBits};
 use sheet::ARC_NUMBERS;
-
-// Refusal 12, of so many arcs: one of them has no leaf or several, or a number beyond them has one.
-pub fn wrong_leaves(d: &[u8], arcs: u16) -> bool
-    requires { ⌜ (words (now d) ≤ mostRegionWords) × (arcs ≤ mostArcs) ⌝ }
-    ensures { λ r. ⌜ r ≡ wrongLeaves (now (d .entry)) arcs ⌝ }
-{
-    let leaves = count_leaves(d);
-    let seen = leaves.n;
-    let mut a: u16 = 0;
-    while a < ARC_NUMBERS as u16 {
-        let i = a as usize;
-        if seen[i] != (a < arcs) as u16 {
-            return true;
-        }
-        a += 1;
-    }
-    false
-}
 
 // A counter for each arc number of 11 bits.
 pub struct Counters {
@@ -75,4 +57,22 @@ pub fn count_leaves(d: &[u8]) -> Counters
         k += 1;
     }
     Counters { n: seen }
+}
+
+// Refusal 12, of so many arcs: one of them has no leaf or several, or a number beyond them has one.
+pub fn wrong_leaves(d: &[u8], arcs: u16) -> bool
+    requires { ⌜ (words (now d) ≤ mostRegionWords) × (arcs ≤ mostArcs) ⌝ }
+    ensures { λ r. ⌜ r ≡ wrongLeaves (now (d .entry)) arcs ⌝ }
+{
+    let leaves = count_leaves(d);
+    let seen = leaves.n;
+    let mut a: u16 = 0;
+    while a < ARC_NUMBERS as u16 {
+        let i = a as usize;
+        if seen[i] != (a < arcs) as u16 {
+            return true;
+        }
+        a += 1;
+    }
+    false
 }

@@ -1,13 +1,45 @@
 // Refusals 4 to 7: the limits of nodes, source and spans, and of how many spans, arcs and region words there are.
 ghost use mathlib.Core.Path.{_≡_};
+ghost use Prim.Native.Nat.{_≤_, _<_};
 ghost use Rattle.sheet.specs.Inner.{Located};
 ghost use Rattle.answer.specs.Answer.{numbered, accepted, lowest};
 ghost use Rattle.judgement.specs.Form.{spansOutside, tooMany, nodesOutside, sourceOutside, spanOutside};
 ghost use Rattle.judgement.specs.Judgement.{countRefusals};
-ghost use Prim.Native.Nat.{_≤_, _<_};
 ghost use Rattle.sheet.specs.Words.{words};
 ghost use Rattle.sheet.specs.Sections.{spanCount};
 use sheet::Sections;
+
+// Refusal 4: the node count is outside its limits.
+pub fn nodes_outside(s: &[u8]) -> bool
+    requires { ⌜ 2 ≤ words (now s) ⌝ }
+    ensures { λ r. ⌜ r ≡ nodesOutside (now (s .entry)) ⌝ }
+{
+    let n = sheet::node_count(s);
+    if n < 1 {
+        return true;
+    }
+    n > sheet::MOST_NODES
+}
+
+// Refusal 5: the source is no node.
+pub fn source_outside(s: &[u8]) -> bool
+    requires { ⌜ 2 ≤ words (now s) ⌝ }
+    ensures { λ r. ⌜ r ≡ sourceOutside (now (s .entry)) ⌝ }
+{
+    sheet::node_count(s) <= sheet::source_number(s)
+}
+
+// Whether the span at place k is outside its limits.
+pub fn span_outside(s: &[u8], k: usize) -> bool
+    requires { ⌜ (2 ≤ words (now s)) × (k < spanCount (now s)) ⌝ }
+    ensures { λ r. ⌜ r ≡ spanOutside (now (s .entry)) k ⌝ }
+{
+    let x = sheet::span_at(s, k);
+    if x < 1 {
+        return true;
+    }
+    x > sheet::MOST_SPAN
+}
 
 // Refusal 6: a span is outside its limits.
 fn spans_outside(s: &[u8], sections: Sections) -> bool
@@ -57,36 +89,4 @@ pub fn count_refusal(s: &[u8], sections: Sections) -> u8
         return 7;
     }
     0
-}
-
-// Refusal 4: the node count is outside its limits.
-pub fn nodes_outside(s: &[u8]) -> bool
-    requires { ⌜ 2 ≤ words (now s) ⌝ }
-    ensures { λ r. ⌜ r ≡ nodesOutside (now (s .entry)) ⌝ }
-{
-    let n = sheet::node_count(s);
-    if n < 1 {
-        return true;
-    }
-    n > sheet::MOST_NODES
-}
-
-// Refusal 5: the source is no node.
-pub fn source_outside(s: &[u8]) -> bool
-    requires { ⌜ 2 ≤ words (now s) ⌝ }
-    ensures { λ r. ⌜ r ≡ sourceOutside (now (s .entry)) ⌝ }
-{
-    sheet::node_count(s) <= sheet::source_number(s)
-}
-
-// Whether the span at place k is outside its limits.
-pub fn span_outside(s: &[u8], k: usize) -> bool
-    requires { ⌜ (2 ≤ words (now s)) × (k < spanCount (now s)) ⌝ }
-    ensures { λ r. ⌜ r ≡ spanOutside (now (s .entry)) k ⌝ }
-{
-    let x = sheet::span_at(s, k);
-    if x < 1 {
-        return true;
-    }
-    x > sheet::MOST_SPAN
 }

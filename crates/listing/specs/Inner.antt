@@ -5,8 +5,8 @@ use mathlib.Core.List.{List}
 use lib.ListN.{length}
 use lib.Seq.{sets}
 use Rattle.calls.specs.Tables.{tableLength}
-use Rattle.listing.specs.Listing.{mostListing}
 use Rattle.sheet.specs.Limits.{mostNodes}
+use Rattle.listing.specs.Listing.{mostListing}
 
 -- a text has room in a buffer from a place on
 pub record Room (buffer : List ℕ) (from : ℕ) (text : List ℕ) : Type 0 where

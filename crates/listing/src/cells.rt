@@ -3,9 +3,9 @@ ghost use mathlib.Core.Path.{_≡_};
 ghost use Prim.Native.Nat.{_≤_, _<_};
 ghost use lib.ListN.{length};
 ghost use Rattle.calls.specs.Tables.{payloadIn, countIn};
+ghost use Rattle.procedure.specs.Table.{countsLength, headerLength};
 ghost use Rattle.listing.specs.Listing.{cell, spaced};
 ghost use Rattle.listing.specs.Inner.{Room, Wrote};
-ghost use Rattle.procedure.specs.Table.{countsLength, headerLength};
 
 pub fn payload_at(table: &[u32], i: usize) -> u32
     requires { ⌜ i < length (now table) ⌝ }

@@ -2,9 +2,9 @@
 ghost use Prim.Native.Nat.{_+_, _*_, _≤_};
 ghost use lib.ListN.{length};
 ghost use Rattle.calls.specs.Tables.{tableLength};
+ghost use Rattle.sheet.specs.Limits.{mostNodes};
 ghost use Rattle.listing.specs.Listing.{nodeLine, nodeLines};
 ghost use Rattle.listing.specs.Inner.{Room, Wrote};
-ghost use Rattle.sheet.specs.Limits.{mostNodes};
 
 fn put_node_line(table: &[u32], v: usize, out: &mut [u8], from: usize) -> usize
     requires { ⌜ (tableLength v + 2 ≤ length (now table)) × Room (now out) from (nodeLine (now table) v) ⌝ }

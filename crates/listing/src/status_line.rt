@@ -3,10 +3,10 @@ ghost use mathlib.Core.List.{_++_};
 ghost use Prim.Native.Nat.{_+_, _≤_, _<_};
 ghost use lib.ListN.{length};
 ghost use Rattle.calls.specs.Tables.{countIn};
+ghost use Rattle.procedure.specs.Table.{countsLength, headerLength};
 ghost use Rattle.listing.specs.Text.{decimal};
 ghost use Rattle.listing.specs.Listing.{status, statusLine};
 ghost use Rattle.listing.specs.Inner.{Room, Wrote};
-ghost use Rattle.procedure.specs.Table.{countsLength, headerLength};
 
 // A count after its name.
 fn put_count(table: &[u32], i: usize, name: &[u8], out: &mut [u8], from: usize) -> usize

@@ -4,8 +4,8 @@ ghost use mathlib.Core.List.{_++_};
 ghost use Prim.Native.Nat.{_<_};
 ghost use lib.ListN.{length, drop};
 ghost use Rattle.calls.specs.Routes.{routeTo};
-ghost use Rattle.route.specs.Ready.{Ready, Reached, RouteLent};
 ghost use Rattle.sheet.specs.Limits.{mostNodes};
+ghost use Rattle.route.specs.Ready.{Ready, Reached, RouteLent};
 use sheet::Node;
 use sheet::Sections;
 

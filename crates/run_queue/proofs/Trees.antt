@@ -13,9 +13,9 @@ use Rattle.procedure.specs.Queues.{minItem}
 use Rattle.theory.proofs.Chosen.{Child, parent-child, minItem-first, first-one}
 use Rattle.run_arrays.specs.Rows.{field, rowCount}
 use Rattle.run_arrays.specs.Trees.{entry, childCount, treeStart, seat, place, Wins, Planned, LaidOut, QueuesOk, Seated}
-use Rattle.run_queue.proofs.Comparison.{entry-behind}
 use Rattle.run_arrays.proofs.trees.Seats.{tree-room, trees-apart, seat-low, seat-high, seat-one, place-child, parent-in}
 use Rattle.run_arrays.proofs.trees.RegionRows.{row-in}
+use Rattle.run_queue.proofs.Comparison.{entry-behind}
 
 -- a store at place p of r's tree
 module _ (d : Division) (winners : List ℕ) (room : 2 * regions d ≤ length winners) (r p x : ℕ) (hp : p < 2 * childCount d r) where

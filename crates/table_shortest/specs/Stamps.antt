@@ -12,8 +12,8 @@ use Rattle.sheet.specs.Sections.{nodeCount, source}
 use Rattle.procedure.specs.OfSheet.{graphOf}
 use Rattle.theory_shortest.specs.TableTest.{leadsBack}
 use Rattle.table.specs.Fitting.{Fitting, predecessors}
-use Rattle.table_shortest.specs.NodeChecks.{nodeFits}
 use Rattle.sheet.specs.Limits.{nodeNumbers}
+use Rattle.table_shortest.specs.NodeChecks.{nodeFits}
 
 -- predecessors that can be followed back: every node but the source that is reached has one, from a reached node
 pub record Followable (b : List ℕ) (sections : Sections) (table : List ℕ) : Type 0 where

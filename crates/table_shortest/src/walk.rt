@@ -2,12 +2,12 @@
 ghost use mathlib.Core.Path.{_≡_};
 ghost use mathlib.Core.Bool.{true};
 ghost use Prim.Native.Nat.{_+_};
-ghost use Rattle.table_shortest.specs.WalkChecks.{nodeLed};
-ghost use Rattle.table_shortest.specs.Stamps.{Stamped, Walkable, Followable};
 ghost use lib.ListN.{replicate};
 ghost use Rattle.indices.specs.Tests.{all};
 ghost use Rattle.sheet.specs.Sections.{nodeCount};
 ghost use Rattle.sheet.specs.Limits.{nodeNumbers};
+ghost use Rattle.table_shortest.specs.WalkChecks.{nodeLed};
+ghost use Rattle.table_shortest.specs.Stamps.{Stamped, Walkable, Followable};
 use sheet::NODE_NUMBERS;
 use sheet::Node;
 use sheet::Sections;

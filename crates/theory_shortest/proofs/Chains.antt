@@ -8,8 +8,8 @@ use lib.ListN.{length, length-append}
 use Rattle.indices.specs.Columns.{at}
 use Rattle.sheet.specs.Words.{top}
 use Rattle.procedure.specs.Graph.{Graph, arcs, tail}
-use Rattle.theory_shortest.specs.WellFormed.{GraphOk}
 use Rattle.procedure.specs.Routes.{followed, chainTo, Shortest}
+use Rattle.theory_shortest.specs.WellFormed.{GraphOk}
 use Rattle.theory_shortest.proofs.Routes.{followed-home, followed-back}
 use Rattle.theory_shortest.proofs.Depth.{Depth, home, back, depth-below}
 use Rattle.theory_shortest.proofs.TightTree.{TightTree, shortest-tree}

@@ -12,8 +12,8 @@ use Rattle.indices.specs.Tests.{all}
 use Rattle.indices.proofs.Tests.{and-left, and-right, and-both, or-then, or-if, all-at, all-true}
 use Rattle.sheet.specs.Words.{top}
 use Rattle.procedure.specs.Graph.{Graph, arcs, tail, head, len}
-use Rattle.theory_shortest.specs.WellFormed.{GraphOk}
 use Rattle.procedure.specs.Routes.{Shortest}
+use Rattle.theory_shortest.specs.WellFormed.{GraphOk}
 use Rattle.theory_shortest.specs.TableTest.{sourceTest, unfedTest, fedTest, relaxedTest, ledTest, settled?}
 use Rattle.theory_shortest.proofs.Depth.{Depth, depth-below}
 use Rattle.theory_shortest.proofs.LeadsBack.{depth-leads, leads-depth}

@@ -11,8 +11,8 @@ use Rattle.indices.proofs.Steps.{by-equal}
 use Rattle.sheet.specs.Limits.{mostLength}
 use Rattle.sheet.specs.Words.{top}
 use Rattle.procedure.specs.Graph.{Graph, arcs, tail, head, len}
-use Rattle.theory_shortest.specs.WellFormed.{GraphOk}
 use Rattle.procedure.specs.Routes.{Route, routeLength, followed, chainTo, Shortest}
+use Rattle.theory_shortest.specs.WellFormed.{GraphOk}
 use Rattle.theory_shortest.specs.Settled.{LeadsBack, home as led-home, back as led-back, Settled}
 use Rattle.theory_shortest.proofs.Routes.{route-none, route-none-ends, route-more, route-last, length-none, length-more, along-route, followed-none, followed-home, followed-back}
 use Rattle.theory_shortest.proofs.Depth.{Depth, home, back, depth-below, chain-arcs}

@@ -20,8 +20,8 @@ use Rattle.judgement.proofs.Accepted.{few-nodes, source-in, few-arcs, tail-in, 
 use Rattle.procedure.specs.Graph.{arcs, tail}
 use Rattle.procedure.specs.Division.{Division, regions, arcOf, isLeaf, leafOf}
 use Rattle.procedure.specs.OfSheet.{graphOf, divisionOf, spansOf}
-use Rattle.theory_shortest.specs.WellFormed.{GraphOk, DivisionOk, SpansOk, WellFormed}
 use Rattle.procedure.proofs.OfSheet.{graph-arcs, graph-heads, graph-lengths, graph-tail, graph-head, graph-len, graph-nodes, graph-source, division-regions, division-arcs, division-parent, division-arc, division-leaf, division-height, spans-count, spans-at}
+use Rattle.theory_shortest.specs.WellFormed.{GraphOk, DivisionOk, SpansOk, WellFormed}
 
 -- the first region that has a given arc, where some region r has it: it has that arc too, and is r or before r
 leaf-first : (d : Division) (a r : ℕ) → r < regions d → arcOf d r ≡ a → (leafOf d a ≤ r) × (arcOf d (leafOf d a) ≡ a)

@@ -1,10 +1,10 @@
 -- `report` meets its contract: the line of the judge's refusal, or what is printed of the accepted sheet.
 use mathlib.Core.Path.{sym, ap, _∙_}
+use borrow.Author.Needs.{needs}
 use Rattle.io.proofs.Counting.{counts}
 use Rattle.answer.specs.Said.{judgeSaid}
 use Rattle.listing.proofs.Writing.{filled-within}
 use Rattle.report.proofs.Outcomes.{reported-refusal}
-use borrow.Author.Needs.{needs}
 use Rattle.report.proofs.report.Statement.{statement}
 use Rattle.report.proofs.report.Tie as tie
 

@@ -1,6 +1,6 @@
 -- `is_paused` meets its contract: the status is compared.
-use Rattle.calls.specs.Routes.{isPaused}
 use borrow.Author.Needs.{needs}
+use Rattle.calls.specs.Routes.{isPaused}
 use Rattle.table_form.proofs.is_paused.Statement.{statement}
 use Rattle.table_form.proofs.is_paused.Tie as tie
 

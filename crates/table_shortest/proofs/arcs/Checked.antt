@@ -16,8 +16,8 @@ use Rattle.procedure.specs.OfSheet.{graphOf}
 use Rattle.theory_shortest.specs.TableTest.{sourceTest, relaxedTest}
 use Rattle.calls.specs.Tables.{labelIn, predecessorIn}
 use Rattle.table.specs.Fitting.{Fitting, labels}
-use Rattle.table_shortest.specs.ArcChecks.{sourceFits, arcRelaxed}
 use Rattle.table.proofs.read.AtArcs.{from-label, to-label, arc-length, source-label, source-predecessor}
+use Rattle.table_shortest.specs.ArcChecks.{sourceFits, arcRelaxed}
 
 module _ {b table : List ℕ} {sections′ : Sections} (F : Fitting b sections′ table) where
   -- the source u, with label x

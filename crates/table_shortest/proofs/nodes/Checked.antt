@@ -19,8 +19,8 @@ use Rattle.theory_shortest.specs.TableTest.{unfedTest, fedTest}
 use Rattle.calls.specs.Tables.{labelIn, predecessorIn}
 use Rattle.table.specs.Fitting.{Fitting, labels, predecessors}
 use Rattle.table.proofs.read.Columns.{label-there, predecessor-there}
-use Rattle.table_shortest.specs.NodeChecks.{feeds, nodeFits}
 use Rattle.table.proofs.read.AtArcs.{from-label, to-node, arc-length}
+use Rattle.table_shortest.specs.NodeChecks.{feeds, nodeFits}
 
 module _ {b table : List ℕ} {sections′ : Sections} (F : Fitting b sections′ table) where
   -- arc a from a node u with label x

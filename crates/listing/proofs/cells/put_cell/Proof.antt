@@ -1,7 +1,7 @@
 -- `put_cell` meets its contract: the form of a cell that the test chose.
+use borrow.Author.Needs.{needs}
 use Rattle.listing.proofs.text.Writing.{byte-room}
 use Rattle.listing.proofs.cells.Cells.{cell-none, cell-number}
-use borrow.Author.Needs.{needs}
 use Rattle.listing.proofs.cells.put_cell.Statement.{statement}
 use Rattle.listing.proofs.cells.put_cell.Tie as tie
 

@@ -1,7 +1,7 @@
 -- `put_payload` meets its contract: the space, then the cell of the payload that is read.
+use borrow.Author.Needs.{needs}
 use Rattle.listing.specs.Listing.{spaced}
 use Rattle.listing.proofs.text.Writing.{wrote-then, room-before, room-after, byte-room}
-use borrow.Author.Needs.{needs}
 use Rattle.listing.proofs.cells.put_payload.Statement.{statement}
 use Rattle.listing.proofs.cells.put_payload.Tie as tie
 

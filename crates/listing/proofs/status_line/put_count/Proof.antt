@@ -1,6 +1,6 @@
 -- `put_count` meets its contract: the name, then the number that is read.
-use Rattle.listing.proofs.text.Writing.{wrote-then, room-before, room-after}
 use borrow.Author.Needs.{needs}
+use Rattle.listing.proofs.text.Writing.{wrote-then, room-before, room-after}
 use Rattle.listing.proofs.status_line.put_count.Statement.{statement}
 use Rattle.listing.proofs.status_line.put_count.Tie as tie
 

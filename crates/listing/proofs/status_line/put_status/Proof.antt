@@ -1,9 +1,9 @@
 -- `put_status` meets its contract: the form of a status that the test chose.
 use mathlib.Core.Path.{_≡_, sym, _∙_}
+use borrow.Author.Needs.{needs}
 use Rattle.listing.specs.Text.{ascii}
 use Rattle.listing.specs.Listing.{status}
 use Rattle.listing.proofs.status_line.StatusLine.{status-ended, status-paused}
-use borrow.Author.Needs.{needs}
 use Rattle.listing.proofs.status_line.put_status.Statement.{statement}
 use Rattle.listing.proofs.status_line.put_status.Tie as tie
 

@@ -1,9 +1,9 @@
 -- `put_number` meets its contract, by the measure of the number: a number below ten is its digit; any other is written as its tenth, then its last digit.
 use borrow.Author.Needs.{needs}
-use Rattle.listing.proofs.text.Numbers.{digit-room, wrote-digit, tenth-room, last-room, wrote-last}
 use Prim.Native.Nat.{ℕ, _<_}
 use borrow.Fn.Kinds.{In}
 use borrow.Fn.PlainCycle.{Measures, is, falls, and}
+use Rattle.listing.proofs.text.Numbers.{digit-room, wrote-digit, tenth-room, last-room, wrote-last}
 use Rattle.listing.proofs.text.put_number.Reads as put-number
 use Rattle.listing.proofs.text.put_number.Kinds as put-number-kinds
 use Rattle.listing.proofs.text.+put_number.Lts-put_number as put-number-lts

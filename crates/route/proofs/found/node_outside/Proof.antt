@@ -1,6 +1,6 @@
 -- `node_outside` meets its contract: the node count is compared.
-use Rattle.calls.specs.Routes.{nodeOutside}
 use borrow.Author.Needs.{needs}
+use Rattle.calls.specs.Routes.{nodeOutside}
 use Rattle.route.proofs.found.node_outside.Statement.{statement}
 use Rattle.route.proofs.found.node_outside.Tie as tie
 

@@ -1,6 +1,6 @@
 -- `wrong_length` meets its contract: the lengths are compared.
-use Rattle.calls.specs.Tables.{wrongLength}
 use borrow.Author.Needs.{needs}
+use Rattle.calls.specs.Tables.{wrongLength}
 use Rattle.table.proofs.read.wrong_length.Statement.{statement}
 use Rattle.table.proofs.read.wrong_length.Tie as tie
 

@@ -7,9 +7,9 @@ use native.Mathlib.Omega.{arith}
 use Rattle.indices.specs.Tests.{any}
 use Rattle.indices.proofs.Tests.{any-none, any-more, any-hit, any-end}
 use Rattle.calls.specs.Routes.{wrongCount}
+use Rattle.procedure.specs.Table.{countsLength}
 use Rattle.table_form.proofs.kinds.wrong_counts.Statement.{statement}
 use Rattle.table_form.proofs.kinds.wrong_counts.Tie as tie
-use Rattle.procedure.specs.Table.{countsLength}
 
 pub wrong-counts-spec : {M : Type 1} → statement M
 wrong-counts-spec =
