@@ -11,7 +11,7 @@ ghost use Rattle.judgement.specs.Form.{leafBits};
 use sheet::ARC_NUMBERS;
 
 // A counter for each arc number of 11 bits.
-pub struct Counters {
+struct Counters {
     pub n: [u16; ARC_NUMBERS],
 }
 
@@ -42,7 +42,7 @@ pub fn leaf_bits_set(d: &[u8]) -> bool
 }
 
 // How many leaves each arc has. A word that is no leaf adds 0, so that there is no branch on its kind.
-pub fn count_leaves(d: &[u8]) -> Counters
+fn count_leaves(d: &[u8]) -> Counters
     requires { ⌜ words (now d) ≤ mostRegionWords ⌝ }
     ensures { λ r. ⌜ (length (r .n) ≡ arcNumbers) × Tally (leafOfArc (now (d .entry))) mostRegionWords (r .n) (words (now (d .entry))) ⌝ }
 {

@@ -10,7 +10,7 @@ ghost use Rattle.sheet.specs.Sections.{spanCount};
 use sheet::Sections;
 
 // Refusal 4: the node count is outside its limits.
-pub fn nodes_outside(s: &[u8]) -> bool
+fn nodes_outside(s: &[u8]) -> bool
     requires { ⌜ 2 ≤ words (now s) ⌝ }
     ensures { λ r. ⌜ r ≡ nodesOutside (now (s .entry)) ⌝ }
 {
@@ -22,7 +22,7 @@ pub fn nodes_outside(s: &[u8]) -> bool
 }
 
 // Refusal 5: the source is no node.
-pub fn source_outside(s: &[u8]) -> bool
+fn source_outside(s: &[u8]) -> bool
     requires { ⌜ 2 ≤ words (now s) ⌝ }
     ensures { λ r. ⌜ r ≡ sourceOutside (now (s .entry)) ⌝ }
 {
@@ -30,7 +30,7 @@ pub fn source_outside(s: &[u8]) -> bool
 }
 
 // Whether the span at place k is outside its limits.
-pub fn span_outside(s: &[u8], k: usize) -> bool
+fn span_outside(s: &[u8], k: usize) -> bool
     requires { ⌜ (2 ≤ words (now s)) × (k < spanCount (now s)) ⌝ }
     ensures { λ r. ⌜ r ≡ spanOutside (now (s .entry)) k ⌝ }
 {

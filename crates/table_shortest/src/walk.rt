@@ -14,7 +14,7 @@ use sheet::Sections;
 
 // Whether v, if it is reached, leads back to the source: its predecessors are followed, and each node gets this walk's stamp, until one is met that
 // has a stamp. If that is an earlier walk's, all of them lead back; if it is this walk's, they run round a ring.
-pub fn node_led(
+fn node_led(
     s: &[u8],
     sections: Sections,
     table: &[u32],
