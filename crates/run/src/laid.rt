@@ -1,62 +1,50 @@
 // The run of what is laid out: started, worked for at most so many rounds, and written into the table.
-ghost use Rattle.run_arrays.specs.Fixed.{fixedOf};
-ghost use Rattle.run.specs.Runnable.{Runnable};
+ghost use mathlib.Core.Path.{_≡_};
+ghost use lib.ListN.{length, take};
+ghost use Rattle.procedure.specs.Table.{tableOf};
+ghost use Rattle.run_arrays.specs.Sections.{labelSection, predecessorSection};
+ghost use Rattle.table.specs.Writable.{countsOf};
+ghost use Rattle.run.specs.Runnable.{NodesFit, Runnable};
 ghost use Rattle.run.specs.Outcome.{Outcome};
-use run_arrays::slices::ARCS;
-use run_arrays::slices::NODES;
-use run_arrays::slices::PLACES;
-use run_arrays::slices::REGION_ROWS;
-use run_arrays::slices::ROWS;
+use run_arrays::arrays::FIXED;
+use run_arrays::arrays::PLACES;
+use run_arrays::arrays::PREDECESSORS;
+use run_arrays::arrays::STATE;
+use run_arrays::arrays::WEIGHTS;
+use run_counts::Counts;
 use run_layout::sizes::Sizes;
+use sheet::NONE;
+
+// Writes the table of the first n labels and predecessors.
+fn write_nodes(state: &[u32; STATE], n: usize, counts: Counts, ended: bool, table: &mut [u32])
+    requires { ⌜ NodesFit counts (now state) n (length (now table)) ⌝ }
+    ensures { λ _. ⌜ now (table .exit) ≡ tableOf ended (countsOf counts) (take n (labelSection (now (state .entry))))
+        (take n (predecessorSection (now (state .entry)))) (length (take n (labelSection (now (state .entry))))) ⌝ }
+{
+    let whole = &state[..];
+    let e = PREDECESSORS + n;
+    table::write_table(&whole[..n], &whole[PREDECESSORS..e], counts, ended, table);
+}
 
 // Runs what is laid out for at most `limit` rounds and writes the table. Whether the run has ended.
 pub fn run_laid(
     s: &[u8],
     sizes: Sizes,
-    rows: &[u16; ROWS],
-    arcs: &[u16],
-    firsts: &[u16; NODES],
-    lengths: &[u32; ARCS],
-    spans: &[u32],
-    regions: &[u16; REGION_ROWS],
+    fixed: &[u16; FIXED],
+    weights: &[u32; WEIGHTS],
     limit: u64,
     table: &mut [u32],
 ) -> bool
-    requires { ⌜ Runnable (now s) sizes (fixedOf (now rows) (now arcs) (now firsts) (now lengths) (now spans) (now regions)) (now table) ⌝ }
+    requires { ⌜ Runnable (now s) sizes (now fixed) (now weights) (now table) ⌝ }
     ensures { λ e. ⌜ Outcome (now (s .entry)) limit e (now (table .exit)) ⌝ }
 {
-    let mut labels = [0u32; NODES];
-    let mut predecessors = [0u32; NODES];
-    let mut own = [0u32; ARCS];
+    let mut state = [NONE; STATE];
     let mut winners = [0u64; PLACES];
     let source = run_layout::source_of(s);
-    let c = run_engine::rounds::start(
-        rows,
-        arcs,
-        firsts,
-        &mut labels,
-        &mut predecessors,
-        &mut own,
-        &mut winners,
-        source,
-        sizes.regions as u16,
-    );
-    let counts = run_engine::rounds::run_rounds(
-        rows,
-        arcs,
-        firsts,
-        lengths,
-        spans,
-        regions,
-        &mut labels,
-        &mut predecessors,
-        &mut own,
-        &mut winners,
-        limit,
-        c,
-    );
-    let ended = run_engine::rounds::has_ended(rows, &winners);
-    let n = sizes.nodes;
-    table::write_table(&labels[..n], &predecessors[..n], counts, ended, table);
+    let regions = sizes.regions as u16;
+    let c = run_engine::rounds::start(fixed, &mut state, &mut winners, source, regions);
+    let counts = run_engine::rounds::run_rounds(fixed, weights, &mut state, &mut winners, limit, c);
+    let ended = run_engine::rounds::has_ended(fixed, &winners);
+    write_nodes(&state, sizes.nodes, counts, ended, table);
     ended
 }

@@ -1,52 +1,40 @@
-// The run over slices and arrays that the caller lends: its start, its rounds, and whether it has ended. Each function computes its definition.
+// The run over arrays that the caller lends: its start, its rounds, and whether it has ended. Each function computes its definition.
 ghost use mathlib.Core.Path.{_≡_};
-ghost use mathlib.Core.Bool.{false, not};
+ghost use mathlib.Core.Bool.{false};
 ghost use mathlib.Core.List.{List};
 ghost use Prim.Native.Nat.{ℕ};
-ghost use Rattle.indices.specs.Steps.{times};
 ghost use Rattle.procedure.specs.Graph.{Graph};
-ghost use Rattle.procedure.specs.Division.{Division, regions, isLeaf};
-ghost use Rattle.procedure.specs.Procedure.{ended, start, round, after};
+ghost use Rattle.procedure.specs.Division.{Division, isLeaf};
+ghost use Rattle.procedure.specs.State.{State};
+ghost use Rattle.procedure.specs.Procedure.{ended, start};
+ghost use Rattle.theory.specs.Counts.{Small};
 ghost use Rattle.run_arrays.specs.Trees.{QueuesOk, SomeQueue};
-ghost use Rattle.run_arrays.specs.Fixed.{fixedOf};
-ghost use Rattle.run_arrays.specs.States.{stateOf, stateIn, Represents, Computed, Blank, SomeBlank, SomeRounds};
-use run_arrays::slices::ARCS;
-use run_arrays::slices::NODES;
-use run_arrays::slices::PLACES;
-use run_arrays::slices::REGION_ROWS;
-use run_arrays::slices::ROWS;
+ghost use Rattle.run_arrays.specs.States.{Represents, moreRounds, Blank, SomeBlank, SomeRounds};
+use run_arrays::arrays::FIXED;
+use run_arrays::arrays::PLACES;
+use run_arrays::arrays::STATE;
+use run_arrays::arrays::WEIGHTS;
 use run_counts::Counts;
 use sheet::NONE;
 use sheet::Node;
 use sheet::Region;
 
-// The state before the first round, made in arrays that may hold anything. There are `count` regions. Lengths, spans and the
-// regions' rows are not read.
+// The state before the first round, in an array of the state that is filled with NONE; winners may hold anything. There are `count` regions.
+// Weights are not read.
 pub fn start(
-    rows: &[u16; ROWS],
-    arcs: &[u16],
-    firsts: &[u16; NODES],
-    labels: &mut [u32; NODES],
-    predecessors: &mut [u32; NODES],
-    own: &mut [u32; ARCS],
+    fixed: &[u16; FIXED],
+    state: &mut [u32; STATE],
     winners: &mut [u64; PLACES],
     source: Node,
     count: u16,
 ) -> Counts
-    requires { ⌜ SomeBlank (now rows) (now arcs) (now firsts) (source .0) count ⌝ }
-    ensures { λ n. ⌜ ((g : Graph) (d : Division) (lengths spans regionRows : List ℕ)
-        → let t = fixedOf (now (rows .entry)) (now (arcs .entry)) (now (firsts .entry)) lengths spans regionRows in
-        Blank g d t → source .0 ≡ g .source → count ≡ regions d
-        → ((keys : List ℕ) × Computed g d t (start g d spans)
-        (stateIn g (now (labels .exit)) (now (predecessors .exit)) (now (own .exit)) keys n) (now (winners .exit)))) ⌝ }
+    requires { ⌜ SomeBlank (now fixed) (now state) (source .0) count ⌝ }
+    ensures { λ n. ⌜ ((g : Graph) (d : Division) (spans weights : List ℕ) → Blank g d spans (now (fixed .entry)) weights (source .0) count
+        → Represents g d spans (start g d spans) (now (fixed .entry)) weights (now (state .exit)) (now (winners .exit)) n) ⌝ }
 {
-    run_arrays::rows::fill_keys(labels, NONE);
-    run_arrays::rows::fill_keys(predecessors, NONE);
-    run_arrays::rows::fill_keys(own, NONE);
-    run_queue::building::clear(rows, winners, count);
-    let i = source.0 as usize;
-    labels[i] = 0;
-    let n = crate::updates::update_outgoing(rows, arcs, firsts, own, winners, source, 0, 0);
+    run_queue::building::clear(fixed, winners, count);
+    run_arrays::arrays::set_label(state, source, 0);
+    let n = crate::updates::update_outgoing(fixed, state, winners, source, 0, 0);
     Counts {
         rounds: 0,
         leaves: 0,
@@ -56,54 +44,39 @@ pub fn start(
 }
 
 // Whether the run has ended.
-pub fn has_ended(rows: &[u16; ROWS], winners: &[u64; PLACES]) -> bool
-    requires { ⌜ SomeQueue (now rows) (now winners) 0 ⌝ }
-    ensures { λ b. ⌜ ((g : Graph) (d : Division) (labels predecessors own keys : List ℕ) (c : Counts)
-        → QueuesOk d (now (rows .entry)) keys (now (winners .entry)) → isLeaf d 0 ≡ false → b ≡ ended g d (stateOf labels predecessors own keys c)) ⌝ }
+pub fn has_ended(fixed: &[u16; FIXED], winners: &[u64; PLACES]) -> bool
+    requires { ⌜ SomeQueue (now fixed) (now winners) 0 ⌝ }
+    ensures { λ b. ⌜ ((g : Graph) (d : Division) (s : State) → QueuesOk d (now (fixed .entry)) (s .queues .keys) (now (winners .entry))
+        → isLeaf d 0 ≡ false → b ≡ ended g d s) ⌝ }
 {
-    NONE <= run_queue::min_key(rows, winners, Region(0))
+    NONE <= run_queue::min_key(fixed, winners, Region(0))
 }
 
-// At most `limit` more rounds, from a state after any number of them. A round is one working of region 0, which is never a leaf.
+// At most `limit` more rounds, from any state whose counts fit after them. A round is one working of region 0, which is never a leaf.
 pub fn run_rounds(
-    rows: &[u16; ROWS],
-    arcs: &[u16],
-    firsts: &[u16; NODES],
-    lengths: &[u32; ARCS],
-    spans: &[u32],
-    regions: &[u16; REGION_ROWS],
-    labels: &mut [u32; NODES],
-    predecessors: &mut [u32; NODES],
-    own: &mut [u32; ARCS],
+    fixed: &[u16; FIXED],
+    weights: &[u32; WEIGHTS],
+    state: &mut [u32; STATE],
     winners: &mut [u64; PLACES],
     limit: u64,
     c: Counts,
 ) -> Counts
-    requires { ⌜ SomeRounds (fixedOf (now rows) (now arcs) (now firsts) (now lengths) (now spans) (now regions)) (now labels) (now predecessors) (now own)
-        (now winners) c ⌝ }
-    ensures { λ n. ⌜ (let t = fixedOf (now (rows .entry)) (now (arcs .entry)) (now (firsts .entry)) (now (lengths .entry)) (now (spans .entry))
-        (now (regions .entry)) in
-        (g : Graph) (d : Division) (k : ℕ) (keys : List ℕ) → let s = stateIn g (now (labels .entry)) (now (predecessors .entry)) (now (own .entry)) keys c in
-        Represents g d t s (now (winners .entry)) → s ≡ after g d (t .spans) k
-        → ((keys′ : List ℕ) × Computed g d t (times limit (λ s. not (ended g d s)) (round g d (t .spans)) s)
-        (stateIn g (now (labels .exit)) (now (predecessors .exit)) (now (own .exit)) keys′ n) (now (winners .exit)))) ⌝ }
+    requires { ⌜ SomeRounds (now fixed) (now weights) (now state) (now winners) limit c ⌝ }
+    ensures { λ n. ⌜ ((g : Graph) (d : Division) (spans : List ℕ) (s : State)
+        → Represents g d spans s (now (fixed .entry)) (now (weights .entry)) (now (state .entry)) (now (winners .entry)) c
+        → Small (moreRounds g d spans limit s)
+        → Represents g d spans (moreRounds g d spans limit s) (now (fixed .entry)) (now (weights .entry)) (now (state .exit)) (now (winners .exit)) n) ⌝ }
 {
     let mut left = limit;
     let mut n = c;
     while 0 < left {
-        if has_ended(rows, winners) {
+        if has_ended(fixed, winners) {
             return n;
         }
         n = crate::region::process_inner(
-            rows,
-            arcs,
-            firsts,
-            lengths,
-            spans,
-            regions,
-            labels,
-            predecessors,
-            own,
+            fixed,
+            weights,
+            state,
             winners,
             Region(0),
             run_counts::count_round(n),

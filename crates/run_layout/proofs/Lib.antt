@@ -1,2 +1,3 @@
-pub mod Fronts
+mod Fronts
+pub mod Laying
 mod Represented

@@ -7,6 +7,8 @@ use native.Mathlib.Omega.{arith}
 use borrow.Author.Tests.{eq-eqb, lt-ltb}
 use lib.Dec.{eqb}
 use lib.ListN.{length}
+use Rattle.indices.specs.Columns.{at, column}
+use Rattle.indices.proofs.Columns.{at-column}
 use Rattle.indices.proofs.Tests.{and-both, count-once}
 use Rattle.sheet.specs.Words.{words, top}
 use Rattle.sheet.specs.Sections.{nodeCount, source, arcCount, regionWords}
@@ -26,11 +28,11 @@ use Rattle.run_arrays.specs.Trees.{ParentsOf}
 use Rattle.run_arrays.specs.Links.{Linkable, Linked}
 use Rattle.run_queue.proofs.planning.Planning.{division-parents}
 use Rattle.run_arrays.proofs.rows.Links.{links-same}
-use Rattle.run_arrays.specs.Fixed.{ArcRows, RegionRows}
+use Rattle.run_arrays.specs.Fixed.{ArcRows, RegionArcs}
 use Rattle.run_layout.specs.Arcs.{EndsEntered, LeavesApart, LeavesEntered}
-use Rattle.run_layout.specs.Regions.{Nested, ParentsEntered, RowsEntered}
-use Rattle.run_layout.specs.Layout.{ArcsLaid}
-use Rattle.run_layout.proofs.regions.Rows.{leaf-row, inner-row}
+use Rattle.run_layout.specs.Regions.{Nested, ParentsEntered, arcEntered}
+use Rattle.run_layout.specs.Layout.{ArcsLaid, HeightsLaid}
+use Rattle.run_layout.proofs.regions.Rows.{leaf-arc-entered, inner-arc-entered}
 
 -- THE ARCS
 
@@ -86,13 +88,12 @@ module _ {b entered : List ℕ} (ok : Accepted b) (F : ArcsFilled b entered) whe
       let leaf = sym (division-leaf b r inside) ∙ lt-ltb (arcOf (divisionOf b) r) top below in
       ap (rowLeaf entered) (sym (sym (division-arc b r inside) ∙ there .1)) ∙ F .leaves r inside leaf
 
-  module _ {linked firsts : List ℕ} (K : Linked entered linked firsts) (all : length linked ≡ 4 * arcCount b) (wide : length firsts ≡ nodeCount b) where
+  module _ {linked firsts : List ℕ} (K : Linked entered linked firsts) (wide : length firsts ≡ nodeCount b) where
     is-arc : (a : ℕ) → a < arcs (graphOf b) → a < arcCount b
     is-arc a l = omega (arith, graph-arcs b)
 
     arc-rows : ArcRows (graphOf b) (divisionOf b) linked
     arc-rows = record {
-      all = omega (arith, all, graph-arcs b);
       tails = λ a l. K .tails a ∙ F .tails a (is-arc a l) ∙ sym (graph-tail b a (is-arc a l));
       heads = λ a l. K .heads a ∙ F .heads a (is-arc a l) ∙ sym (graph-head b a (is-arc a l));
       leaves = λ a l. K .leaves a ∙ leaf-entered a l;
@@ -103,7 +104,7 @@ module _ {b entered : List ℕ} (ok : Accepted b) (F : ArcsFilled b entered) whe
         let count : rowCount entered ≡ arcs (graphOf b) = omega (arith, F .all, graph-arcs b) in
         let nodes : length firsts ≡ graphOf b .nodes = wide ∙ sym (graph-nodes b) in
         let links = links-same (rowTail entered) (rowTail linked) (λ a l. K .tails a) (K .links) in
-        record { arc-rows = arc-rows; links = record { all = omega (arith, nodes); linked = rw (count, nodes) at links } }
+        record { arc-rows = arc-rows; links = record { linked = rw (count, nodes) at links } }
 
 -- THE REGIONS
 module _ (b : List ℕ) (ok : Accepted b) where
@@ -126,23 +127,30 @@ module _ (b : List ℕ) (ok : Accepted b) where
       let inside : c < regionCount (regionWords b) = omega (arith, division-regions b) in
       P .same c pos inside ∙ sym (division-parent b c inside))
 
-  pub region-rows : {d rows : List ℕ} → d ≡ regionWords b → RowsEntered d rows → RegionRows (divisionOf b) rows
-  region-rows {d} {rows} e entered = record {
-    all = omega (arith, H .all, division-regions b);
+  is-region : (r : ℕ) → r < regions (divisionOf b) → r < regionCount (regionWords b)
+  is-region r l = omega (arith, division-regions b)
+
+  pub region-arcs : {d arcs : List ℕ} → d ≡ regionWords b → arcs ≡ column (regionCount d) (arcEntered d) → RegionArcs (divisionOf b) arcs
+  region-arcs {d} {arcs} e entered = record {
     leaf =
         λ r l leaf.
         let inside = is-region r l in
-        H .arcs r inside ∙ leaf-row (regionWords b) r (sym (division-leaf b r inside) ∙ leaf) .1 ∙ sym (division-arc b r inside);
-    inner =
-        λ r l inner. let inside = is-region r l in H .arcs r inside ∙ inner-row (regionWords b) r (sym (division-leaf b r inside) ∙ inner);
-    heights = λ r l. let inside = is-region r l in H .heights r inside ∙ sym (division-height b r inside);
+        each r inside ∙ leaf-arc-entered (regionWords b) r (sym (division-leaf b r inside) ∙ leaf) .1 ∙ sym (division-arc b r inside);
+    inner = λ r l inner. let inside = is-region r l in each r inside ∙ inner-arc-entered (regionWords b) r (sym (division-leaf b r inside) ∙ inner);
   }
     where
-      H : RowsEntered (regionWords b) rows
-      H = rw e at entered
+      each : (r : ℕ) → r < regionCount (regionWords b) → at arcs r ≡ arcEntered (regionWords b) r
+      each r l = ap (λ (xs : List ℕ). at xs r) (rw e at entered) ∙ at-column (regionCount (regionWords b)) (arcEntered (regionWords b)) r l
 
-      is-region : (r : ℕ) → r < regions (divisionOf b) → r < regionCount (regionWords b)
-      is-region r l = omega (arith, division-regions b)
+  pub heights-laid : {d found heights : List ℕ} {n : ℕ} → d ≡ regionWords b → HeightsFound d found → n ≡ regionCount (regionWords b)
+      → heights ≡ column n (at found) → HeightsLaid (divisionOf b) heights
+  heights-laid {d} {found} {heights} {n} e H all entered = record {
+    each =
+        λ r l.
+        let inside = is-region r l in
+        ap (λ (xs : List ℕ). at xs r) entered ∙ at-column n (at found) r (omega (arith, all))
+        ∙ (rw e at H) .each r inside ∙ sym (division-height b r inside);
+  }
 
   -- 16 bits hold the source
   pub source-fits : source b < 65536

@@ -1,10 +1,11 @@
 -- How much of a run's arrays a sheet uses. Definitions.
-use Prim.Native.Nat.{ℕ, suc, _≤_}
+use Prim.Native.Nat.{ℕ, _≤_}
 use mathlib.Core.Path.{_≡_}
 use mathlib.Core.List.{List}
-use Rattle.sheet.specs.Limits.{mostNodes, mostArcs, mostSpans, mostRegionWords}
+use Rattle.sheet.specs.Limits.{mostNodes, mostArcs, mostSpans}
 use Rattle.sheet.specs.Sections.{nodeCount, arcCount, spanCount, regionWords}
 use Rattle.sheet.specs.Regions.{regionCount}
+use Rattle.run_arrays.specs.Sections.{mostRegions}
 use Rattle.run_layout.specs.declared.sizes.Sizes.{Sizes}
 
 -- the sizes of a sheet, all within the limits
@@ -16,4 +17,4 @@ pub record InUse (b : List ℕ) (z : Sizes) : Type 0 where
   pub few-nodes : z .nodes ≤ mostNodes
   pub few-arcs : z .arcs ≤ mostArcs
   pub few-spans : z .spans ≤ mostSpans
-  pub few-regions : z .regions ≤ suc mostRegionWords
+  pub few-regions : z .regions ≤ mostRegions

@@ -1,9 +1,10 @@
--- The slices of a run, laid out from an accepted sheet b: what is lent, and what is laid in it. Definitions.
+-- The arrays of a run, laid out from an accepted sheet b: what is lent, and what is laid in it. Definitions.
 use Prim.Native.Nat.{ℕ, _*_, _≤_, _<_}
 use mathlib.Core.Path.{_≡_}
 use mathlib.Core.List.{List}
 use lib.ListN.{length}
 use Rattle.indices.specs.Columns.{at}
+use Rattle.sheet.specs.Limits.{mostNodes}
 use Rattle.sheet.specs.declared.Sections.{Sections}
 use Rattle.sheet.specs.Sections.{nodeCount, arcCount, regionWords}
 use Rattle.sheet.specs.Inner.{Located}
@@ -12,56 +13,76 @@ use Rattle.judgement.specs.Judgement.{Accepted}
 use Rattle.run_layout.specs.declared.sizes.Sizes.{Sizes}
 use Rattle.run_layout.specs.InUse.{InUse}
 use Rattle.procedure.specs.Graph.{Graph, arcs, len}
-use Rattle.procedure.specs.Division.{Division}
+use Rattle.procedure.specs.Division.{Division, regions, height}
 use Rattle.procedure.specs.OfSheet.{graphOf, divisionOf, spansOf}
 use Rattle.run_arrays.specs.Trees.{Planned}
-use Rattle.run_arrays.specs.Fixed.{Fixed, ArcRows, ArcLinks, RegionRows, FixedOk}
+use Rattle.run_arrays.specs.Sections.{mostRegions, firstsAt, fixedLength, weightsLength}
+use Rattle.run_arrays.specs.Sections.{regionArcSection, arcRowSection, firstSection, arcCountOf, spanSection, heightSection}
+use Rattle.run_arrays.specs.Fixed.{ArcRows, ArcLinks, RegionArcs, FixedOk}
 
 -- The arrays represent the graph, the division and the spans of the sheet, and the trees of the queues are planned.
-pub record Laid (b : List ℕ) (t : Fixed) : Type 0 where
-  pub fixed : FixedOk (graphOf b) (divisionOf b) t
-  pub planned : Planned (divisionOf b) (t .rows)
-  pub spans : t .spans ≡ spansOf b
+pub record Laid (b fixed weights : List ℕ) : Type 0 where
+  pub fixed-ok : FixedOk (graphOf b) (divisionOf b) (spansOf b) fixed weights
+  pub planned : Planned (divisionOf b) fixed
+
+-- the first n entries of ys are those of xs
+pub record Begins (n : ℕ) (xs ys : List ℕ) : Type 0 where
+  pub same : (i : ℕ) → i < n → at ys i ≡ at xs i
 
 -- the rows represent the arcs, and link those of each tail
 pub record ArcsLaid (g : Graph) (d : Division) (arcRows firsts : List ℕ) : Type 0 where
   pub arc-rows : ArcRows g d arcRows
   pub links : ArcLinks g arcRows firsts
 
--- the rows represent the regions, and the trees are planned
-pub record RegionsLaid (d : Division) (rows regionRows : List ℕ) : Type 0 where
-  pub region-rows : RegionRows d regionRows
-  pub planned : Planned d rows
+-- each region's height
+pub record HeightsLaid (d : Division) (heights : List ℕ) : Type 0 where
+  pub each : (r : ℕ) → r < regions d → at heights r ≡ height d r
 
--- what a run reads of the graph: the rows of the arcs and each arc's length
-pub record GraphLaid (b arcRows firsts lengths : List ℕ) : Type 0 where
-  pub arcs-laid : ArcsLaid (graphOf b) (divisionOf b) arcRows firsts
-  pub each-length : (a : ℕ) → a < arcs (graphOf b) → at lengths a ≡ len (graphOf b) a
+-- first arcs and a number of arcs are laid in their sections, and what is before stays
+pub record FirstsLaid (firsts : List ℕ) (m : ℕ) (fixed fixed′ : List ℕ) : Type 0 where
+  pub before : Begins firstsAt fixed fixed′
+  pub each-first : Begins (length firsts) firsts (firstSection fixed′)
+  pub arc-count : arcCountOf fixed′ ≡ m
 
--- and of the division: the rows of the regions and each height's span
-pub record DivisionLaid (b rows spans regionRows : List ℕ) : Type 0 where
-  pub regions-laid : RegionsLaid (divisionOf b) rows regionRows
-  pub each-span : spans ≡ spansOf b
+-- WHAT IS LAID, each part in its section: of the division the trees of the queues and each region's arc,
+pub record DivisionLaid (b fixed : List ℕ) : Type 0 where
+  pub planned : Planned (divisionOf b) fixed
+  pub region-arcs : RegionArcs (divisionOf b) (regionArcSection fixed)
 
--- WHAT IS LENT, with an accepted sheet and the places of its sections
+-- of the graph the rows of the arcs, each node's first arc and the number of arcs,
+pub record GraphLaid (b fixed : List ℕ) : Type 0 where
+  pub arcs-laid : ArcsLaid (graphOf b) (divisionOf b) (arcRowSection fixed) (firstSection fixed)
+  pub arc-count : arcCountOf fixed ≡ arcs (graphOf b)
 
--- slices with room for the sheet's graph
-pub record GraphLent (b : List ℕ) (sections : Sections) (z : Sizes) (arcRows firsts lengths : List ℕ) : Type 0 where
+-- and each arc's length, each height's span and each region's height
+pub record WeightsLaid (b weights : List ℕ) : Type 0 where
+  pub lengths : (a : ℕ) → a < arcs (graphOf b) → at weights a ≡ len (graphOf b) a
+  pub each-span : (h : ℕ) → h < length (spansOf b) → at (spanSection weights) h ≡ at (spansOf b) h
+  pub heights : HeightsLaid (divisionOf b) (heightSection weights)
+
+-- WHAT IS LENT, with an accepted sheet, the places of its sections and their sizes
+
+-- an array for each region's parent, and the one to be laid
+pub record DivisionLent (b : List ℕ) (sections : Sections) (z : Sizes) (parents fixed : List ℕ) : Type 0 where
   pub accepted : Accepted b
   pub located : Located b sections
   pub in-use : InUse b z
-  pub arc-room : 4 * z .arcs ≤ length arcRows
-  pub node-room : z .nodes ≤ length firsts
-  pub length-room : z .arcs ≤ length lengths
+  pub parent-room : length parents ≡ mostRegions
+  pub room : length fixed ≡ fixedLength
 
--- slices with room for its division
-pub record DivisionLent (b : List ℕ) (sections : Sections) (z : Sizes) (rows spans regionRows : List ℕ) : Type 0 where
+-- an array for each node's first arc, and the one to be laid
+pub record GraphLent (b : List ℕ) (sections : Sections) (z : Sizes) (firsts fixed : List ℕ) : Type 0 where
   pub accepted : Accepted b
   pub located : Located b sections
   pub in-use : InUse b z
-  pub row-room : 4 * z .regions ≤ length rows
-  pub span-room : z .spans ≤ length spans
-  pub region-room : 2 * z .regions ≤ length regionRows
+  pub first-room : length firsts ≡ mostNodes
+  pub room : length fixed ≡ fixedLength
+
+pub record WeightsLent (b : List ℕ) (sections : Sections) (z : Sizes) (weights : List ℕ) : Type 0 where
+  pub accepted : Accepted b
+  pub located : Located b sections
+  pub in-use : InUse b z
+  pub room : length weights ≡ weightsLength
 
 -- a row for each arc, and a first arc for each node
 pub record ArcsLent (b : List ℕ) (sections : Sections) (arcRows firsts : List ℕ) : Type 0 where
@@ -70,10 +91,26 @@ pub record ArcsLent (b : List ℕ) (sections : Sections) (arcRows firsts : List 
   pub each-arc : length arcRows ≡ 4 * arcCount b
   pub each-node : length firsts ≡ nodeCount b
 
--- a parent and the rows of each region
-pub record RegionsLent (b : List ℕ) (sections : Sections) (parents rows regionRows : List ℕ) : Type 0 where
+-- first arcs, few enough, and the array to be laid
+pub record FirstsLent (firsts fixed : List ℕ) : Type 0 where
+  pub few : length firsts ≤ mostNodes
+  pub room : length fixed ≡ fixedLength
+
+-- a parent and a row for the queues of each region
+pub record TreesLent (b : List ℕ) (sections : Sections) (parents rows : List ℕ) : Type 0 where
   pub accepted : Accepted b
   pub located : Located b sections
   pub each-parent : length parents ≡ regionCount (regionWords b)
   pub each-row : length rows ≡ 4 * regionCount (regionWords b)
-  pub each-region : length regionRows ≡ 2 * regionCount (regionWords b)
+
+-- an arc of each region
+pub record RegionsLent (b : List ℕ) (sections : Sections) (arcs : List ℕ) : Type 0 where
+  pub accepted : Accepted b
+  pub located : Located b sections
+  pub each-region : length arcs ≡ regionCount (regionWords b)
+
+-- a height of each region
+pub record HeightsLent (b : List ℕ) (sections : Sections) (heights : List ℕ) : Type 0 where
+  pub accepted : Accepted b
+  pub located : Located b sections
+  pub each-region : length heights ≡ regionCount (regionWords b)

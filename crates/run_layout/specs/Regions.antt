@@ -1,5 +1,5 @@
--- The regions' parents and rows while they are filled, from a sheet's region words d. Definitions.
-use Prim.Native.Nat.{ℕ, zero, suc, _*_, _≤_, _<_}
+-- The regions' parents and arcs while they are entered, from a sheet's region words d. Definitions.
+use Prim.Native.Nat.{ℕ, zero, suc, _≤_, _<_}
 use mathlib.Core.Path.{_≡_}
 use mathlib.Core.List.{List}
 use lib.ListN.{length}
@@ -8,9 +8,8 @@ use Rattle.indices.specs.Columns.{at}
 use Rattle.sheet.specs.Limits.{mostRegionWords}
 use Rattle.sheet.specs.Words.{words}
 use Rattle.sheet.specs.Inner.{Nesting}
-use Rattle.sheet.specs.Regions.{regionCount, leafWord, arcWord, isLeaf, parent, height}
-use Rattle.judge_division.specs.Heights.{HeightsFound}
-use Rattle.run_arrays.specs.Fixed.{noArc, arcEntry, heightEntry}
+use Rattle.sheet.specs.Regions.{regionCount, leafWord, arcWord, isLeaf, parent}
+use Rattle.run_arrays.specs.Fixed.{noArc}
 
 -- few region words, which nest
 pub record Nested (d : List ℕ) : Type 0 where
@@ -27,19 +26,7 @@ pub record ParentsLent (d parents : List ℕ) : Type 0 where
   pub nested : Nested d
   pub each-region : length parents ≡ regionCount d
 
--- the arc in a region's row
-abbrev pub arcInRow : List ℕ → ℕ → ℕ
-arcInRow d zero = noArc
-arcInRow d (suc k) = if leafWord d k then arcWord d k else noArc
-
--- the regions' rows
-pub record RowsEntered (d regionRows : List ℕ) : Type 0 where
-  pub all : length regionRows ≡ 2 * regionCount d
-  pub arcs : (r : ℕ) → r < regionCount d → arcEntry regionRows r ≡ arcInRow d r
-  pub heights : (r : ℕ) → r < regionCount d → heightEntry regionRows r ≡ height d r
-
--- few region words, their heights, and a row for each region
-pub record RowsLent (d heights regionRows : List ℕ) : Type 0 where
-  pub few : words d ≤ mostRegionWords
-  pub found : HeightsFound d heights
-  pub each-row : length regionRows ≡ 2 * regionCount d
+-- what is entered as a region's arc
+abbrev pub arcEntered : List ℕ → ℕ → ℕ
+arcEntered d zero = noArc
+arcEntered d (suc k) = if leafWord d k then arcWord d k else noArc

@@ -1,17 +1,25 @@
-// From an accepted sheet to the slices of a run: arcs, lengths, spans and regions, as the engine reads them. Every pass is linear in the sheet's words.
+// From an accepted sheet to the two arrays that a run reads: the rows of regions and arcs, first arcs, lengths, spans and heights, each part in its section. Every
+// pass is linear in the sheet's words.
 pub mod arcs;
 pub mod lengths;
 pub mod regions;
 pub mod sizes;
 
 ghost use mathlib.Core.Path.{_≡_};
-ghost use Prim.Native.Nat.{_*_};
-ghost use lib.ListN.{take};
 ghost use Rattle.judgement.specs.Judgement.{Accepted};
 ghost use Rattle.procedure.specs.OfSheet.{graphOf, divisionOf};
-ghost use Rattle.run_layout.specs.Layout.{GraphLent, DivisionLent, ArcsLent, RegionsLent, ArcsLaid, RegionsLaid, GraphLaid, DivisionLaid};
+ghost use Rattle.run_arrays.specs.Trees.{Planned};
+ghost use Rattle.run_arrays.specs.Sections.{arcRowsAt};
+ghost use Rattle.run_arrays.specs.Fixed.{RegionArcs};
+ghost use Rattle.run_layout.specs.Layout.{ArcsLent, FirstsLent, TreesLent, RegionsLent, HeightsLent, DivisionLent, GraphLent, WeightsLent};
+ghost use Rattle.run_layout.specs.Layout.{Begins, ArcsLaid, FirstsLaid, HeightsLaid, DivisionLaid, GraphLaid, WeightsLaid};
 use crate::sizes::Sizes;
-use run_arrays::slices::REGIONS;
+use run_arrays::arrays::ARC_COUNT;
+use run_arrays::arrays::ARC_ROWS;
+use run_arrays::arrays::FIRSTS;
+use run_arrays::arrays::HEIGHTS;
+use run_arrays::arrays::REGION_ARCS;
+use run_arrays::arrays::SPANS;
 use sheet::Node;
 use sheet::REGION_NUMBERS;
 use sheet::Sections;
@@ -26,23 +34,31 @@ fn lay_arcs(s: &[u8], sections: Sections, arcs: &mut [u16], firsts: &mut [u16])
     run_arrays::rows::link(arcs, firsts);
 }
 
-// The rows of the regions, for the engine and for the queues. Of `parents` nothing is promised.
-fn lay_regions(
-    s: &[u8],
-    sections: Sections,
-    parents: &mut [u16],
-    rows: &mut [u16],
-    regions: &mut [u16],
-)
-    requires { ⌜ RegionsLent (now s) sections (now parents) (now rows) (now regions) ⌝ }
-    ensures { λ _. ⌜ RegionsLaid (divisionOf (now (s .entry))) (now (rows .exit)) (now (regions .exit)) ⌝ }
+// The rows of the regions for the queues, whose trees they plan. Of `parents` nothing is promised.
+fn plan_trees(s: &[u8], sections: Sections, parents: &mut [u16], rows: &mut [u16])
+    requires { ⌜ TreesLent (now s) sections (now parents) (now rows) ⌝ }
+    ensures { λ _. ⌜ Planned (divisionOf (now (s .entry))) (now (rows .exit)) ⌝ }
 {
-    let d = sheet_reader::region_words(s, sections);
-    let mut heights = [0u16; REGION_NUMBERS];
-    judge_division::heights::find_heights(d, &mut heights);
-    crate::regions::enter_regions(d, &heights, regions);
-    crate::regions::enter_parents(d, parents);
+    crate::regions::enter_parents(sheet_reader::region_words(s, sections), parents);
     run_queue::planning::plan(parents, rows);
+}
+
+// Each region's arc.
+fn lay_region_arcs(s: &[u8], sections: Sections, arcs: &mut [u16])
+    requires { ⌜ RegionsLent (now s) sections (now arcs) ⌝ }
+    ensures { λ _. ⌜ RegionArcs (divisionOf (now (s .entry))) (now (arcs .exit)) ⌝ }
+{
+    crate::regions::enter_region_arcs(sheet_reader::region_words(s, sections), arcs);
+}
+
+// Each region's height, by the judge's own pass.
+fn lay_heights(s: &[u8], sections: Sections, heights: &mut [u32])
+    requires { ⌜ HeightsLent (now s) sections (now heights) ⌝ }
+    ensures { λ _. ⌜ HeightsLaid (divisionOf (now (s .entry))) (now (heights .exit)) ⌝ }
+{
+    let mut found = [0u16; REGION_NUMBERS];
+    judge_division::heights::find_heights(sheet_reader::region_words(s, sections), &mut found);
+    crate::regions::enter_heights(&found, heights);
 }
 
 // The source.
@@ -53,45 +69,55 @@ pub fn source_of(s: &[u8]) -> Node
     Node(sheet::source_number(s) as u16)
 }
 
-// The rows of the arcs, each node's first arc and each arc's length, in slices of which the front is used.
-pub fn lay_graph(
-    s: &[u8],
-    sections: Sections,
-    sizes: Sizes,
-    arcs: &mut [u16],
-    firsts: &mut [u16],
-    lengths: &mut [u32],
-)
-    requires { ⌜ GraphLent (now s) sections sizes (now arcs) (now firsts) (now lengths) ⌝ }
-    ensures { λ _. ⌜ GraphLaid (now (s .entry)) (take (4 * sizes .arcs) (now (arcs .exit))) (now (firsts .exit)) (now (lengths .exit)) ⌝ }
-{
-    let n = sizes.nodes;
-    let m = sizes.arcs;
-    lay_arcs(s, sections, &mut arcs[..4 * m], &mut firsts[..n]);
-    crate::lengths::enter_lengths(s, sections, &mut lengths[..m]);
-}
-
-// The rows of the regions, for the engine and for the queues, and the span of each height, in slices of which the front is used.
+// The rows of the regions for the queues, and each region's arc, each in its section. Of `parents` nothing is promised.
 pub fn lay_division(
     s: &[u8],
     sections: Sections,
     sizes: Sizes,
-    rows: &mut [u16],
-    spans: &mut [u32],
-    regions: &mut [u16],
+    parents: &mut [u16],
+    fixed: &mut [u16],
 )
-    requires { ⌜ DivisionLent (now s) sections sizes (now rows) (now spans) (now regions) ⌝ }
-    ensures { λ _. ⌜ DivisionLaid (now (s .entry)) (now (rows .exit)) (take (sizes .spans) (now (spans .exit))) (now (regions .exit)) ⌝ }
+    requires { ⌜ DivisionLent (now s) sections sizes (now parents) (now fixed) ⌝ }
+    ensures { λ _. ⌜ DivisionLaid (now (s .entry)) (now (fixed .exit)) ⌝ }
 {
-    let k = sizes.spans;
     let r = sizes.regions;
-    let mut parents = [0u16; REGIONS];
-    crate::lengths::enter_spans(s, sections, &mut spans[..k]);
-    lay_regions(
-        s,
-        sections,
-        &mut parents[..r],
-        &mut rows[..4 * r],
-        &mut regions[..2 * r],
-    );
+    let e = REGION_ARCS + r;
+    plan_trees(s, sections, &mut parents[..r], &mut fixed[..4 * r]);
+    lay_region_arcs(s, sections, &mut fixed[REGION_ARCS..e]);
+}
+
+// Each node's first arc and the number of arcs, each in its section. What stands before them stays.
+fn lay_firsts(firsts: &[u16], m: u16, fixed: &mut [u16])
+    requires { ⌜ FirstsLent (now firsts) (now fixed) ⌝ }
+    ensures { λ _. ⌜ FirstsLaid (now (firsts .entry)) m (now (fixed .entry)) (now (fixed .exit)) ⌝ }
+{
+    let e = FIRSTS + firsts.len();
+    run_arrays::rows::copy(firsts, &mut fixed[FIRSTS..e]);
+    fixed[ARC_COUNT] = m;
+}
+
+// The rows of the arcs, each node's first arc and the number of arcs, each in its section. What stands before them stays. Of
+// `firsts` nothing is promised.
+pub fn lay_graph(s: &[u8], sections: Sections, sizes: Sizes, firsts: &mut [u16], fixed: &mut [u16])
+    requires { ⌜ GraphLent (now s) sections sizes (now firsts) (now fixed) ⌝ }
+    ensures { λ _. ⌜ GraphLaid (now (s .entry)) (now (fixed .exit)) × Begins arcRowsAt (now (fixed .entry)) (now (fixed .exit)) ⌝ }
+{
+    let n = sizes.nodes;
+    let m = sizes.arcs;
+    let e = ARC_ROWS + 4 * m;
+    lay_arcs(s, sections, &mut fixed[ARC_ROWS..e], &mut firsts[..n]);
+    lay_firsts(&firsts[..n], m as u16, fixed);
+}
+
+// Each arc's length, each height's span and each region's height, each in its section.
+pub fn lay_weights(s: &[u8], sections: Sections, sizes: Sizes, weights: &mut [u32])
+    requires { ⌜ WeightsLent (now s) sections sizes (now weights) ⌝ }
+    ensures { λ _. ⌜ WeightsLaid (now (s .entry)) (now (weights .exit)) ⌝ }
+{
+    let m = sizes.arcs;
+    let e = SPANS + sizes.spans;
+    crate::lengths::enter_lengths(s, sections, &mut weights[..m]);
+    crate::lengths::enter_spans(s, sections, &mut weights[SPANS..e]);
+    let f = HEIGHTS + sizes.regions;
+    lay_heights(s, sections, &mut weights[HEIGHTS..f]);
 }

@@ -3,43 +3,32 @@ use Prim.Native.Nat.{ℕ, suc, _+_, _≤_, _<_}
 use mathlib.Core.Bool.{true}
 use mathlib.Core.Path.{_≡_, refl, sym, ap, _∙_}
 use mathlib.Core.List.{List}
-use native.Mathlib.Numerals.{add-one}
 use native.Mathlib.Omega.{arith}
-use lib.ListN.{length, set, take, length-set, length-take}
+use lib.ListN.{set, take}
 use lib.Seq.{getD-take, take-set-lt}
 use Rattle.indices.specs.Columns.{at}
+use Rattle.sheet.specs.Limits.{mostNodes, mostArcs}
 use Rattle.sheet.specs.Words.{top}
 use Rattle.procedure.specs.Graph.{Graph, arcs, tail, head, len}
 use Rattle.procedure.specs.Division.{Division, arcOf, isLeaf}
-use Rattle.procedure.specs.State.{Queues, State, label}
+use Rattle.procedure.specs.State.{State, label}
 use Rattle.procedure.specs.Queues.{updateOutgoing}
 use Rattle.procedure.specs.Procedure.{relax, clearKey, processLeaf}
 use Rattle.theory.proofs.Process.{sumBy, lowered, relax-falls, relax-stays}
 use Rattle.theory.proofs.Grows.{relax-grows}
-use Rattle.run_arrays.specs.Rows.{rowCount, rowTail, rowHead}
 use Rattle.run_counts.specs.Counted.{leafCounted}
 use Rattle.run_counts.specs.declared.Counts.{Counts}
-use Rattle.run_arrays.specs.Fixed.{Fixed, arcEntry}
-use Rattle.run_arrays.specs.States.{queuesOf, queuesIn, stateIn, Updatable, UpdatingOutgoing, Queued, Represents, Processing, Computed}
-use Rattle.run_engine.proofs.updates.Updates.{outgoing-owned}
-
--- what the updates of arcs need of a represented state
-pub updatable : {g : Graph} {d : Division} {t : Fixed} {s : State} {winners : List ℕ} → Represents g d t s winners
-    → Updatable g d (t .rows) (t .arcRows) (s .queues) winners
-updatable R = record {
-  graph = R .fixed .ok .graph;
-  division = R .fixed .ok .division;
-  arc-rows = R .fixed .arc-rows;
-  owned = R .owned;
-  queues = R .queues;
-}
+use Rattle.run_arrays.specs.Rows.{rowTail, rowHead}
+use Rattle.run_arrays.specs.Sections.{mostRegions, regionArcSection, arcRowSection, labelSection, predecessorSection, LabelLowered, OwnStored}
+use Rattle.run_arrays.specs.States.{HoldsQueues, UpdatingOutgoing, LeavesQueues, Represents, Workable}
+use Rattle.run_engine.proofs.updates.Updates.{own-held}
 
 -- the state once the key of arc a is none and its leaf is counted
 abbrev cleared : ℕ → State → State
 cleared a s = record {
   labels = s .labels;
   predecessors = s .predecessors;
-  queues = queuesOf (set (s .queues .own) a top) (s .queues .keys) (s .queues .updates);
+  queues = record { own = set (s .queues .own) a top; keys = s .queues .keys; updates = s .queues .updates };
   rounds = s .rounds;
   leaves = suc (s .leaves);
   inner = s .inner;
@@ -49,171 +38,166 @@ leaf-cleared : (g : Graph) (d : Division) (r : ℕ) (s : State) → processLeaf 
 unfolding processLeaf clearKey
 leaf-cleared g d r s = refl
 
+-- every region has its entries in the arrays
+pub region-fits : {g : Graph} {d : Division} {spans : List ℕ} {s : State} {fixed weights state winners : List ℕ} {c : Counts}
+    → Represents g d spans s fixed weights state winners c → {r : ℕ} {defined : State} → Workable d r defined → r < mostRegions
+region-fits R W = omega (arith, W .in-range, R .fixed-ok .ok .division .few-regions)
+
 -- the leaf r, whose arc is a
-module _ {g : Graph} {d : Division} {t : Fixed} {s : State} {winners : List ℕ} {r : ℕ} (P : Processing g d t s winners r (processLeaf g d r s))
-    (leaf : isLeaf d r ≡ true) where
-  pub leaf-count-fits : s .leaves + 1 < 18446744073709551616
+module _ {g : Graph} {d : Division} {spans : List ℕ} {s : State} {fixed weights state winners : List ℕ} {c : Counts} {r : ℕ}
+    (R : Represents g d spans s fixed weights state winners c) (W : Workable d r (processLeaf g d r s)) (leaf : isLeaf d r ≡ true) where
+  pub leaf-count-fits : c .leaves + 1 < 18446744073709551616
   leaf-count-fits =
       let more : suc (s .leaves) ≤ processLeaf g d r s .leaves = rw (leaf-cleared g d r s) (omega (arith, relax-grows g d (arcOf d r) s .leaves)) in
-      omega (arith, P .small .leaves)
+      omega (arith, R .leaves, W .small .leaves)
 
-  module _ {a : ℕ} (row : a ≡ arcEntry (t .regionRows) r) where
+  module _ {a : ℕ} (row : a ≡ at (regionArcSection fixed) r) where
     is-arc : a ≡ arcOf d r
-    is-arc = row ∙ P .represents .fixed .region-rows .leaf r (P .in-range) leaf
+    is-arc = row ∙ R .fixed-ok .region-arcs .leaf r (W .in-range) leaf
 
     arc-in : a < arcs g
-    arc-in = omega (arith, is-arc, P .represents .fixed .ok .division .leaf-arc r (P .in-range) leaf .0)
+    arc-in = omega (arith, is-arc, R .fixed-ok .ok .division .leaf-arc r (W .in-range) leaf .0)
 
-    pub leaf-row-in : a < rowCount (t .arcRows)
-    leaf-row-in = omega (arith, arc-in, P .represents .fixed .arc-rows .all)
+    pub leaf-arc-in : a < mostArcs
+    leaf-arc-in = omega (arith, arc-in, R .fixed-ok .ok .graph .few-arcs)
 
-    pub leaf-arc-in : a < 2048
-    leaf-arc-in = omega (arith, arc-in, P .represents .fixed .ok .graph .few-arcs)
-
-    module _ {u : ℕ} (from : u ≡ rowTail (t .arcRows) a) where
+    module _ {u : ℕ} (from : u ≡ rowTail (arcRowSection fixed) a) where
       is-tail : u ≡ tail g a
-      is-tail = from ∙ P .represents .fixed .arc-rows .tails a arc-in
+      is-tail = from ∙ R .fixed-ok .arc-rows .tails a arc-in
 
       tail-in : u < g .nodes
-      tail-in = omega (arith, is-tail, P .represents .fixed .ok .graph .tail-in a arc-in)
+      tail-in = omega (arith, is-tail, R .fixed-ok .ok .graph .tail-in a arc-in)
 
-      pub leaf-tail-in : u < 1024
-      leaf-tail-in = omega (arith, tail-in, P .represents .fixed .ok .graph .few-nodes)
+      pub leaf-tail-in : u < mostNodes
+      leaf-tail-in = omega (arith, tail-in, R .fixed-ok .ok .graph .few-nodes)
 
-    module _ {v : ℕ} (to : v ≡ rowHead (t .arcRows) a) where
+    module _ {v : ℕ} (to : v ≡ rowHead (arcRowSection fixed) a) where
       is-head : v ≡ head g a
-      is-head = to ∙ P .represents .fixed .arc-rows .heads a arc-in
+      is-head = to ∙ R .fixed-ok .arc-rows .heads a arc-in
 
       head-in : v < g .nodes
-      head-in = omega (arith, is-head, P .represents .fixed .ok .graph .head-in a arc-in)
+      head-in = omega (arith, is-head, R .fixed-ok .ok .graph .head-in a arc-in)
 
-      pub leaf-head-in : v < 1024
-      leaf-head-in = omega (arith, head-in, P .represents .fixed .ok .graph .few-nodes)
+      pub leaf-head-in : v < mostNodes
+      leaf-head-in = omega (arith, head-in, R .fixed-ok .ok .graph .few-nodes)
 
--- Arc a of the leaf r leads from u to v; x is the label of u, y the arc's length, and z the label of v. Labels, predecessors and own keys are the fronts of
--- arrays.
-pub record Weighed (g : Graph) (d : Division) (t : Fixed) (labels predecessors own keys winners : List ℕ) (c : Counts) (r a u v x y z : ℕ) : Type 0 where
-  pub processing : let s = stateIn g labels predecessors own keys c in Processing g d t s winners r (processLeaf g d r s)
+-- Arc a of the leaf r leads from u to v; x is the label of u, y the arc's length, and z the label of v.
+pub record Weighed (g : Graph) (d : Division) (spans : List ℕ) (s : State) (fixed weights state winners : List ℕ) (c : Counts) (r a u v x y z : ℕ)
+    : Type 0 where
+  pub represents : Represents g d spans s fixed weights state winners c
+  pub workable : Workable d r (processLeaf g d r s)
   pub leaf : isLeaf d r ≡ true
-  pub row : a ≡ arcEntry (t .regionRows) r
-  pub from : u ≡ rowTail (t .arcRows) a
-  pub to : v ≡ rowHead (t .arcRows) a
-  pub tail-label : x ≡ at labels u
-  pub arc-length : y ≡ at (t .lengths) a
-  pub head-label : z ≡ at labels v
+  pub row : a ≡ at (regionArcSection fixed) r
+  pub from : u ≡ rowTail (arcRowSection fixed) a
+  pub to : v ≡ rowHead (arcRowSection fixed) a
+  pub tail-label : x ≡ at (labelSection state) u
+  pub arc-length : y ≡ at weights a
+  pub head-label : z ≡ at (labelSection state) v
 
-module _ {g : Graph} {d : Division} {t : Fixed} {labels predecessors own keys winners : List ℕ} {c : Counts} {r a u v x y z : ℕ}
-    (w : Weighed g d t labels predecessors own keys winners c r a u v x y z) where
-  abbrev s : State
-  s = stateIn g labels predecessors own keys c
-
-  abbrev R : Represents g d t s winners
-  R = w .processing .represents
+module _ {g : Graph} {d : Division} {spans : List ℕ} {s : State} {fixed weights state winners : List ℕ} {c : Counts} {r a u v x y z : ℕ}
+    (w : Weighed g d spans s fixed weights state winners c r a u v x y z) where
+  abbrev R : Represents g d spans s fixed weights state winners c
+  R = w .represents
 
   is-arc-of : a ≡ arcOf d r
-  is-arc-of = is-arc (w .processing) (w .leaf) (w .row)
+  is-arc-of = is-arc R (w .workable) (w .leaf) (w .row)
 
   in-arcs : a < arcs g
-  in-arcs = arc-in (w .processing) (w .leaf) (w .row)
+  in-arcs = arc-in R (w .workable) (w .leaf) (w .row)
 
   in-nodes : v < g .nodes
-  in-nodes = head-in (w .processing) (w .leaf) (w .row) (w .to)
+  in-nodes = head-in R (w .workable) (w .leaf) (w .row) (w .to)
 
-  -- what `lower_label` asks
-  pub leaf-head-rows : (v < length labels) × (v < length predecessors)
-  leaf-head-rows = (
-    omega (arith, in-nodes, R .labelled, length-take (g .nodes) labels),
-    omega (arith, in-nodes, R .fed, length-take (g .nodes) predecessors),
-  )
+  label-in : (node : ℕ) → node < g .nodes → at (labelSection state) node ≡ label s node
+  label-in node l = sym (getD-take (g .nodes) (labelSection state) node 0 l) ∙ ap (λ (labels : List ℕ). at labels node) (R .labels)
 
   is-sum : x + y ≡ sumBy g (arcOf d r) s
   is-sum =
       rw (
         w .tail-label,
-        ← getD-take (g .nodes) labels u 0 (tail-in (w .processing) (w .leaf) (w .row) (w .from)),
+        label-in u (tail-in R (w .workable) (w .leaf) (w .row) (w .from)),
         w .arc-length,
-        R .fixed .lengths a in-arcs,
-        is-tail (w .processing) (w .leaf) (w .row) (w .from),
+        R .fixed-ok .lengths a in-arcs,
+        is-tail R (w .workable) (w .leaf) (w .row) (w .from),
       )
-      (ap (λ (b : ℕ). at (take (g .nodes) labels) (tail g b) + len g b) is-arc-of)
+      (ap (λ (b : ℕ). label s (tail g b) + len g b) is-arc-of)
 
   is-head-of : v ≡ head g (arcOf d r)
-  is-head-of = is-head (w .processing) (w .leaf) (w .row) (w .to) ∙ ap (head g) is-arc-of
+  is-head-of = is-head R (w .workable) (w .leaf) (w .row) (w .to) ∙ ap (head g) is-arc-of
 
   is-label : z ≡ label s (head g (arcOf d r))
-  is-label = w .head-label ∙ sym (getD-take (g .nodes) labels v 0 in-nodes) ∙ ap (at (take (g .nodes) labels)) is-head-of
+  is-label = w .head-label ∙ label-in v in-nodes ∙ ap (label s) is-head-of
 
   -- where the sum is not below the head's label, the leaf's key alone changes
-  pub leaf-stays : z ≤ x + y → {n : Counts} → n ≡ leafCounted c (c .updates)
-      → Computed g d t (processLeaf g d r s) (stateIn g labels predecessors (set own a top) keys n) winners
-  leaf-stays l counted =
-      let written = take-set-lt (arcs g) own a top in-arcs in
-      record {
-        result =
-            rw (counted, written, is-arc-of, add-one (c .leaves))
-            (sym (leaf-cleared g d r s ∙ ap (cleared (arcOf d r)) (relax-stays g d (arcOf d r) s (omega (arith, is-sum, is-label)))));
-        represents = record {
-          fixed = R .fixed;
-          labelled = R .labelled;
-          fed = R .fed;
-          owned = rw written (length-set (take (arcs g) own) a top ∙ R .owned);
-          queues = R .queues;
-        };
-      }
+  pub leaf-stays : z ≤ x + y → {state′ : List ℕ} → OwnStored a top state state′ → {n : Counts} → n ≡ leafCounted c (c .updates)
+      → Represents g d spans (processLeaf g d r s) fixed weights state′ winners n
+  leaf-stays l K counted =
+      let stays : processLeaf g d r s ≡ cleared a s =
+      leaf-cleared g d r s
+      ∙ ap (cleared (arcOf d r)) (relax-stays g d (arcOf d r) s (omega (arith, is-sum, is-label)))
+      ∙ ap (λ (b : ℕ). cleared b s) (sym is-arc-of) in
+      rw (stays, counted)
+      (record {
+        fixed-ok = R .fixed-ok;
+        labels = ap (take (g .nodes)) (K .nodes .labels) ∙ R .labels;
+        predecessors = ap (take (g .nodes)) (K .nodes .predecessors) ∙ R .predecessors;
+        queues = own-held (R .queues) K in-arcs refl (record { valid = R .queues .keys .valid; counted = R .queues .keys .counted });
+        rounds = R .rounds;
+        leaves = omega (arith, R .leaves);
+        inner = R .inner;
+      })
 
   module _ (l : x + y < z) where
     is-lowered : processLeaf g d r s ≡ cleared (arcOf d r) (lowered g d (arcOf d r) s)
     is-lowered = leaf-cleared g d r s ∙ ap (cleared (arcOf d r)) (relax-falls g d (arcOf d r) s (omega (arith, is-sum, is-label)))
 
     -- where it is, the head's outgoing arcs are updated
-    pub leaf-asks : UpdatingOutgoing g d (t .rows) (t .arcRows) (t .firsts) (queuesIn g own keys (c .updates)) winners v (x + y)
+    pub leaf-asks : UpdatingOutgoing g d (s .queues) fixed v (x + y)
     leaf-asks = record {
-      updatable = updatable R;
-      links = R .fixed .links;
+      updatable = record { graph = R .fixed-ok .ok .graph; division = R .fixed-ok .ok .division; arc-rows = R .fixed-ok .arc-rows };
+      links = R .fixed-ok .links;
+      arc-count = R .fixed-ok .arc-count;
       in-range = in-nodes;
-      small = rw (is-head-of, is-sum, ← ap (λ (s : State). s .queues .updates) is-lowered) (w .processing .small .updates);
+      small = rw (is-head-of, is-sum, ← ap (λ (s : State). s .queues .updates) is-lowered) (w .workable .small .updates);
     }
 
-    -- labels and predecessors as the code writes them
-    label-written : take (g .nodes) (set labels v (x + y)) ≡ set (take (g .nodes) labels) v (x + y)
-    label-written = take-set-lt (g .nodes) labels v (x + y) in-nodes
-
-    predecessor-written : take (g .nodes) (set predecessors v a) ≡ set (take (g .nodes) predecessors) v a
-    predecessor-written = take-set-lt (g .nodes) predecessors v a in-nodes
-
-    abbrev withQueues : Queues → State
-    withQueues q = record {
-      labels = set (take (g .nodes) labels) v (x + y);
-      predecessors = set (take (g .nodes) predecessors) v a;
-      queues = q;
-      rounds = c .rounds;
-      leaves = c .leaves;
-      inner = c .inner;
+    -- the state before the leaf's key is none
+    abbrev fallen : State
+    fallen = record {
+      labels = set (s .labels) v (x + y);
+      predecessors = set (s .predecessors) v a;
+      queues = updateOutgoing d (g .tails) v (x + y) (s .queues);
+      rounds = s .rounds;
+      leaves = s .leaves;
+      inner = s .inner;
     }
 
-    is-cleared : cleared a (withQueues (updateOutgoing d (g .tails) v (x + y) (queuesIn g own keys (c .updates)))) ≡ processLeaf g d r s
-    is-cleared = rw (is-head-of, is-sum, is-arc-of) (sym is-lowered)
+    is-fallen : cleared a fallen ≡ processLeaf g d r s
+    is-fallen = rw (is-head-of, is-sum, is-arc-of) (sym is-lowered)
 
-    pub leaf-falls : {labels′ predecessors′ : List ℕ} → (labels′ ≡ set labels v (x + y)) × (predecessors′ ≡ set predecessors v a)
-        → (own′ : List ℕ) {keys′ winners′ : List ℕ} {updates : ℕ}
-        → Queued d (t .rows) (updateOutgoing d (g .tails) v (x + y) (queuesIn g own keys (c .updates))) (queuesIn g own′ keys′ updates) winners′
-        → {n : Counts} → n ≡ leafCounted c updates
-        → Computed g d t (processLeaf g d r s) (stateIn g labels′ predecessors′ (set own′ a top) keys′ n) winners′
-    leaf-falls low own′ Q counted =
-        let written = take-set-lt (arcs g) own′ a top in-arcs in
-        record {
-          result =
-              rw (low .0, low .1, label-written, predecessor-written, written, counted, add-one (c .leaves))
-              (ap (λ (q : Queues). cleared a (withQueues q)) (Q .result) ∙ is-cleared);
-          represents = record {
-            fixed = R .fixed;
-            labelled = rw (low .0, label-written) (length-set (take (g .nodes) labels) v (x + y) ∙ R .labelled);
-            fed = rw (low .1, predecessor-written) (length-set (take (g .nodes) predecessors) v a ∙ R .fed);
-            owned =
-                rw written
-                (length-set (take (arcs g) own′) a top
-                ∙ ap (λ (q : Queues). length (q .own)) (Q .result)
-                ∙ outgoing-owned (updatable R) v (x + y));
-            queues = Q .valid;
-          };
-        }
+    -- the label is lowered
+    module _ {state₁ : List ℕ} (L : LabelLowered v (x + y) a state state₁) where
+      pub lowered-held : HoldsQueues g d (s .queues) fixed state₁ winners (c .updates)
+      lowered-held = record { own = ap (take (arcs g)) (L .own) ∙ R .queues .own; owned = R .queues .owned; keys = R .queues .keys }
+
+      -- the arcs are updated, and the leaf's key is none
+      pub leaf-falls : {state₂ state₃ winners′ : List ℕ} {updates : ℕ}
+          → LeavesQueues g d (updateOutgoing d (g .tails) v (x + y) (s .queues)) fixed state₁ state₂ winners′ updates → OwnStored a top state₂ state₃
+          → {n : Counts} → n ≡ leafCounted c updates → Represents g d spans (processLeaf g d r s) fixed weights state₃ winners′ n
+      leaf-falls Q K counted =
+          rw (← is-fallen, counted)
+          (record {
+            fixed-ok = R .fixed-ok;
+            labels =
+                ap (take (g .nodes)) (K .nodes .labels ∙ Q .nodes .labels ∙ L .labels)
+                ∙ take-set-lt (g .nodes) (labelSection state) v (x + y) in-nodes
+                ∙ ap (λ (labels : List ℕ). set labels v (x + y)) (R .labels);
+            predecessors =
+                ap (take (g .nodes)) (K .nodes .predecessors ∙ Q .nodes .predecessors ∙ L .predecessors)
+                ∙ take-set-lt (g .nodes) (predecessorSection state) v a in-nodes
+                ∙ ap (λ (predecessors : List ℕ). set predecessors v a) (R .predecessors);
+            queues = own-held (Q .queues) K in-arcs refl (record { valid = Q .queues .keys .valid; counted = Q .queues .keys .counted });
+            rounds = R .rounds;
+            leaves = omega (arith, R .leaves);
+            inner = R .inner;
+          })

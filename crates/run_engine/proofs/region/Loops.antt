@@ -1,10 +1,9 @@
 -- What a loop of steps rests on, and the turns of an inner region: those left to make lead to the same end.
-use Prim.Native.Nat.{ℕ, suc, _+_, _-_, _*_, _≤_, _<_}
+use Prim.Native.Nat.{ℕ, suc, _+_, _-_, _≤_, _<_}
 use mathlib.Core.Bool.{Bool, true, false}
 use mathlib.Core.Path.{_≡_, refl, sym, ap, _∙_}
 use mathlib.Core.Logic.{_≢_}
 use mathlib.Core.List.{List}
-use native.Mathlib.Numerals.{add-one}
 use native.Mathlib.Omega.{arith}
 use lib.ListN.{length, set}
 use Rattle.indices.specs.Columns.{at}
@@ -12,7 +11,7 @@ use Rattle.indices.specs.Steps.{times}
 use Rattle.indices.proofs.Steps.{times-on, times-off, times-none}
 use Rattle.sheet.specs.Words.{top}
 use Rattle.sheet.proofs.Heights.{root-highest}
-use Rattle.procedure.specs.Graph.{Graph, arcs}
+use Rattle.procedure.specs.Graph.{Graph}
 use Rattle.procedure.specs.Division.{Division, regions, parent, isLeaf, height, spanOf}
 use Rattle.procedure.specs.State.{State}
 use Rattle.procedure.specs.Queues.{minItem, minKey}
@@ -21,146 +20,154 @@ use Rattle.theory.specs.Counts.{Small}
 use Rattle.theory.proofs.Chosen.{Chosen, chosen-of-key}
 use Rattle.theory.proofs.Process.{key-alive, none-alive, inner-high, chosen-lower, process-leaf, process-inner}
 use Rattle.theory.proofs.Grows.{grows-trans, grows-small, rewriteKey-grows, children-grow}
-use Rattle.run_arrays.specs.Trees.{QueuesOk}
 use Rattle.run_counts.specs.Counted.{innerCounted}
 use Rattle.run_counts.specs.declared.Counts.{Counts}
-use Rattle.run_arrays.specs.Fixed.{Fixed, noArc, arcEntry, heightEntry}
-use Rattle.run_arrays.specs.States.{queuesOf, stateOf, Keyed, Represents, Processing, Computed}
+use Rattle.run_arrays.specs.Sections.{regionArcSection, spanSection, heightSection}
+use Rattle.run_arrays.specs.Trees.{QueuesOk}
+use Rattle.run_arrays.specs.Fixed.{noArc, HasSpan}
+use Rattle.run_arrays.specs.States.{Keyed, Represents, Workable}
+use Rattle.run_engine.proofs.leaf.Leaves.{region-fits}
 use Rattle.run_engine.proofs.region.Regions.{entry-inner, entry-leaf, before-height}
 
--- up to `left` steps from the state s lead to the same end as up to left₀ steps from s₀
-pub record Looping (g : Graph) (d : Division) (t : Fixed) (test : State → Bool) (step : State → State) (left₀ : ℕ) (s₀ : State) (left : ℕ) (s : State)
-    (winners : List ℕ) : Type 0 where
-  pub represents : Represents g d t s winners
+-- the arrays represent s, and up to `left` steps from s lead to the same end as up to left₀ steps from s₀
+pub record Looping (g : Graph) (d : Division) (spans fixed weights : List ℕ) (test : State → Bool) (step : State → State) (left₀ : ℕ) (s₀ : State) (left : ℕ)
+    (s : State) (state winners : List ℕ) (c : Counts) : Type 0 where
+  pub represents : Represents g d spans s fixed weights state winners c
   pub sofar : times left test step s ≡ times left₀ test step s₀
 
-module _ {g : Graph} {d : Division} {t : Fixed} {test : State → Bool} {step : State → State} {left₀ : ℕ} {s₀ : State} {left : ℕ} {s : State} {winners : List ℕ}
-    (L : Looping g d t test step left₀ s₀ left s winners) where
+module _ {g : Graph} {d : Division} {spans fixed weights : List ℕ} {test : State → Bool} {step : State → State} {left₀ : ℕ} {s₀ : State} {left : ℕ} {s : State}
+    {state winners : List ℕ} {c : Counts} (L : Looping g d spans fixed weights test step left₀ s₀ left s state winners c) where
   -- the end, where the test fails
-  pub loop-off : test s ≡ false → Computed g d t (times left₀ test step s₀) s winners
-  loop-off e = record { result = sym (times-off test step left s e) ∙ L .sofar; represents = L .represents }
+  pub loop-off : test s ≡ false → Represents g d spans (times left₀ test step s₀) fixed weights state winners c
+  loop-off e = rw (← L .sofar, times-off test step left s e) (L .represents)
 
   -- and where no step is left
-  pub loop-spent : left ≤ 0 → Computed g d t (times left₀ test step s₀) s winners
-  loop-spent l =
-      let e : left ≡ 0 = omega arith in
-      record { result = sym (times-none test step s) ∙ (rw e at (L .sofar)); represents = L .represents }
+  pub loop-spent : left ≤ 0 → Represents g d spans (times left₀ test step s₀) fixed weights state winners c
+  loop-spent l = let e : left ≡ 0 = omega arith in rw (← L .sofar, e, times-none test step s) (L .represents)
 
   -- otherwise one step is made
   pub loop-on : 0 < left → test s ≡ true → times (left - 1) test step (step s) ≡ times left₀ test step s₀
   loop-on pos e = sym (times-on test step (left - 1) s e) ∙ (let one : suc (left - 1) ≡ left = omega arith in rw one (L .sofar))
 
 -- THE TURNS OF AN INNER REGION
-abbrev pub turn : Graph → Division → Fixed → ℕ → State → State
-turn g d t r s = processChild g d (process g d (t .spans)) r s
-
-rewritten-key : (g : Graph) (d : Division) (x : ℕ) (labels predecessors own keys : List ℕ) (c : Counts)
-    → stateOf labels predecessors own (set keys x (minKey d (queuesOf own keys (c .updates)) x)) c
-    ≡ rewriteKey g d x (stateOf labels predecessors own keys c)
-unfolding rewriteKey
-rewritten-key g d x labels predecessors own keys c = refl
+abbrev pub turn : Graph → Division → List ℕ → ℕ → State → State
+turn g d spans r s = processChild g d (process g d spans) r s
 
 inner-counted : (g : Graph) (d : Division) (s : State) → countInner g d s .inner ≡ suc (s .inner)
 unfolding countInner
 inner-counted g d s = refl
 
 -- the loop's beginning
-pub record Framed (g : Graph) (d : Division) (t : Fixed) (r left₀ : ℕ) (s₀ : State) (winners₀ : List ℕ) : Type 0 where
-  pub represents : Represents g d t s₀ winners₀
+pub record Framed (g : Graph) (d : Division) (spans fixed weights : List ℕ) (r left₀ : ℕ) (s₀ : State) (state₀ winners₀ : List ℕ) (c₀ : Counts) : Type 0 where
+  pub represents : Represents g d spans s₀ fixed weights state₀ winners₀ c₀
   pub in-range : r < regions d
   pub inner : isLeaf d r ≡ false
-  pub small : Small (times left₀ (alive g d r) (turn g d t r) s₀)
+  pub small : Small (times left₀ (alive g d r) (turn g d spans r) s₀)
 
-pub framed-first : {g : Graph} {d : Division} {t : Fixed} {r left₀ : ℕ} {s₀ : State} {winners₀ : List ℕ} → Framed g d t r left₀ s₀ winners₀
-    → Looping g d t (alive g d r) (turn g d t r) left₀ s₀ left₀ s₀ winners₀
+pub framed-first : {g : Graph} {d : Division} {spans fixed weights : List ℕ} {r left₀ : ℕ} {s₀ : State} {state₀ winners₀ : List ℕ} {c₀ : Counts}
+    → Framed g d spans fixed weights r left₀ s₀ state₀ winners₀ c₀
+    → Looping g d spans fixed weights (alive g d r) (turn g d spans r) left₀ s₀ left₀ s₀ state₀ winners₀ c₀
 framed-first F = record { represents = F .represents; sofar = refl }
 
-module _ {g : Graph} {d : Division} {t : Fixed} {labels predecessors own keys winners : List ℕ} {c : Counts} {r : ℕ}
-    (P : Processing g d t (stateOf labels predecessors own keys c) winners r (process g d (t .spans) r (stateOf labels predecessors own keys c)))
-    (inner : isLeaf d r ≡ false) where
-  heights : heightEntry (t .regionRows) r ≡ height d r
-  heights = P .represents .fixed .region-rows .heights r (P .in-range)
+module _ {g : Graph} {d : Division} {spans : List ℕ} {s : State} {fixed weights state winners : List ℕ} {c : Counts} {r : ℕ}
+    (R : Represents g d spans s fixed weights state winners c) (W : Workable d r (process g d spans r s)) (inner : isLeaf d r ≡ false) where
+  heights : at (heightSection weights) r ≡ height d r
+  heights = R .fixed-ok .heights r (W .in-range)
+
+  -- a region's height is one of those that have a span
+  height-in : height d r ≤ length spans
+  height-in =
+      let ok = R .fixed-ok .ok in
+      omega (arith, root-highest (isLeaf d) (parent d) (regions d) (ok .division .nesting) r (W .in-range), ok .attention .each-height)
+
+  height-positive : 0 < height d r
+  height-positive = inner-high (R .fixed-ok .ok .division) r (W .in-range) inner
 
   -- what `span_of` asks
-  pub span-asks : (2 * r + 1 < length (t .regionRows)) × (0 < heightEntry (t .regionRows) r) × (heightEntry (t .regionRows) r ≤ length (t .spans))
-  span-asks =
-      let ok = P .represents .fixed .ok in (
-        omega (arith, P .in-range, P .represents .fixed .region-rows .all),
-        omega (arith, heights, inner-high (ok .division) r (P .in-range) inner),
-        omega (arith, heights, root-highest (isLeaf d) (parent d) (regions d) (ok .division .nesting) r (P .in-range), ok .attention .each-height),
-      )
+  pub span-asks : HasSpan (heightSection weights) r
+  span-asks = record {
+    in-range = region-fits R W;
+    positive = omega (arith, heights, height-positive);
+    few = omega (arith, heights, height-in, R .fixed-ok .ok .attention .few);
+  }
 
   pub inner-count-fits : c .inner + 1 < 18446744073709551616
   inner-count-fits =
-      let s = stateOf labels predecessors own keys c in
-      let ok = P .represents .fixed .ok .division in
-      let more = children-grow g d ok (t .spans) (spanOf d (t .spans) r) r (countInner g d s) inner in
-      let all = rw (process-inner g d (t .spans) ok r s (P .in-range) inner) at (P .small) in
-      omega (arith, inner-counted g d s, more .inner, all .inner)
-
--- what is represented does not depend on the counts
-pub recounted : {g : Graph} {d : Division} {t : Fixed} {labels predecessors own keys winners : List ℕ} {c : Counts} (n : Counts)
-    → Represents g d t (stateOf labels predecessors own keys c) winners → Represents g d t (stateOf labels predecessors own keys n) winners
-recounted n R = record { fixed = R .fixed; labelled = R .labelled; fed = R .fed; owned = R .owned; queues = R .queues }
+      let ok = R .fixed-ok .ok .division in
+      let more = children-grow g d ok spans (spanOf d spans r) r (countInner g d s) inner in
+      let all = rw (process-inner g d spans ok r s (W .in-range) inner) at (W .small) in
+      omega (arith, R .inner, inner-counted g d s, more .inner, all .inner)
 
 -- the region is counted in n, and `left` is its span
-pub record Opened (g : Graph) (d : Division) (t : Fixed) (labels predecessors own keys winners : List ℕ) (c : Counts) (r left : ℕ) (n : Counts) : Type 0 where
-  pub processing : let s = stateOf labels predecessors own keys c in Processing g d t s winners r (process g d (t .spans) r s)
+pub record Opened (g : Graph) (d : Division) (spans : List ℕ) (s : State) (fixed weights state winners : List ℕ) (c : Counts) (r left : ℕ) (n : Counts)
+    : Type 0 where
+  pub represents : Represents g d spans s fixed weights state winners c
+  pub workable : Workable d r (process g d spans r s)
   pub inner : isLeaf d r ≡ false
-  pub span : left ≡ at (t .spans) (heightEntry (t .regionRows) r - 1)
+  pub span : left ≡ at (spanSection weights) (at (heightSection weights) r - 1)
   pub counted : n ≡ innerCounted c
 
-module _ {g : Graph} {d : Division} {t : Fixed} {labels predecessors own keys winners : List ℕ} {c : Counts} {r left : ℕ} {n : Counts}
-    (O : Opened g d t labels predecessors own keys winners c r left n) where
-  abbrev R : Represents g d t (stateOf labels predecessors own keys c) winners
-  R = O .processing .represents
+module _ {g : Graph} {d : Division} {spans : List ℕ} {s : State} {fixed weights state winners : List ℕ} {c : Counts} {r left : ℕ} {n : Counts}
+    (O : Opened g d spans s fixed weights state winners c r left n) where
+  abbrev R : Represents g d spans s fixed weights state winners c
+  R = O .represents
 
-  abbrev begun : State
-  begun = stateOf labels predecessors own keys n
-
-  is-begun : begun ≡ countInner g d (stateOf labels predecessors own keys c)
+  counted-represents : Represents g d spans (countInner g d s) fixed weights state winners n
   unfolding countInner
-  is-begun = rw (O .counted, add-one (c .inner))
+  counted-represents = rw (O .counted) (record {
+    fixed-ok = R .fixed-ok;
+    labels = R .labels;
+    predecessors = R .predecessors;
+    queues = R .queues;
+    rounds = R .rounds;
+    leaves = R .leaves;
+    inner = omega (arith, R .inner);
+  })
 
-  is-span : left ≡ spanOf d (t .spans) r
+  is-span : left ≡ spanOf d spans r
   is-span =
-      O .span ∙ ap (at (t .spans)) (before-height (heightEntry (t .regionRows) r)) ∙ rw (R .fixed .region-rows .heights r (O .processing .in-range))
+      let high = height-positive R (O .workable) (O .inner) in
+      let low = height-in R (O .workable) (O .inner) in
+      O .span
+      ∙ ap (λ (h : ℕ). at (spanSection weights) (h - 1)) (heights R (O .workable) (O .inner))
+      ∙ R .fixed-ok .each-span (height d r - 1) (omega arith)
+      ∙ ap (at spans) (before-height (height d r))
 
   -- the turns are the working of the region
-  turns-all : times left (alive g d r) (turn g d t r) begun ≡ process g d (t .spans) r (stateOf labels predecessors own keys c)
-  turns-all =
-      rw (is-span, is-begun)
-      (sym (process-inner g d (t .spans) (R .fixed .ok .division) r (stateOf labels predecessors own keys c) (O .processing .in-range) (O .inner)))
+  turns-all : times left (alive g d r) (turn g d spans r) (countInner g d s) ≡ process g d spans r s
+  turns-all = rw is-span (sym (process-inner g d spans (R .fixed-ok .ok .division) r s (O .workable .in-range) (O .inner)))
 
-  pub turns-worked : {s : State} {winners′ : List ℕ} → Computed g d t (times left (alive g d r) (turn g d t r) begun) s winners′
-      → Computed g d t (process g d (t .spans) r (stateOf labels predecessors own keys c)) s winners′
-  turns-worked W = record { result = W .result ∙ turns-all; represents = W .represents }
+  pub turns-worked : {state′ winners′ : List ℕ} {n′ : Counts}
+      → Represents g d spans (times left (alive g d r) (turn g d spans r) (countInner g d s)) fixed weights state′ winners′ n′
+      → Represents g d spans (process g d spans r s) fixed weights state′ winners′ n′
+  turns-worked done = rw turns-all at done
 
-  pub framed : Framed g d t r left begun winners
+  pub framed : Framed g d spans fixed weights r left (countInner g d s) state winners n
   framed = record {
-    represents = recounted n R;
-    in-range = O .processing .in-range;
+    represents = counted-represents;
+    in-range = O .workable .in-range;
     inner = O .inner;
-    small = rw turns-all (O .processing .small);
+    small = rw turns-all (O .workable .small);
   }
 
 -- the smallest key is none
-pub turns-none : {g : Graph} {d : Division} {t : Fixed} {r left₀ : ℕ} {s₀ : State} {winners₀ : List ℕ} → Framed g d t r left₀ s₀ winners₀ → {left : ℕ}
-    {s : State} {winners : List ℕ} → Looping g d t (alive g d r) (turn g d t r) left₀ s₀ left s winners → {least : ℕ} → least ≡ minKey d (s .queues) r
-    → top ≤ least → Computed g d t (times left₀ (alive g d r) (turn g d t r) s₀) s winners
-turns-none {g} {d} {r = r} F {s = s} L key l = loop-off L (none-alive g d s r (omega arith))
+pub turns-none : {g : Graph} {d : Division} {spans fixed weights : List ℕ} (r : ℕ) {left₀ : ℕ} {s₀ : State} {left : ℕ} {s : State} {state winners : List ℕ}
+    {c : Counts} → Looping g d spans fixed weights (alive g d r) (turn g d spans r) left₀ s₀ left s state winners c → {least : ℕ}
+    → least ≡ minKey d (s .queues) r → top ≤ least
+    → Represents g d spans (times left₀ (alive g d r) (turn g d spans r) s₀) fixed weights state winners c
+turns-none {g} {d} r {s = s} L key l = loop-off L (none-alive g d s r (omega arith))
 
 -- it isn't, and the first-chosen child x is worked
-pub record Turning (g : Graph) (d : Division) (t : Fixed) (r left₀ : ℕ) (s₀ : State) (winners₀ : List ℕ) (left : ℕ) (s : State) (winners : List ℕ) (x : ℕ)
-    : Type 0 where
-  pub frame : Framed g d t r left₀ s₀ winners₀
-  pub loop : Looping g d t (alive g d r) (turn g d t r) left₀ s₀ left s winners
+pub record Turning (g : Graph) (d : Division) (spans fixed weights : List ℕ) (r left₀ : ℕ) (s₀ : State) (state₀ winners₀ : List ℕ) (c₀ : Counts) (left : ℕ)
+    (s : State) (state winners : List ℕ) (c : Counts) (x : ℕ) : Type 0 where
+  pub frame : Framed g d spans fixed weights r left₀ s₀ state₀ winners₀ c₀
+  pub loop : Looping g d spans fixed weights (alive g d r) (turn g d spans r) left₀ s₀ left s state winners c
   pub positive : 0 < left
   pub some : minKey d (s .queues) r < top
   pub item : x ≡ minItem d (s .queues .keys) r
 
-module _ {g : Graph} {d : Division} {t : Fixed} {r left₀ : ℕ} {s₀ : State} {winners₀ : List ℕ} {left : ℕ} {s : State} {winners : List ℕ} {x : ℕ}
-    (T : Turning g d t r left₀ s₀ winners₀ left s winners x) where
+module _ {g : Graph} {d : Division} {spans fixed weights : List ℕ} {r left₀ : ℕ} {s₀ : State} {state₀ winners₀ : List ℕ} {c₀ : Counts} {left : ℕ} {s : State}
+    {state winners : List ℕ} {c : Counts} {x : ℕ} (T : Turning g d spans fixed weights r left₀ s₀ state₀ winners₀ c₀ left s state winners c x) where
   chosen : Chosen d (s .queues) r
   chosen = chosen-of-key d (s .queues) r (T .frame .inner) (T .some)
 
@@ -170,81 +177,71 @@ module _ {g : Graph} {d : Division} {t : Fixed} {r left₀ : ℕ} {s₀ : State}
   pub child-positive : 0 < x
   child-positive = rw (T .item) (chosen .child .positive)
 
-  pub child-lower : heightEntry (t .regionRows) x < heightEntry (t .regionRows) r
+  pub child-lower : at (heightSection weights) x < at (heightSection weights) r
   child-lower =
-      let rows = T .frame .represents .fixed .region-rows in
-      rw (rows .heights x child-in, rows .heights r (T .frame .in-range), T .item) (chosen-lower (T .frame .represents .fixed .ok .division) s r chosen)
+      let ok = T .frame .represents .fixed-ok in
+      rw (ok .heights x child-in, ok .heights r (T .frame .in-range), T .item) (chosen-lower (ok .ok .division) s r chosen)
 
-  onward : times (left - 1) (alive g d r) (turn g d t r) (rewriteKey g d x (process g d (t .spans) x s)) ≡ times left₀ (alive g d r) (turn g d t r) s₀
+  onward : times (left - 1) (alive g d r) (turn g d spans r) (rewriteKey g d x (process g d spans x s)) ≡ times left₀ (alive g d r) (turn g d spans r) s₀
   unfolding processChild
   onward = rw (T .item) (loop-on (T .loop) (T .positive) (key-alive g d s r (T .some)))
 
-  pub child-asks : Processing g d t s winners x (process g d (t .spans) x s)
+  pub child-asks : Workable d x (process g d spans x s)
   child-asks =
-      let worked = process g d (t .spans) x s in
+      let worked = process g d spans x s in
       record {
-        represents = T .loop .represents;
         in-range = child-in;
         small =
             grows-small
             (grows-trans (rewriteKey-grows g d x worked)
-            (children-grow g d (T .frame .represents .fixed .ok .division) (t .spans) (left - 1) r (rewriteKey g d x worked) (T .frame .inner)))
+            (children-grow g d (T .frame .represents .fixed-ok .ok .division) spans (left - 1) r (rewriteKey g d x worked) (T .frame .inner)))
             (rw onward (T .frame .small));
       }
 
-  -- the slices after its working
-  module _ {labels predecessors own keys winners′ : List ℕ} {c : Counts}
-      (W : Computed g d t (process g d (t .spans) x s) (stateOf labels predecessors own keys c) winners′) where
-    pub key-asks : Keyed (arcs g) d (t .rows) (t .regionRows) own keys winners′ x
-    key-asks = record {
-      few = T .frame .represents .fixed .ok .graph .few-arcs;
-      division = T .frame .represents .fixed .ok .division;
-      region-rows = T .frame .represents .fixed .region-rows;
-      owned = W .represents .owned;
-      queues = W .represents .queues;
-      in-range = child-in;
-    }
+  pub key-asks : Keyed g d fixed x
+  key-asks =
+      let ok = T .frame .represents .fixed-ok in
+      record { few = ok .ok .graph .few-arcs; division = ok .ok .division; region-arcs = ok .region-arcs; in-range = child-in }
 
-    -- its key is rewritten, and the loop goes on
-    pub turned : {k : ℕ} → k ≡ minKey d (queuesOf own keys (c .updates)) x → {winners″ : List ℕ} → QueuesOk d (t .rows) (set keys x k) winners″
-        → Looping g d t (alive g d r) (turn g d t r) left₀ s₀ (left - 1) (stateOf labels predecessors own (set keys x k) c) winners″
-    turned e N = record {
-      represents = record {
-        fixed = W .represents .fixed;
-        labelled = W .represents .labelled;
-        fed = W .represents .fed;
-        owned = W .represents .owned;
-        queues = N;
-      };
-      sofar =
-          ap (times (left - 1) (alive g d r) (turn g d t r))
-          (rw e (rewritten-key g d x labels predecessors own keys c ∙ ap (rewriteKey g d x) (W .result)))
-          ∙ onward;
-    }
+  -- it is worked, its key is rewritten, and the loop goes on
+  pub turned : {state′ winners′ : List ℕ} {c′ : Counts} → Represents g d spans (process g d spans x s) fixed weights state′ winners′ c′
+      → {k : ℕ} → k ≡ minKey d (process g d spans x s .queues) x → {winners″ : List ℕ}
+      → QueuesOk d fixed (set (process g d spans x s .queues .keys) x k) winners″
+      → Looping g d spans fixed weights (alive g d r) (turn g d spans r) left₀ s₀ (left - 1) (rewriteKey g d x (process g d spans x s)) state′ winners″ c′
+  unfolding rewriteKey
+  turned W e valid = record {
+    represents = record {
+      fixed-ok = W .fixed-ok;
+      labels = W .labels;
+      predecessors = W .predecessors;
+      queues = record { own = W .queues .own; owned = W .queues .owned; keys = record { valid = rw e at valid; counted = W .queues .keys .counted } };
+      rounds = W .rounds;
+      leaves = W .leaves;
+      inner = W .inner;
+    };
+    sofar = onward;
+  }
 
 -- the working of a region, whose row has a in place of its arc
-module _ {g : Graph} {d : Division} {t : Fixed} {s : State} {winners : List ℕ} {r : ℕ} (P : Processing g d t s winners r (process g d (t .spans) r s)) {a : ℕ}
-    (row : a ≡ arcEntry (t .regionRows) r) where
+module _ {g : Graph} {d : Division} {spans : List ℕ} {s : State} {fixed weights state winners : List ℕ} {c : Counts} {r : ℕ}
+    (R : Represents g d spans s fixed weights state winners c) (W : Workable d r (process g d spans r s)) {a : ℕ}
+    (row : a ≡ at (regionArcSection fixed) r) where
   -- it is inner, and worked as such
   pub region-inner : a ≡ noArc → isLeaf d r ≡ false
   region-inner =
-      let fixed = P .represents .fixed in
-      entry-inner (fixed .ok .division) (fixed .ok .graph .few-arcs) (fixed .region-rows) (P .in-range) row
+      let ok = R .fixed-ok in
+      entry-inner (ok .ok .division) (ok .ok .graph .few-arcs) (ok .region-arcs) (W .in-range) row
 
   -- or it is a leaf
   module _ (some : a ≢ noArc) where
     pub region-leaf : isLeaf d r ≡ true
     region-leaf =
-        let fixed = P .represents .fixed in
-        entry-leaf (fixed .ok .division) (fixed .ok .graph .few-arcs) (fixed .region-rows) (P .in-range) row some
+        let ok = R .fixed-ok in
+        entry-leaf (ok .ok .division) (ok .ok .graph .few-arcs) (ok .region-arcs) (W .in-range) row some
 
-    pub leaf-asks : Processing g d t s winners r (processLeaf g d r s)
-    leaf-asks = record {
-      represents = P .represents;
-      in-range = P .in-range;
-      small = rw (← process-leaf g d (t .spans) r s region-leaf) (P .small);
-    }
+    pub leaf-asks : Workable d r (processLeaf g d r s)
+    leaf-asks = record { in-range = W .in-range; small = rw (← process-leaf g d spans r s region-leaf) (W .small) }
 
-    pub leaf-worked : {s′ : State} {winners′ : List ℕ} → Computed g d t (processLeaf g d r s) s′ winners′ → Computed g d t (process g d (t .spans) r s)
-        s′ winners′
-    leaf-worked W = record { result = W .result ∙ sym (process-leaf g d (t .spans) r s region-leaf); represents = W .represents }
+    pub leaf-worked : {state′ winners′ : List ℕ} {n : Counts} → Represents g d spans (processLeaf g d r s) fixed weights state′ winners′ n
+        → Represents g d spans (process g d spans r s) fixed weights state′ winners′ n
+    leaf-worked done = rw (process-leaf g d spans r s region-leaf) done

@@ -1,11 +1,11 @@
--- What the start rests on: filled slices and cleared queues are the start before its updates.
+-- What the start rests on: an array filled with 'none', with the source's label, and cleared queues are the start before its updates.
 use Prim.Native.Nat.{ℕ, _+_, _-_, _≤_, _<_}
-use mathlib.Core.Path.{_≡_, refl, sym, ap, _∙_}
+use mathlib.Core.Path.{_≡_, refl, ap, _∙_}
 use mathlib.Core.List.{List}
 use native.Mathlib.Omega.{arith}
-use lib.ListN.{length, set, take, replicate, length-set, length-replicate, replicate-append-replicate}
-use lib.Seq.{take-at, take-set-lt}
-use Rattle.sheet.specs.Limits.{mostArcsEachWay}
+use lib.ListN.{length, set, take, drop, replicate, length-replicate, replicate-append-replicate}
+use lib.Seq.{take-at, drop-at, take-take, take-set-lt}
+use Rattle.sheet.specs.Limits.{mostNodes, mostArcs, mostArcsEachWay}
 use Rattle.sheet.specs.Words.{top}
 use Rattle.procedure.specs.Graph.{Graph, arcs}
 use Rattle.procedure.specs.Division.{Division, regions}
@@ -14,19 +14,30 @@ use Rattle.procedure.specs.Queues.{updateOutgoing}
 use Rattle.procedure.specs.Procedure.{start}
 use Rattle.theory.specs.Counts.{Small}
 use Rattle.theory.proofs.Final.{no-rounds, after-small}
+use Rattle.run_arrays.specs.Sections.{
+  predecessorsAt,
+  ownKeysAt,
+  stateLength,
+  mostPlaces,
+  labelSection,
+  predecessorSection,
+  ownSection,
+  LabelStored,
+}
 use Rattle.run_arrays.specs.Trees.{LaidOut, QueuesOk}
-use Rattle.run_arrays.specs.Fixed.{Fixed}
-use Rattle.run_arrays.specs.States.{queuesOf, queuesIn, stateIn, UpdatingOutgoing, Queued, Computed, Blank}
-use Rattle.run_engine.proofs.updates.Updates.{outgoing-owned}
+use Rattle.run_arrays.specs.States.{HoldsQueues, UpdatingOutgoing, LeavesQueues, Represents, Blank}
 
 -- at most four arcs leave a node
 pub few-out : mostArcsEachWay ≤ 4
 few-out = omega arith
 
--- the start, where its queues are q
-abbrev startWith : Graph → Queues → State
-startWith g q = record {
-  labels = set (replicate (g .nodes) top) (g .source) 0;
+-- the queues without a key, and the start from a source, where its queues are q
+abbrev pub noKeys : Graph → Division → Queues
+noKeys g d = record { own = replicate (arcs g) top; keys = replicate (regions d) top; updates = 0 }
+
+abbrev startWith : Graph → ℕ → Queues → State
+startWith g source q = record {
+  labels = set (replicate (g .nodes) top) source 0;
   predecessors = replicate (g .nodes) top;
   queues = q;
   rounds = 0;
@@ -34,80 +45,89 @@ startWith g q = record {
   inner = 0;
 }
 
-abbrev noKeys : Graph → Division → Queues
-noKeys g d = queuesOf (replicate (arcs g) top) (replicate (regions d) top) 0
-
-start-by-updates : (g : Graph) (d : Division) (spans : List ℕ) → start g d spans ≡ startWith g (updateOutgoing d (g .tails) (g .source) 0 (noKeys g d))
+start-by-updates : (g : Graph) (d : Division) (spans : List ℕ)
+    → startWith g (g .source) (updateOutgoing d (g .tails) (g .source) 0 (noKeys g d)) ≡ start g d spans
 unfolding start
 start-by-updates g d spans = refl
 
--- the front of an array that is filled with 'none'
-filled : (n : ℕ) {k m : ℕ} {ys : List ℕ} → ys ≡ replicate k top → k ≡ m → n ≤ m → take n ys ≡ replicate n top
-filled n {m = m} e long l =
+-- the front of a list that is filled with 'none', and what follows it
+front-none : (n : ℕ) {m : ℕ} {ys : List ℕ} → ys ≡ replicate m top → n ≤ m → take n ys ≡ replicate n top
+front-none n {m} e l =
     let parts : n + (m - n) ≡ m = omega arith in
-    rw (e, long, ← parts, ← replicate-append-replicate n (m - n) top) (take-at (replicate n top) (replicate (m - n) top) n (length-replicate n top))
+    rw (e, ← parts, ← replicate-append-replicate n (m - n) top) (take-at (replicate n top) (replicate (m - n) top) n (length-replicate n top))
 
-module _ {g : Graph} {d : Division} {t : Fixed} (B : Blank g d t) where
-  pub nodes-filled : {k : ℕ} {ys : List ℕ} → ys ≡ replicate k top → k ≡ 1024 → take (g .nodes) ys ≡ replicate (g .nodes) top
-  nodes-filled e long = filled (g .nodes) e long (B .fixed .ok .graph .few-nodes)
+rest-none : (o n : ℕ) {ys : List ℕ} → ys ≡ replicate (o + n) top → drop o ys ≡ replicate n top
+rest-none o n e = rw (e, ← replicate-append-replicate o n top) (drop-at (replicate o top) (replicate n top) o (length-replicate o top))
 
-  pub arcs-filled : {k : ℕ} {ys : List ℕ} → ys ≡ replicate k top → k ≡ 2048 → take (arcs g) ys ≡ replicate (arcs g) top
-  arcs-filled e long = filled (arcs g) e long (B .fixed .ok .graph .few-arcs)
+module _ {g : Graph} {d : Division} {spans fixed weights : List ℕ} {source count : ℕ} (B : Blank g d spans fixed weights source count) where
+  -- an array that is filled with 'none': so are its sections
+  module _ {state : List ℕ} (none : state ≡ replicate stateLength top) where
+    labels-none : take (g .nodes) (labelSection state) ≡ replicate (g .nodes) top
+    unfolding labelSection
+    labels-none =
+        let few = B .fixed-ok .ok .graph .few-nodes in
+        take-take (g .nodes) mostNodes state few ∙ front-none (g .nodes) {m = stateLength} none (omega arith)
+
+    predecessors-none : take (g .nodes) (predecessorSection state) ≡ replicate (g .nodes) top
+    unfolding predecessorSection
+    predecessors-none =
+        let few = B .fixed-ok .ok .graph .few-nodes in
+        take-take (g .nodes) mostNodes (drop predecessorsAt state) few
+        ∙ front-none (g .nodes) {m = mostNodes + mostArcs} (rest-none predecessorsAt (mostNodes + mostArcs) none) (omega arith)
+
+    own-none : take (arcs g) (ownSection state) ≡ replicate (arcs g) top
+    unfolding ownSection
+    own-none = front-none (arcs g) (rest-none ownKeysAt mostArcs none) (B .fixed-ok .ok .graph .few-arcs)
+
+  source-node : source < g .nodes
+  source-node = omega (arith, B .at-source, B .fixed-ok .ok .graph .source-in)
+
+  pub source-in : source < mostNodes
+  source-in = omega (arith, source-node, B .fixed-ok .ok .graph .few-nodes)
 
   -- the array of the queues has room for the most regions
-  pub start-laid : {winners : List ℕ} → length winners ≡ 8190 → LaidOut d (t .rows) winners
-  start-laid long = record { planned = B .planned; room = omega (arith, B .fixed .ok .division .few-regions) }
+  pub start-laid : {winners : List ℕ} → length winners ≡ mostPlaces → LaidOut d fixed winners
+  start-laid long = record { planned = B .planned; room = omega (arith, B .fixed-ok .ok .division .few-regions) }
 
-  start-small : Small (start g d (t .spans))
-  start-small = rw (no-rounds g d (t .spans)) at (after-small (B .fixed .ok) few-out 0)
+  start-small : Small (start g d spans)
+  start-small = rw (no-rounds g d spans) at (after-small (B .fixed-ok .ok) few-out 0)
 
--- arrays filled with 'none', and cleared queues, in place of what was lent
-pub record Filled (g : Graph) (d : Division) (t : Fixed) (labels predecessors own winners : List ℕ) (source : ℕ) : Type 0 where
-  pub blank : Blank g d t
-  pub at-source : source ≡ g .source
-  pub labels-none : take (g .nodes) labels ≡ replicate (g .nodes) top
-  pub predecessors-none : take (g .nodes) predecessors ≡ replicate (g .nodes) top
-  pub own-none : take (arcs g) own ≡ replicate (arcs g) top
-  pub valid : QueuesOk d (t .rows) (replicate (regions d) top) winners
+  is-start : startWith g source (updateOutgoing d (g .tails) source 0 (noKeys g d)) ≡ start g d spans
+  is-start = ap (λ (v : ℕ). startWith g v (updateOutgoing d (g .tails) v 0 (noKeys g d))) (B .at-source) ∙ start-by-updates g d spans
 
-module _ {g : Graph} {d : Division} {t : Fixed} {labels predecessors own winners : List ℕ} {source : ℕ}
-    (F : Filled g d t labels predecessors own winners source) where
-  source-node : source < g .nodes
-  source-node = omega (arith, F .at-source, F .blank .fixed .ok .graph .source-in)
-
-  is-blank : queuesIn g own (replicate (regions d) top) 0 ≡ noKeys g d
-  is-blank = rw (F .own-none)
-
-  pub start-asks : UpdatingOutgoing g d (t .rows) (t .arcRows) (t .firsts) (queuesIn g own (replicate (regions d) top) 0) winners source 0
+  pub start-asks : UpdatingOutgoing g d (noKeys g d) fixed source 0
   start-asks = record {
-    updatable = record {
-      graph = F .blank .fixed .ok .graph;
-      division = F .blank .fixed .ok .division;
-      arc-rows = F .blank .fixed .arc-rows;
-      owned = ap length (F .own-none) ∙ length-replicate (arcs g) top;
-      queues = F .valid;
-    };
-    links = F .blank .fixed .links;
+    updatable = record { graph = B .fixed-ok .ok .graph; division = B .fixed-ok .ok .division; arc-rows = B .fixed-ok .arc-rows };
+    links = B .fixed-ok .links;
+    arc-count = B .fixed-ok .arc-count;
     in-range = source-node;
-    small = rw (F .at-source, is-blank, ← ap (λ (w : State). w .queues .updates) (start-by-updates g d (t .spans))) (start-small (F .blank) .updates);
+    small = rw (ap (λ (w : State). w .queues .updates) is-start) (start-small .updates);
   }
 
-  label-written : take (g .nodes) (set labels source 0) ≡ set (replicate (g .nodes) top) source 0
-  label-written = take-set-lt (g .nodes) labels source 0 source-node ∙ ap (λ (xs : List ℕ). set xs source 0) (F .labels-none)
+  -- the source's label is stored, and the queues are cleared
+  module _ {filled labelled : List ℕ} (none : filled ≡ replicate stateLength top) (K : LabelStored source 0 filled labelled) where
+    pub start-held : {winners : List ℕ} → QueuesOk d fixed (replicate (regions d) top) winners → HoldsQueues g d (noKeys g d) fixed labelled winners 0
+    start-held valid = record {
+      own = ap (take (arcs g)) (K .own) ∙ own-none none;
+      owned = length-replicate (arcs g) top;
+      keys = record { valid = valid; counted = refl };
+    }
 
-  pub started : (own′ : List ℕ) {keys winners″ : List ℕ} {n : ℕ}
-      → Queued d (t .rows) (updateOutgoing d (g .tails) source 0 (queuesIn g own (replicate (regions d) top) 0)) (queuesIn g own′ keys n) winners″
-      → Computed g d t (start g d (t .spans))
-      (stateIn g (set labels source 0) predecessors own′ keys (record { rounds = 0; leaves = 0; inner = 0; updates = n })) winners″
-  started own′ R = record {
-    result =
-        rw (label-written, F .predecessors-none, F .at-source)
-        (ap (startWith g) (R .result ∙ rw (F .at-source, is-blank)) ∙ sym (start-by-updates g d (t .spans)));
-    represents = record {
-      fixed = F .blank .fixed;
-      labelled = rw label-written (length-set (replicate (g .nodes) top) source 0 ∙ length-replicate (g .nodes) top);
-      fed = ap length (F .predecessors-none) ∙ length-replicate (g .nodes) top;
-      owned = ap (λ (q : Queues). length (q .own)) (R .result) ∙ outgoing-owned (start-asks .updatable) source 0;
-      queues = R .valid;
-    };
-  }
+    -- the source's arcs are updated
+    pub started : {state winners : List ℕ} {n : ℕ}
+        → LeavesQueues g d (updateOutgoing d (g .tails) source 0 (noKeys g d)) fixed labelled state winners n
+        → Represents g d spans (start g d spans) fixed weights state winners (record { rounds = 0; leaves = 0; inner = 0; updates = n })
+    started Q =
+        rw (← is-start)
+        (record {
+          fixed-ok = B .fixed-ok;
+          labels =
+              ap (take (g .nodes)) (Q .nodes .labels ∙ K .labels)
+              ∙ take-set-lt (g .nodes) (labelSection filled) source 0 source-node
+              ∙ ap (λ (labels : List ℕ). set labels source 0) (labels-none none);
+          predecessors = ap (take (g .nodes)) (Q .nodes .predecessors ∙ K .predecessors) ∙ predecessors-none none;
+          queues = Q .queues;
+          rounds = refl;
+          leaves = refl;
+          inner = refl;
+        })

@@ -33,8 +33,7 @@ returns c =
     let entered : tie.After-enter-leaves = search needs in
     let linked : tie.After-link = search needs in
     let lent = entry entered .pre in
-    arcs-laid (lent .accepted) (filled entered) (linked .link .ensures) (omega (arith, linked .link .kept, filled entered .all))
-    (omega (arith, linked .link .kept, lent .each-node))
+    arcs-laid (lent .accepted) (filled entered) (linked .link .ensures) (omega (arith, linked .link .kept, lent .each-node))
 
 pub lay-arcs-spec : {M : Type 1} → statement M
 lay-arcs-spec =

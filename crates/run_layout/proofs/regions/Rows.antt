@@ -1,4 +1,4 @@
--- The regions' parents, and their rows, stored region by region.
+-- The regions' parents, stored region by region, and what is entered as their arcs.
 use Prim.Native.Nat.{ℕ, zero, suc, _+_, _-_, _*_, _≤_, _<_}
 use mathlib.Core.Bool.{true, false, true≢false}
 use mathlib.Core.Path.{_≡_, refl, sym, ap, _∙_}
@@ -7,10 +7,10 @@ use native.Mathlib.Omega.{arith}
 use lib.ListN.{length, set, length-set}
 use Rattle.indices.specs.Columns.{at}
 use Rattle.sheet.specs.Words.{words}
-use Rattle.sheet.specs.Regions.{regionCount, arcWord, parentWord, isLeaf, leafArc, height}
+use Rattle.sheet.specs.Regions.{regionCount, arcWord, parentWord, isLeaf, leafArc}
 use Rattle.sheet.proofs.Regions.{parent-of-word}
 use Rattle.run_arrays.specs.Fixed.{noArc}
-use Rattle.run_layout.specs.Regions.{Nested, ParentsEntered, arcInRow, RowsEntered}
+use Rattle.run_layout.specs.Regions.{Nested, ParentsEntered, arcEntered}
 use Rattle.indices.proofs.Entries.{Entered, entered-kept, entered-more}
 
 -- PARENTS
@@ -42,39 +42,19 @@ parents-all {d} {parents} P l = record {
 pub parent-fits : {d : List ℕ} → Nested d → (k : ℕ) → k < words d → parentWord d k < 65536
 parent-fits ok k l = omega (arith, ok .nesting .lower (suc k) (omega arith) (omega arith), ok .few)
 
--- ROWS
+-- ARCS
 
 -- a leaf is not region 0
 pub leaf-positive : (d : List ℕ) (r : ℕ) → isLeaf d r ≡ true → 0 < r
 leaf-positive d zero leaf = absurd (true≢false (sym leaf))
 leaf-positive d (suc k) leaf = omega arith
 
--- its row has the arc of its word, which is its arc
-pub leaf-row : (d : List ℕ) (r : ℕ) → isLeaf d r ≡ true → (arcInRow d r ≡ arcWord d (r - 1)) × (arcInRow d r ≡ leafArc d r)
-leaf-row d zero leaf = absurd (true≢false (sym leaf))
-leaf-row d (suc k) leaf = let back : suc k - 1 ≡ k = omega arith in rw (back, leaf) (refl, refl)
+-- the arc of its word is entered, which is its arc
+pub leaf-arc-entered : (d : List ℕ) (r : ℕ) → isLeaf d r ≡ true → (arcEntered d r ≡ arcWord d (r - 1)) × (arcEntered d r ≡ leafArc d r)
+leaf-arc-entered d zero leaf = absurd (true≢false (sym leaf))
+leaf-arc-entered d (suc k) leaf = let back : suc k - 1 ≡ k = omega arith in rw (back, leaf) (refl, refl)
 
--- an inner region's has none
-pub inner-row : (d : List ℕ) (r : ℕ) → isLeaf d r ≡ false → arcInRow d r ≡ noArc
-inner-row d zero inner = refl
-inner-row d (suc k) inner = rw inner
-
--- the regions below r have their rows
-pub record EnteringRows (d rows : List ℕ) (r : ℕ) : Type 0 where
-  pub within : r ≤ regionCount d
-  pub all : length rows ≡ 2 * regionCount d
-  pub arcs : Entered (λ q. 2 * q) (arcInRow d) rows r
-  pub heights : Entered (λ q. 2 * q + 1) (height d) rows r
-
-pub rows-more : {d rows : List ℕ} {r a h : ℕ} → EnteringRows d rows r → r < regionCount d → a ≡ arcInRow d r → h ≡ height d r
-    → EnteringRows d (set (set rows (2 * r) a) (2 * r + 1) h) (r + 1)
-rows-more {d} {rows} {r} {a} {h} A l ea eh = record {
-  within = omega arith;
-  all = simp length-set (A .all);
-  arcs = entered-kept (2 * r + 1) h (λ j m. omega arith) (entered-more a (λ j m. omega arith) (omega (arith, A .all)) ea (A .arcs));
-  heights =
-      entered-more h (λ j m. omega arith) (simp length-set (omega (arith, A .all))) eh (entered-kept (2 * r) a (λ j m. omega arith) (A .heights));
-}
-
-pub rows-all : {d rows : List ℕ} {r : ℕ} → EnteringRows d rows r → regionCount d ≤ r → RowsEntered d rows
-rows-all A l = record { all = A .all; arcs = λ q h. A .arcs .entry q (omega arith); heights = λ q h. A .heights .entry q (omega arith) }
+-- for an inner region none is
+pub inner-arc-entered : (d : List ℕ) (r : ℕ) → isLeaf d r ≡ false → arcEntered d r ≡ noArc
+inner-arc-entered d zero inner = refl
+inner-arc-entered d (suc k) inner = rw inner

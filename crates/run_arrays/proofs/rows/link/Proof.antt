@@ -19,21 +19,21 @@ Start = tie.Start Inv-loop μ-loop
 abbrev In-loop : Type 0
 In-loop = tie.In-loop Inv-loop μ-loop
 
-abbrev After-tail-of : Type 0
-After-tail-of = tie.After-tail-of Inv-loop μ-loop
+abbrev After-field : Type 0
+After-field = tie.After-field Inv-loop μ-loop
 
-abbrev turn : After-tail-of → In-loop
+abbrev turn : After-field → In-loop
 turn c = search needs
 
 -- the tail of the arc is one of the nodes
-tail-in : (c : After-tail-of) → c .tail-of .result .0 < length (turn c .before .loop .firsts)
-tail-in c = omega (arith, c .tail-of .ensures, linking-tail (turn c .before .loop .inv) (turn c .loop-test .taken))
+tail-in : (c : After-field) → c .field .result < length (turn c .before .loop .firsts)
+tail-in c = omega (arith, c .field .ensures, linking-tail (turn c .before .loop .inv) (turn c .loop-test .taken))
 
 loop-again : tie.Need-loop-again Inv-loop μ-loop
 loop-again c =
-    let tail : After-tail-of = search needs in
+    let tail : After-field = search needs in
     let pass = turn tail in
-    rw (c .before .before .set-field .ensures) (linking-step (pass .before .loop .inv) (pass .loop-test .taken) (tail .tail-of .ensures))
+    rw (c .before .before .set-field .ensures) (linking-step (pass .before .loop .inv) (pass .loop-test .taken) (tail .field .ensures))
 
 pub link-spec : {M : Type 1} → statement M
 link-spec =

@@ -8,14 +8,16 @@ use mathlib.Core.Bool.{false}
 use mathlib.Core.Path.{_≡_}
 use mathlib.Core.List.{List}
 use native.Mathlib.Omega.{arith}
-use lib.ListN.{take}
 use Rattle.sheet.specs.Words.{top}
-use Rattle.procedure.specs.Graph.{Graph, arcs}
+use Rattle.procedure.specs.Graph.{Graph}
 use Rattle.procedure.specs.Division.{Division, isLeaf}
-use Rattle.procedure.specs.Procedure.{alive, process}
+use Rattle.procedure.specs.State.{State}
+use Rattle.procedure.specs.Procedure.{countInner, alive, process}
 use Rattle.run_arrays.specs.Trees.{SomeQueue}
-use Rattle.run_arrays.specs.Fixed.{Fixed, fixedOf, heightEntry}
-use Rattle.run_arrays.specs.States.{stateIn, Processing}
+use Rattle.indices.specs.Columns.{at}
+use Rattle.run_arrays.specs.Sections.{heightSection}
+use Rattle.run_arrays.specs.States.{Represents, Workable}
+use Rattle.run_engine.proofs.leaf.Leaves.{region-fits}
 use Rattle.run_engine.proofs.region.Loops.{
   Looping,
   turn,
@@ -46,11 +48,11 @@ use Rattle.run_engine.proofs.region.+process_inner+process_region.Lts-p
 use Rattle.run_engine.proofs.region.process_region.Reads as process-region
 use Rattle.run_engine.proofs.region.process_region.Kinds as region-kinds
 use Rattle.run_engine.proofs.region.+process_inner+process_region.Lts-process_region as region-lts
-use Rattle.run_arrays.proofs.slices.arc_of.Reads as arc-of
+use Rattle.run_arrays.proofs.arrays.arc_of.Reads as arc-of
 use Rattle.run_counts.proofs.count_inner.Reads as count-inner
 use Rattle.run_engine.proofs.region.key_of.Reads as key-of
 use Rattle.run_engine.proofs.leaf.process_leaf.Reads as process-leaf
-use Rattle.run_arrays.proofs.slices.span_of.Reads as span-of
+use Rattle.run_arrays.proofs.arrays.span_of.Reads as span-of
 use Rattle.run_queue.proofs.min_item.Reads as min-item
 use Rattle.run_queue.proofs.min_key.Reads as min-key
 use Rattle.run_queue.proofs.write.Reads as write
@@ -58,24 +60,24 @@ use Rattle.run_engine.proofs.region.+process_inner+process_region.{stat
 use Rattle.run_engine.proofs.region.+process_inner+process_region.Tie.{close}
 
 -- THE MEASURES, of the regions' rows and the region's number
-abbrev μ-inner : Measures 10 inner-kinds.ps ℕ
-μ-inner κs a = heightEntry (a .1 .1 .1 .1 .1 .0 .now) (a .1 .1 .1 .1 .1 .1 .1 .1 .1 .1 .0 .0) * 2
+abbrev μ-inner : Measures 4 inner-kinds.ps ℕ
+μ-inner κs a = at (heightSection (a .1 .0 .now)) (a .1 .1 .1 .1 .0 .0) * 2
 
-abbrev μ-region : Measures 10 region-kinds.ps ℕ
-μ-region κs a = heightEntry (a .1 .1 .1 .1 .1 .0 .now) (a .1 .1 .1 .1 .1 .1 .1 .1 .1 .1 .0 .0) * 2 + 1
+abbrev μ-region : Measures 4 region-kinds.ps ℕ
+μ-region κs a = at (heightSection (a .1 .0 .now)) (a .1 .1 .1 .1 .0 .0) * 2 + 1
 
 -- what is asked at measure t, and of the calls below it
-abbrev inner-at : ℕ → In 10 inner-kinds.ps
-inner-at t = and 10 inner-kinds.ps (is 10 inner-kinds.ps μ-inner t) process-inner.Pre
+abbrev inner-at : ℕ → In 4 inner-kinds.ps
+inner-at t = and 4 inner-kinds.ps (is 4 inner-kinds.ps μ-inner t) process-inner.Pre
 
-abbrev inner-below : ℕ → In 10 inner-kinds.ps
-inner-below t = and 10 inner-kinds.ps (falls 10 inner-kinds.ps _<_ μ-inner t) process-inner.Pre
+abbrev inner-below : ℕ → In 4 inner-kinds.ps
+inner-below t = and 4 inner-kinds.ps (falls 4 inner-kinds.ps _<_ μ-inner t) process-inner.Pre
 
-abbrev region-at : ℕ → In 10 region-kinds.ps
-region-at t = and 10 region-kinds.ps (is 10 region-kinds.ps μ-region t) process-region.Pre
+abbrev region-at : ℕ → In 4 region-kinds.ps
+region-at t = and 4 region-kinds.ps (is 4 region-kinds.ps μ-region t) process-region.Pre
 
-abbrev region-below : ℕ → In 10 region-kinds.ps
-region-below t = and 10 region-kinds.ps (falls 10 region-kinds.ps _<_ μ-region t) process-region.Pre
+abbrev region-below : ℕ → In 4 region-kinds.ps
+region-below t = and 4 region-kinds.ps (falls 4 region-kinds.ps _<_ μ-region t) process-region.Pre
 
 abbrev inner-heard : ℕ → inner-lts.Claims
 inner-heard t = (
@@ -99,19 +101,17 @@ abbrev region-heard : ℕ → region-lts.Claims
 region-heard t = (arc-of.Asked, arc-of.Learnt, inner-below t, process-inner.Post, process-leaf.Asked, process-leaf.Learnt)
 
 abbrev Inv-loop : inner-lts.InvT-loop
-Inv-loop rows arcs firsts lengths spans regions labels₀ predecessors₀ own₀ winners₀ r left₀ n₀ labels predecessors own winners left n =
-    (g : Graph) (d : Division) (keys₀ : List ℕ) → let t = fixedOf rows arcs firsts lengths spans regions in
-    let s₀ = stateIn g labels₀ predecessors₀ own₀ keys₀ n₀ in
-    Framed g d t (r .0) left₀ s₀ winners₀
-    → ((keys : List ℕ) × Looping g d t (alive g d (r .0)) (turn g d t (r .0)) left₀ s₀ left (stateIn g labels predecessors own keys n) winners)
+Inv-loop fixed weights state₀ winners₀ r left₀ n₀ state winners left n =
+    (g : Graph) (d : Division) (spans : List ℕ) (s₀ : State) → Framed g d spans fixed weights (r .0) left₀ s₀ state₀ winners₀ n₀
+    → ((s : State) × Looping g d spans fixed weights (alive g d (r .0)) (turn g d spans (r .0)) left₀ s₀ left s state winners n)
 
 abbrev μ-loop : inner-lts.MeasureT-loop
-μ-loop rows arcs firsts lengths spans regions labels₀ predecessors₀ own₀ winners₀ r left₀ n₀ labels predecessors own winners left n = left
+μ-loop fixed weights state₀ winners₀ r left₀ n₀ state winners left n = left
 
 -- `process_inner`
 module _ (t : ℕ) where
   -- a place or a need of it, at measure t
-  abbrev here : (inner-lts.Claims → In 10 inner-kinds.ps → Out 10 inner-kinds.ps inner-kinds.r → inner-lts.InvT-loop → inner-lts.MeasureT-loop → Type 0)
+  abbrev here : (inner-lts.Claims → In 4 inner-kinds.ps → Out 4 inner-kinds.ps inner-kinds.r → inner-lts.InvT-loop → inner-lts.MeasureT-loop → Type 0)
       → Type 0
   here P = P (inner-heard t) (inner-at t) process-inner.Post Inv-loop μ-loop
 
@@ -143,128 +143,141 @@ module _ (t : ℕ) where
   abbrev looped : Found → At-loop
   looped c = search needs
 
-  abbrev fixed : Start → Fixed
-  fixed c = let a = c .args in fixedOf (a .rows .now) (a .arcs .now) (a .firsts .now) (a .lengths .now) (a .spans .now) (a .regions .now)
-
   -- THE REGION IS COUNTED, and its span known
-  opened : (c : Begun) {g : Graph} {d : Division} {keys : List ℕ} → let start = entry c in let a = start .args in
-      let s = stateIn g (a .labels .now) (a .predecessors .now) (a .own .now) keys (a .c) in
-      Processing g d (fixed start) s (a .winners .now) (a .r .0) (process g d (a .spans .now) (a .r .0) s) → isLeaf d (a .r .0) ≡ false
-      → Opened g d (fixed start) (take (g .nodes) (a .labels .now)) (take (g .nodes) (a .predecessors .now)) (take (arcs g) (a .own .now)) keys
-      (a .winners .now) (a .c) (a .r .0) (c .before .span-of .result) (c .count-inner .result)
-  opened c P inner = record { processing = P; inner = inner; span = c .before .span-of .ensures; counted = c .count-inner .ensures }
+  opened : (c : Begun) {g : Graph} {d : Division} {spans : List ℕ} {s : State} → let a = entry c .args in
+      Represents g d spans s (a .fixed .now) (a .weights .now) (a .state .now) (a .winners .now) (a .c) → Workable d (a .r .0) (process g d spans (a .r .0) s)
+      → isLeaf d (a .r .0) ≡ false
+      → Opened g d spans s (a .fixed .now) (a .weights .now) (a .state .now) (a .winners .now) (a .c) (a .r .0) (c .before .span-of .result)
+      (c .count-inner .result)
+  opened c R W inner = record {
+    represents = R;
+    workable = W;
+    inner = inner;
+    span = c .before .span-of .ensures;
+    counted = c .count-inner .ensures;
+  }
 
   -- THE LOOP begins framed
-  abbrev Frame : Begun → Graph → Division → List ℕ → Type 0
-  Frame c g d keys =
-      let start = entry c in
-      let a = start .args in
-      Framed g d (fixed start) (a .r .0) (c .before .span-of .result)
-      (stateIn g (a .labels .now) (a .predecessors .now) (a .own .now) keys (c .count-inner .result)) (a .winners .now)
+  abbrev Frame : Begun → Graph → Division → List ℕ → State → Type 0
+  Frame c g d spans s₀ =
+      let a = entry c .args in
+      Framed g d spans (a .fixed .now) (a .weights .now) (a .r .0) (c .before .span-of .result) s₀ (a .state .now) (a .winners .now) (c .count-inner .result)
 
-  frame : (c : Begun) → let pre = entry c .pre .1 in Frame c (pre .graph) (pre .division) (pre .keys)
-  frame c = let pre = entry c .pre .1 in framed (opened c (pre .processing) (pre .inner))
+  frame : (c : Begun) → let asks = entry c .pre .1 .region in
+      Frame c (asks .graph) (asks .division) (asks .spans) (countInner (asks .graph) (asks .division) (asks .current))
+  frame c = let pre = entry c .pre .1 in framed (opened c (pre .region .represents) (pre .region .workable) (pre .inner))
 
   -- the queues are valid in every turn
-  queues : (c : At-loop) → let a = entry (c .before) .args in SomeQueue (a .rows .now) (c .loop .winners) (a .r .0)
+  queues : (c : At-loop) → let a = entry (c .before) .args in SomeQueue (a .fixed .now) (c .loop .winners) (a .r .0)
   queues c =
-      let pre = entry (c .before) .pre .1 in
-      let L = c .loop .inv (pre .graph) (pre .division) (pre .keys) (frame (c .before)) in
-      record { division = pre .division; keys = L .0; queues = L .1 .represents .queues; inside = pre .processing .in-range }
+      let asks = entry (c .before) .pre .1 .region in
+      let L = c .loop .inv (asks .graph) (asks .division) (asks .spans) _ (frame (c .before)) in
+      record { division = asks .division; keys = L .0 .queues .keys; queues = L .1 .represents .queues .keys .valid; inside = asks .workable .in-range }
 
   -- A TURN begins where one is left to make
   some-left : (c : Found) → 0 < looped c .loop .left
   some-left c = search needs
 
-  -- and its first-chosen child is found, for any graph and division that the loop began with
-  abbrev Turn : Found → Graph → Division → List ℕ → List ℕ → Type 0
-  Turn c g d keys₀ keys =
+  -- and its first-chosen child is found, for any graph, division and state that the loop began with
+  abbrev Turn : Found → Graph → Division → List ℕ → State → State → Type 0
+  Turn c g d spans s₀ s =
       let loop = looped c .loop in
       let begun = looped c .before in
-      let start = entry begun in
-      let a = start .args in
-      Turning g d (fixed start) (a .r .0) (begun .before .span-of .result)
-      (stateIn g (a .labels .now) (a .predecessors .now) (a .own .now) keys₀ (begun .count-inner .result)) (a .winners .now) (loop .left)
-      (stateIn g (loop .labels) (loop .predecessors) (loop .own) keys (loop .n)) (loop .winners) (c .min-item .result .0)
+      let a = entry begun .args in
+      Turning g d spans (a .fixed .now) (a .weights .now) (a .r .0) (begun .before .span-of .result) s₀ (a .state .now) (a .winners .now)
+      (begun .count-inner .result) (loop .left) s (loop .state) (loop .winners) (loop .n) (c .min-item .result .0)
 
-  turning : (c : Found) (g : Graph) (d : Division) (keys₀ : List ℕ) → Frame (looped c .before) g d keys₀ → ((keys : List ℕ) × Turn c g d keys₀ keys)
+  turning : (c : Found) (g : Graph) (d : Division) (spans : List ℕ) (s₀ : State) → Frame (looped c .before) g d spans s₀
+      → ((s : State) × Turn c g d spans s₀ s)
   unfolding top
-  turning c g d keys₀ F =
-      let loop = looped c .loop in
-      let L = loop .inv g d keys₀ F in
+  turning c g d spans s₀ F =
+      let L = looped c .loop .inv g d spans s₀ F in
+      let q = L .0 .queues in
+      let valid = L .1 .represents .queues .keys .valid in
       let least : Smallest = search needs in
-      let key = least .min-key .ensures d (L .0) (L .1 .represents .queues) (F .in-range) (F .inner) (take (arcs g) (loop .own)) (loop .n .updates) in (
+      let key = least .min-key .ensures d (q .keys) valid (F .in-range) (F .inner) (q .own) (q .updates) in (
         L .0,
         record {
           frame = F;
           loop = L .1;
           positive = some-left c;
           some = omega (arith, key);
-          item = c .min-item .ensures d (L .0) (L .1 .represents .queues) (F .in-range);
+          item = c .min-item .ensures d (q .keys) valid (F .in-range);
         },
       )
 
   -- and for those that are asked for
-  asked : (c : Found) → let pre = entry (looped c .before) .pre .1 in (keys : List ℕ) × Turn c (pre .graph) (pre .division) (pre .keys) keys
-  asked c = let pre = entry (looped c .before) .pre .1 in turning c (pre .graph) (pre .division) (pre .keys) (frame (looped c .before))
+  asked : (c : Found) → let asks = entry (looped c .before) .pre .1 .region in
+      (s : State) × Turn c (asks .graph) (asks .division) (asks .spans) (countInner (asks .graph) (asks .division) (asks .current)) s
+  asked c = let asks = entry (looped c .before) .pre .1 .region in turning c (asks .graph) (asks .division) (asks .spans) _ (frame (looped c .before))
 
   returns : here inner-lts.Need-returns
   unfolding top
-  returns c g d keys P inner =
+  returns c g d spans s R W inner =
       let loop : At-loop = search needs in
-      let O = opened (loop .before) P inner in
-      let L = loop .loop .inv g d keys (framed O) in
-      let key = c .before .min-key .ensures d (L .0) (L .1 .represents .queues) (P .in-range) inner _ _ in
-      (L .0, turns-worked O (turns-none (framed O) (L .1) key (c .if1 .taken)))
+      let O = opened (loop .before) R W inner in
+      let L = loop .loop .inv g d spans _ (framed O) in
+      let q = L .0 .queues in
+      let key = c .before .min-key .ensures d (q .keys) (L .1 .represents .queues .keys .valid) (W .in-range) inner (q .own) (q .updates) in
+      turns-worked O (turns-none _ (L .1) key (c .if1 .taken))
 
   process-region-requires : here inner-lts.Need-process-region-requires
   process-region-requires c κs =
       let found : Found = search needs in
       let pre = entry (looped found .before) .pre in
-      let T = asked found in
-      (omega (arith, pre .0, child-lower (T .1)), record { graph = pre .1 .graph; division = pre .1 .division; keys = T .0; processing = child-asks (T .1) })
+      let T = asked found in (
+        omega (arith, pre .0, child-lower (T .1)),
+        record {
+          graph = pre .1 .region .graph;
+          division = pre .1 .region .division;
+          spans = pre .1 .region .spans;
+          current = T .0;
+          represents = T .1 .loop .represents;
+          workable = child-asks (T .1);
+        },
+      )
 
   key-of-requires : here inner-lts.Need-key-of-requires
   key-of-requires c κs =
       let found : Found = search needs in
-      let pre = entry (looped found .before) .pre .1 in
-      let T = asked found in
-      let W = c .before .before .process-region .ensures (pre .graph) (pre .division) (T .0) (child-asks (T .1)) in
-      record { count = arcs (pre .graph); division = pre .division; keys = W .0; keyed = key-asks (T .1) (W .1) }
+      let worked : Worked = search needs in
+      let asks = entry (looped found .before) .pre .1 .region in
+      let T = asked found .1 in
+      let R = worked .process-region .ensures (asks .graph) (asks .division) (asks .spans) _ (T .loop .represents) (child-asks T) in
+      record { graph = asks .graph; division = asks .division; queues = _; count = _; holds = R .queues; keyed = key-asks T }
 
   write-requires : here inner-lts.Need-write-requires
   write-requires c κs =
       let found : Found = search needs in
       let worked : Worked = search needs in
-      let pre = entry (looped found .before) .pre .1 in
-      let T = asked found in
-      let W = worked .process-region .ensures (pre .graph) (pre .division) (T .0) (child-asks (T .1)) in
+      let asks = entry (looped found .before) .pre .1 .region in
+      let T = asked found .1 in
+      let R = worked .process-region .ensures (asks .graph) (asks .division) (asks .spans) _ (T .loop .represents) (child-asks T) in
       record {
-        queue = record { division = pre .division; keys = W .0; queues = W .1 .represents .queues; inside = child-in (T .1) };
-        positive = child-positive (T .1);
+        queue = record { division = asks .division; keys = _; queues = R .queues .keys .valid; inside = child-in T };
+        positive = child-positive T;
       }
 
   loop-again : here inner-lts.Need-loop-again
-  loop-again c g d keys F =
+  loop-again c g d spans s₀ F =
       let found : Found = search needs in
       let worked : Worked = search needs in
       let rekeyed : Rekeyed = search needs in
-      let T = turning found g d keys F in
-      let W = worked .process-region .ensures g d (T .0) (child-asks (T .1)) in
-      let new = rekeyed .key-of .ensures (arcs g) d (W .0) _ (key-asks (T .1) (W .1)) in
-      let valid = c .write .ensures d (W .0) (W .1 .represents .queues) (child-in (T .1)) in
-      (_, turned (T .1) (W .1) new valid)
+      let T = turning found g d spans s₀ F .1 in
+      let R = worked .process-region .ensures g d spans _ (T .loop .represents) (child-asks T) in
+      let new = rekeyed .key-of .ensures g d _ _ (R .queues) (key-asks T) in
+      let valid = c .write .ensures d _ (R .queues .keys .valid) (child-in T) in
+      (_, turned T R new valid)
 
   returns-2 : here inner-lts.Need-returns-2
-  returns-2 c g d keys P inner =
-      let O = opened (c .before .before) P inner in
-      let L = c .before .loop .inv g d keys (framed O) in
-      (L .0, turns-worked O (loop-spent (L .1) (c .loop-test .left)))
+  returns-2 c g d spans s R W inner =
+      let O = opened (c .before .before) R W inner in
+      turns-worked O (loop-spent (c .before .loop .inv g d spans _ (framed O) .1) (c .loop-test .left))
 
 -- `process_region`
 module _ (t : ℕ) where
   -- a place or a need of it, at measure t
-  abbrev there : (region-lts.Claims → In 10 region-kinds.ps → Out 10 region-kinds.ps region-kinds.r → Type 0) → Type 0
+  abbrev there : (region-lts.Claims → In 4 region-kinds.ps → Out 4 region-kinds.ps region-kinds.r → Type 0) → Type 0
   there P = P (region-heard t) (region-at t) process-region.Post
 
   -- THE PLACES: the entry, the region's row read, and whether it is inner or a leaf
@@ -285,54 +298,52 @@ module _ (t : ℕ) where
       let start : Region = search needs in
       let row : Row = search needs in
       let inner : Inner = search needs in
-      let pre = start .pre .1 in (
+      let asks = start .pre .1 in (
         omega (arith, start .pre .0),
-        record {
-          graph = pre .graph;
-          division = pre .division;
-          keys = pre .keys;
-          processing = pre .processing;
-          inner = region-inner (pre .processing) (row .arc-of .ensures) (inner .if1 .taken);
-        },
+        record { region = asks; inner = region-inner (asks .represents) (asks .workable) (row .arc-of .ensures) (inner .if1 .taken) },
       )
 
   inner-returns : there region-lts.Need-returns
-  inner-returns c g d keys P =
+  inner-returns c g d spans s R W =
       let row : Row = search needs in
       let inner : Inner = search needs in
-      c .process-inner .ensures g d keys P (region-inner P (row .arc-of .ensures) (inner .if1 .taken))
+      c .process-inner .ensures g d spans s R W (region-inner R W (row .arc-of .ensures) (inner .if1 .taken))
 
   process-leaf-requires : there region-lts.Need-process-leaf-requires
   process-leaf-requires c κs =
       let start : Region = search needs in
       let row : Row = search needs in
       let leaf : Leaf = search needs in
-      let pre = start .pre .1 in
+      let asks = start .pre .1 in
       record {
-        graph = pre .graph;
-        division = pre .division;
-        spans = _;
-        keys = pre .keys;
-        processing = leaf-asks (pre .processing) (row .arc-of .ensures) (leaf .if1 .left);
-        leaf = region-leaf (pre .processing) (row .arc-of .ensures) (leaf .if1 .left);
+        graph = asks .graph;
+        division = asks .division;
+        spans = asks .spans;
+        current = asks .current;
+        represents = asks .represents;
+        workable = leaf-asks (asks .represents) (asks .workable) (row .arc-of .ensures) (leaf .if1 .left);
+        leaf = region-leaf (asks .represents) (asks .workable) (row .arc-of .ensures) (leaf .if1 .left);
       }
 
   leaf-returns : there region-lts.Need-returns-2
-  leaf-returns c g d keys P =
+  leaf-returns c g d spans s R W =
       let row : Row = search needs in
       let leaf : Leaf = search needs in
       let arc = row .arc-of .ensures in
       let some = leaf .if1 .left in
-      let W = c .process-leaf .ensures g d _ keys (leaf-asks P arc some) (region-leaf P arc some) in
-      (W .0, leaf-worked P arc some (W .1))
+      leaf-worked R W arc some (c .process-leaf .ensures g d spans s R (leaf-asks R W arc some) (region-leaf R W arc some))
 
 pub +process-inner+process-region-spec : {M : Type 1} → statement M
 +process-inner+process-region-spec =
     close μ-inner μ-region
     (λ t. inner-lts.spec (inner-heard t) (inner-at t) process-inner.Post Inv-loop μ-loop
-    (λ c κs. let start : Start t = search needs in span-asks (start .pre .1 .processing) (start .pre .1 .inner))
-    (λ c κs. let start : Start t = search needs in inner-count-fits (start .pre .1 .processing) (start .pre .1 .inner))
-    (λ c g d keys F. (keys, framed-first F))
+    (λ c κs. let start : Start t = search needs in
+    let pre = start .pre .1 in
+    span-asks (pre .region .represents) (pre .region .workable) (pre .inner))
+    (λ c κs. let start : Start t = search needs in
+    let pre = start .pre .1 in
+    inner-count-fits (pre .region .represents) (pre .region .workable) (pre .inner))
+    (λ c g d spans s F. (s, framed-first F))
     (λ c κs. queues t (search needs))
     (returns t)
     (λ c κs. queues t (search needs))
@@ -344,7 +355,7 @@ pub +process-inner+process-region-spec : {M : Type 1} → statement M
     (loop-again t)
     (returns-2 t))
     λ t. region-lts.spec (region-heard t) (region-at t) process-region.Post
-    (λ c κs. search needs)
+    (λ c κs. let start : Region t = search needs in region-fits (start .pre .1 .represents) (start .pre .1 .workable))
     (process-inner-requires t)
     (inner-returns t)
     (process-leaf-requires t)
