@@ -6,7 +6,8 @@ use mathlib.Core.Path.{_≡_, refl, sym, ap, _∙_}
 use native.Mathlib.Omega.{arith}
 use lib.Dec.{eqb}
 use Rattle.indices.proofs.Steps.{by-truth}
-use Rattle.answer.specs.Answer.{Refusal, input, numberOf, Answer, accepted, refused, Case, lowest, numbered}
+use Rattle.answer.specs.Answer.{Refusal, input, numberOf, Answer, accepted, refused, Case, lowest}
+use Rattle.answer.specs.Inner.{numbered}
 
 -- the cases of the second list are looked at where none of the first applies
 pub lowest-append : (xs ys : List Case) (answer : Answer) → lowest (xs ++ ys) answer ≡ lowest xs (lowest ys answer)

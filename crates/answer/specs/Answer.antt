@@ -1,5 +1,5 @@
 -- What a call answers, in the paper's terms. Definitions.
-use Prim.Native.Nat.{ℕ, zero, suc}
+use Prim.Native.Nat.{ℕ}
 use mathlib.Core.List.{List, [], _∷_}
 use mathlib.Core.Bool.{Bool, true, false}
 use Rattle.indices.specs.Steps.{if_then_else_}
@@ -45,11 +45,6 @@ r when b = record { refusal = r; applies = b }
 abbrev pub lowest : List Case → Answer → Answer
 lowest [] answer = answer
 lowest (c ∷ cs) answer = if c .applies then refused (c .refusal) else lowest cs answer
-
--- the answer for the number of a refusal from the input, 0 standing for none
-abbrev pub numbered : ℕ → Answer
-numbered zero = accepted
-numbered (suc n) = refused (input (suc n))
 
 -- the answers that are refusals, and those that are routes
 abbrev pub isRefused : Answer → Bool

@@ -14,7 +14,7 @@ codeOf noRoute = 259
 codeOf (route arcs) = 65536 + arcs
 codeOf (refused refusal) = numberOf refusal
 
--- the numbers under "From the state"; all others stand under "From the input"
+-- the numbers under "From the state"; the others that a call answers stand under "From the input"
 abbrev pub fromState : ℕ → Bool
 fromState n = eqb n 21 || eqb n 22 || eqb n 23 || eqb n 24 || eqb n 25
 
@@ -27,12 +27,3 @@ answerOf code =
     else if eqb code 258 then ended
     else if eqb code 259 then noRoute
     else route (code - 65536)
-
--- how many arcs an answer counts
-abbrev pub arcsOf : Answer → ℕ
-arcsOf accepted = 0
-arcsOf paused = 0
-arcsOf ended = 0
-arcsOf noRoute = 0
-arcsOf (route arcs) = arcs
-arcsOf (refused refusal) = 0

@@ -1,3 +1,4 @@
 pub mod Answer
 pub mod Said
 pub mod Codes
+pub mod Inner

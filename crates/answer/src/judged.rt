@@ -1,6 +1,6 @@
 // What the judge answers.
 ghost use mathlib.Core.Path.{_≡_};
-ghost use Rattle.answer.specs.Answer.{numbered};
+ghost use Rattle.answer.specs.Inner.{numbered};
 ghost use Rattle.answer.specs.Said.{judgeSaid};
 use crate::Fault;
 

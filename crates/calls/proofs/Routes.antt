@@ -1,13 +1,13 @@
 -- 24 as it is computed agrees with the paper's, and what the route reader's answer says of the table follows.
-use Prim.Native.Nat.{ℕ, _≤_, _<_}
+use Prim.Native.Nat.{ℕ, _<_}
 use native.Mathlib.Omega.{arith}
 use mathlib.Core.Bool.{Bool, true, false, cond, true≢false, not, _&&_}
 use mathlib.Core.Path.{_≡_, refl, sym, ap, _∙_}
 use mathlib.Core.Logic.{_≢_, _↔_}
 use mathlib.Core.List.{List, [], _∷_}
-use borrow.Author.Tests.{leb-true, not-false}
+use borrow.Author.Tests.{not-false}
 use lib.ListN.{length}
-use lib.Dec.{ltb, leb, eqb}
+use lib.Dec.{ltb, eqb}
 use Rattle.indices.specs.Steps.{if_then_else_}
 use Rattle.indices.proofs.Tests.{and-left, and-right}
 use Rattle.sheet.specs.Words.{top}
@@ -38,26 +38,46 @@ answered-rank (route n) e = omega arith
 answered-rank noRoute e = omega arith
 answered-rank (refused r) e = absurd (true≢false e)
 
--- every refusal of the list is numbered 14 or less
-abbrev within14 : List Case → Bool
-within14 [] = true
-within14 (c ∷ cs) = leb (numberOf (c .refusal)) 14 && within14 cs
+-- the input is at fault
+abbrev ofInput : Refusal → Bool
+ofInput (input _) = true
+ofInput (state _) = false
 
--- where the answer comes later, no case of such a list applies
-within-clear : (cs : List Case) (a : Answer) → within14 cs ≡ true → 14 < rank (lowest cs a) → lowest cs accepted ≡ accepted
-within-clear [] a i l = refl
-within-clear (c ∷ cs) a i l =
-    let low = leb (numberOf (c .refusal)) 14 in
-    at (c .applies) (leb-true _ _ (and-left low _ i)) (within-clear cs a (and-right low _ i)) l
+abbrev byInput : Answer → Bool
+byInput (refused r) = ofInput r
+byInput accepted = false
+byInput ended = false
+byInput paused = false
+byInput (route _) = false
+byInput noRoute = false
+
+answered-not : (a : Answer) → isRefused a ≡ false → byInput a ≡ false
+answered-not accepted e = refl
+answered-not ended e = refl
+answered-not paused e = refl
+answered-not (route n) e = refl
+answered-not noRoute e = refl
+answered-not (refused r) e = absurd (true≢false e)
+
+-- every refusal of the list is of the input
+abbrev inputs : List Case → Bool
+inputs [] = true
+inputs (c ∷ cs) = ofInput (c .refusal) && inputs cs
+
+-- where the answer does not blame the input, no case of such a list applies
+inputs-clear : (cs : List Case) (a : Answer) → inputs cs ≡ true → byInput (lowest cs a) ≡ false → lowest cs accepted ≡ accepted
+inputs-clear [] a i l = refl
+inputs-clear (c ∷ cs) a i l =
+    by (c .applies) (and-left (ofInput (c .refusal)) _ i) (inputs-clear cs a (and-right (ofInput (c .refusal)) _ i)) l
   where
-    at : (t : Bool) → numberOf (c .refusal) ≤ 14 → (14 < rank (lowest cs a) → lowest cs accepted ≡ accepted)
-        → 14 < rank (cond t (refused (c .refusal)) (lowest cs a)) → cond t (refused (c .refusal)) (lowest cs accepted) ≡ accepted
-    at true low rest l = absurd (omega arith)
-    at false low rest l = rest l
+    by : (t : Bool) → ofInput (c .refusal) ≡ true → (byInput (lowest cs a) ≡ false → lowest cs accepted ≡ accepted)
+        → byInput (cond t (refused (c .refusal)) (lowest cs a)) ≡ false → cond t (refused (c .refusal)) (lowest cs accepted) ≡ accepted
+    by true mine rest l = absurd (true≢false (sym mine ∙ l))
+    by false mine rest l = rest l
 
-sheet-within : (b : List ℕ) → within14 (refusals b) ≡ true
+sheet-inputs : (b : List ℕ) → inputs (refusals b) ≡ true
 unfolding refusals formRefusals countRefusals arcRefusals divisionRefusals
-sheet-within b = refl
+sheet-inputs b = refl
 
 -- the refusals of a route, those of the sheet left out
 unfoldable later : Bool → Bool → Bool → Bool → Bool → Answer → Answer
@@ -120,30 +140,30 @@ module _ (b table : List ℕ) where
     -- a search for a route does not answer 24
     found-past : rank (foundRoute b table node buffer) ≢ 24
     unfolding foundRoute
-    found-past = at (eqb (labelIn table node) top) (ltb (length buffer) (length (routeTo b table node)))
+    found-past = by (eqb (labelIn table node) top) (ltb (length buffer) (length (routeTo b table node)))
       where
-        at : (u s : Bool) → rank (if u then noRoute else cond s (refused (state 25)) (route (length (routeTo b table node)))) ≢ 24
-        at true s e = omega arith
-        at false true e = omega arith
-        at false false e = omega arith
+        by : (u s : Bool) → rank (if u then noRoute else cond s (refused (state 25)) (route (length (routeTo b table node)))) ≢ 24
+        by true s e = omega arith
+        by false true e = omega arith
+        by false false e = omega arith
 
-    -- the answer comes after 14: the sheet is accepted
-    sheet-accepted : 14 < rank (routeAnswer b table node buffer) → Accepted b
+    -- the answer does not blame the input: the sheet is accepted
+    sheet-accepted : byInput (routeAnswer b table node buffer) ≡ false → Accepted b
     unfolding judgement
-    sheet-accepted p = within-clear (refusals b) _ (sheet-within b) (rw answer-staged at p)
+    sheet-accepted p = inputs-clear (refusals b) _ (sheet-inputs b) (rw answer-staged at p)
 
-    past-right : 24 < rank (routeAnswer b table node buffer) → ShortestTable b table
-    past-right p =
-        let ok = sheet-accepted (omega arith) in
+    past-right : byInput (routeAnswer b table node buffer) ≡ false → 24 < rank (routeAnswer b table node buffer) → ShortestTable b table
+    past-right i p =
+        let ok = sheet-accepted i in
         shortest-agrees ok .0 (later-past _ _ _ _ _ _ (rw (as-later ok) at p))
 
     -- What the answer says of the table holds of it.
     pub table-known : TableKnown b table (routeAnswer b table node buffer)
     table-known = record {
       wrong = λ e s.
-          let ok = sheet-accepted (rw e (omega arith)) in
+          let ok = sheet-accepted (ap byInput e) in
           let applies = later-24 _ _ _ _ _ _ (ap rank (sym (as-later ok) ∙ e)) found-past in
           true≢false (sym applies ∙ shortest-agrees ok .1 s);
-      right = λ e. past-right (answered-rank (routeAnswer b table node buffer) e);
-      right-too = λ e. past-right (rw e (omega arith));
+      right = λ e. past-right (answered-not (routeAnswer b table node buffer) e) (answered-rank (routeAnswer b table node buffer) e);
+      right-too = λ e. past-right (ap byInput e) (rw e (omega arith));
     }

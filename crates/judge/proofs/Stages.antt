@@ -6,7 +6,8 @@ use mathlib.Core.Path.{_≡_, sym, ap, _∙_}
 use Rattle.sheet.specs.Limits.{mostNodes, mostArcs, mostRegionWords}
 use Rattle.sheet.specs.Words.{words}
 use Rattle.sheet.specs.Sections.{nodeCount, spanCount, arcCount, regionWords}
-use Rattle.answer.specs.Answer.{accepted, lowest, numbered}
+use Rattle.answer.specs.Answer.{accepted, lowest}
+use Rattle.answer.specs.Inner.{numbered}
 use Rattle.answer.proofs.Lowest.{lowest-append, lowest-clear, stage-stops, clear-of}
 use Rattle.judgement.specs.Form.{wrongSize, outOfOrder, bitSet}
 use Rattle.judgement.specs.Judgement.{formRefusals, countRefusals, arcRefusals, divisionRefusals, refusals, judgement}

@@ -3,7 +3,7 @@ ghost use mathlib.Core.Path.{_≡_};
 ghost use Prim.Native.Nat.{_<_};
 ghost use Rattle.sheet.specs.Words.{words};
 ghost use Rattle.sheet.specs.Inner.{Located};
-ghost use Rattle.answer.specs.Answer.{numbered};
+ghost use Rattle.answer.specs.Inner.{numbered};
 ghost use Rattle.judgement.specs.Form.{wrongSize, bitSet};
 ghost use Rattle.judgement.specs.Judgement.{judgement};
 ghost use Rattle.answer.specs.Said.{judgeSaid};

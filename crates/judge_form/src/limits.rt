@@ -2,7 +2,8 @@
 ghost use mathlib.Core.Path.{_≡_};
 ghost use Prim.Native.Nat.{_≤_, _<_};
 ghost use Rattle.sheet.specs.Inner.{Located};
-ghost use Rattle.answer.specs.Answer.{numbered, accepted, lowest};
+ghost use Rattle.answer.specs.Answer.{accepted, lowest};
+ghost use Rattle.answer.specs.Inner.{numbered};
 ghost use Rattle.judgement.specs.Form.{spansOutside, tooMany, nodesOutside, sourceOutside, spanOutside};
 ghost use Rattle.judgement.specs.Judgement.{countRefusals};
 ghost use Rattle.sheet.specs.Words.{words};

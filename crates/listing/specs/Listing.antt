@@ -1,8 +1,9 @@
 -- What `marks` prints, as bytes: the listing of an answer table, and a refusal. Definitions.
-use Prim.Native.Nat.{ℕ, zero, suc}
+use Prim.Native.Nat.{ℕ, zero, suc, _+_, _*_}
 use Prim.Native.String.{String}
 use mathlib.Core.List.{List, [], _++_}
 use lib.Dec.{eqb}
+use Rattle.sheet.specs.Limits.{mostNodes}
 use Rattle.indices.specs.Steps.{if_then_else_}
 use Rattle.sheet.specs.Words.{top}
 use Rattle.calls.specs.Tables.{statusIn, countIn, labelIn, predecessorIn}
@@ -43,9 +44,16 @@ module _ (table : List ℕ) where
 unfoldable pub listingOf : List ℕ → ℕ → List ℕ
 listingOf table n = statusLine table ++ nodeLines table n
 
--- No listing has more bytes: 107 in its first line and 25 in that of each of 1,024 nodes.
+-- No first line has more bytes, and no line of a node,
+abbrev pub mostStatusLine : ℕ
+mostStatusLine = 107
+
+abbrev pub mostNodeLine : ℕ
+mostNodeLine = 25
+
+-- and so no listing.
 abbrev pub mostListing : ℕ
-mostListing = 25707
+mostListing = mostStatusLine + mostNodeLine * mostNodes
 
 -- "A refusal prints `refused` and the number."
 unfoldable pub refusedLine : ℕ → List ℕ

@@ -11,7 +11,7 @@ ghost use Rattle.listing.specs.Listing.{listingOf, refusedLine};
 ghost use Rattle.listing.specs.Printed.{Filled};
 
 // No listing has more bytes, as specs/Listing.antt says.
-pub const MOST_LISTING: usize = 25707;
+pub const MOST_LISTING: usize = 107 + 25 * sheet::MOST_NODES as usize;
 
 // Writes the listing of a table of so many nodes to the front of the buffer, and returns how many bytes it has.
 pub fn write_listing(table: &[u32], nodes: usize, out: &mut [u8]) -> usize

@@ -3,7 +3,7 @@ ghost use Prim.Native.Nat.{_+_, _*_, _≤_};
 ghost use lib.ListN.{length};
 ghost use Rattle.calls.specs.Tables.{tableLength};
 ghost use Rattle.sheet.specs.Limits.{mostNodes};
-ghost use Rattle.listing.specs.Listing.{nodeLine, nodeLines};
+ghost use Rattle.listing.specs.Listing.{nodeLine, nodeLines, mostNodeLine};
 ghost use Rattle.listing.specs.Inner.{Room, Wrote};
 
 fn put_node_line(table: &[u32], v: usize, out: &mut [u8], from: usize) -> usize
@@ -19,7 +19,7 @@ fn put_node_line(table: &[u32], v: usize, out: &mut [u8], from: usize) -> usize
 
 // The lines of the first nodes.
 pub fn put_node_lines(table: &[u32], nodes: usize, out: &mut [u8], from: usize) -> usize
-    requires { ⌜ (tableLength nodes ≤ length (now table)) × (nodes ≤ mostNodes) × (from + 25 * nodes ≤ length (now out)) ⌝ }
+    requires { ⌜ (tableLength nodes ≤ length (now table)) × (nodes ≤ mostNodes) × (from + mostNodeLine * nodes ≤ length (now out)) ⌝ }
     ensures { λ r. ⌜ Wrote (now (out .entry)) from (nodeLines (now (table .entry)) nodes) (now (out .exit)) r ⌝ }
 {
     let mut next = from;

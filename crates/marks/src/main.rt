@@ -7,7 +7,7 @@ ghost use Rattle.sheet.specs.Limits.{mostNodes};
 use libc::STDIN_FILENO;
 
 // One word more than the longest sheet has: longer input is refused for its size, whatever follows.
-const ROOM: usize = 32832;
+const ROOM: usize = sheet::MOST_BYTES + 4;
 
 fn read_and_print(sheet: &mut [u8], table: &mut [u32], out: &mut [u8])
     requires { ⌜ (tableLength mostNodes ≤ length (now table)) × (mostListing ≤ length (now out)) ⌝ }

@@ -16,7 +16,7 @@ use Rattle.procedure.specs.Routes.{followed}
 use Rattle.procedure.proofs.OfSheet.{graph-nodes}
 use Rattle.calls.specs.Tables.{labelIn}
 use Rattle.calls.specs.Routes.{routeRefusals, routeTo, foundRoute, routeAnswer}
-use Rattle.answer.specs.Codes.{arcsOf}
+use Rattle.answer.specs.Inner.{arcsOf}
 
 -- followed back for n steps, at most n arcs are met
 followed-within : (g : Graph) (predecessors : List ℕ) (n v : ℕ) → length (followed g predecessors n v) ≤ n

@@ -11,11 +11,11 @@ ghost use Rattle.sheet.specs.Limits.{mostNodes};
 ghost use Rattle.report.specs.Lent.{TableLent};
 use judge::Judged;
 use libc::STDOUT_FILENO;
-use sheet::NODE_NUMBERS;
+use sheet::MOST_NODES;
 use table::words::HEADER;
 
 // How many words the table of the most nodes has.
-pub const MOST_TABLE: usize = HEADER + 2 * NODE_NUMBERS;
+pub const MOST_TABLE: usize = HEADER + 2 * MOST_NODES as usize;
 
 // Runs an accepted sheet to its end in a table of its size, and writes the listing.
 fn report_table(sheet: &[u8], nodes: usize, table: &mut [u32], out: &mut [u8]) -> usize

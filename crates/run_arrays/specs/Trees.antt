@@ -14,9 +14,13 @@ use Rattle.procedure.specs.Division.{Division, regions, parent, isLeaf, isChild
 use Rattle.procedure.specs.Queues.{minKey}
 use Rattle.run_arrays.specs.Rows.{field}
 
+-- more than any region's number
+abbrev pub entryBase : ℕ
+entryBase = 65536
+
 -- the key and the number of region c as one number: of two, the lower one is chosen first
 abbrev pub entry : List ℕ → ℕ → ℕ
-entry keys c = at keys c * 65536 + c
+entry keys c = at keys c * entryBase + c
 
 -- p and q are the two places that decide one place
 pub record Siblings (p q : ℕ) : Type 0 where

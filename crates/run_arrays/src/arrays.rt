@@ -5,8 +5,7 @@ ghost use Rattle.indices.specs.Columns.{at};
 ghost use Rattle.sheet.specs.Limits.{mostNodes, mostArcs};
 ghost use Rattle.run_arrays.specs.Rows.{field, rowTail, rowHead, rowLeaf, rowNext};
 ghost use Rattle.run_arrays.specs.Fixed.{HasSpan};
-ghost use Rattle.run_arrays.specs.Sections.{mostRegions, regionArcSection, arcRowSection, firstSection, arcCountOf, spanSection, heightSection};
-ghost use Rattle.run_arrays.specs.Sections.{labelSection, ownSection, LabelStored, LabelLowered, OwnStored};
+ghost use Rattle.run_arrays.specs.Sections.{mostRegions, regionArcSection, arcRowSection, firstSection, arcCountOf, spanSection, heightSection, labelSection, ownSection, LabelStored, LabelLowered, OwnStored};
 use crate::rows::HEAD;
 use crate::rows::LEAF;
 use crate::rows::NEXT;
@@ -19,7 +18,7 @@ use sheet::Region;
 pub const INNER: u16 = 65535;
 
 // The most nodes and regions.
-pub const NODES: usize = sheet::NODE_NUMBERS;
+pub const NODES: usize = sheet::MOST_NODES as usize;
 
 pub const REGIONS: usize = sheet::MOST_REGION_WORDS + 1;
 

@@ -4,7 +4,7 @@ ghost use Prim.Native.Nat.{min, _+_, _*_, _<_};
 ghost use lib.ListN.{length};
 ghost use Rattle.procedure.specs.Division.{Division, regions, parent};
 ghost use Rattle.run_arrays.specs.Rows.{field, rowCount};
-ghost use Rattle.run_arrays.specs.Trees.{Siblings, Decided, ChildrenCounted, SomeParent};
+ghost use Rattle.run_arrays.specs.Trees.{Siblings, Decided, ChildrenCounted, SomeParent, entryBase};
 use sheet::Region;
 
 // The entries of a region's row.
@@ -48,11 +48,14 @@ pub fn seat_of(rows: &[u16], r: Region) -> u16
     crate::rows::field(rows, r.0, SEAT)
 }
 
+// More than any region's number: an entry is a key times this, and a region.
+pub const ENTRY_BASE: u64 = 65536;
+
 // A key and a region as one number, in the order of keys, then of regions.
 pub fn entry_of(key: u32, c: Region) -> u64
-    ensures { λ x. ⌜ x ≡ key * 65536 + c .0 ⌝ }
+    ensures { λ x. ⌜ x ≡ key * entryBase + c .0 ⌝ }
 {
-    key as u64 * 65536 + c.0 as u64
+    key as u64 * ENTRY_BASE + c.0 as u64
 }
 
 // The lower of two entries.

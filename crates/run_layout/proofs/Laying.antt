@@ -18,15 +18,12 @@ use Rattle.procedure.specs.Division.{regions}
 use Rattle.procedure.specs.OfSheet.{graphOf, divisionOf, spansOf}
 use Rattle.procedure.proofs.OfSheet.{graph-nodes, graph-arcs, graph-lengths, division-regions}
 use Rattle.theory_shortest.proofs.WellFormed.{accepted-well-formed}
-use Rattle.run_arrays.specs.Sections.{mostRegions, fixedLength, regionArcsAt, arcRowsAt, firstsAt, arcCountAt, spansAt, heightsAt}
-use Rattle.run_arrays.specs.Sections.{regionArcSection, arcRowSection, firstSection, arcCountOf, spanSection, heightSection}
+use Rattle.run_arrays.specs.Sections.{mostRegions, fixedLength, regionArcsAt, arcRowsAt, firstsAt, arcCountAt, spansAt, heightsAt, regionArcSection, arcRowSection, firstSection, arcCountOf, spanSection, heightSection}
 use Rattle.run_arrays.specs.Trees.{Planned}
 use Rattle.run_arrays.specs.Fixed.{RegionArcs}
 use Rattle.run_layout.specs.declared.sizes.Sizes.{Sizes}
-use Rattle.run_layout.specs.Layout.{Laid, Begins, ArcsLaid, FirstsLaid, HeightsLaid, DivisionLaid, GraphLaid, WeightsLaid}
-use Rattle.run_layout.specs.Layout.{ArcsLent, FirstsLent, TreesLent, RegionsLent, HeightsLent, DivisionLent, GraphLent, WeightsLent}
-use Rattle.run_layout.proofs.Fronts.{begins-append, begins-less, begins-on, begins-kept, begins-in, begins-put}
-use Rattle.run_layout.proofs.Fronts.{region-arcs-on, planned-on, arc-rows-on, links-on}
+use Rattle.run_layout.specs.Layout.{Laid, Begins, ArcsLaid, FirstsLaid, HeightsLaid, DivisionLaid, GraphLaid, WeightsLaid, ArcsLent, FirstsLent, TreesLent, RegionsLent, HeightsLent, DivisionLent, GraphLent, WeightsLent}
+use Rattle.run_layout.proofs.Fronts.{begins-append, begins-less, begins-on, begins-kept, begins-in, begins-put, region-arcs-on, planned-on, arc-rows-on, links-on}
 
 -- the n entries from place o on, as they are lent
 abbrev part : ℕ → ℕ → List ℕ → List ℕ

@@ -16,8 +16,7 @@ use Rattle.procedure.specs.Graph.{Graph, arcs, len}
 use Rattle.procedure.specs.Division.{Division, regions, height}
 use Rattle.procedure.specs.OfSheet.{graphOf, divisionOf, spansOf}
 use Rattle.run_arrays.specs.Trees.{Planned}
-use Rattle.run_arrays.specs.Sections.{mostRegions, firstsAt, fixedLength, weightsLength}
-use Rattle.run_arrays.specs.Sections.{regionArcSection, arcRowSection, firstSection, arcCountOf, spanSection, heightSection}
+use Rattle.run_arrays.specs.Sections.{mostRegions, firstsAt, fixedLength, weightsLength, regionArcSection, arcRowSection, firstSection, arcCountOf, spanSection, heightSection}
 use Rattle.run_arrays.specs.Fixed.{ArcRows, ArcLinks, RegionArcs, FixedOk}
 
 -- The arrays represent the graph, the division and the spans of the sheet, and the trees of the queues are planned.

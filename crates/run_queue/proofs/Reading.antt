@@ -11,14 +11,14 @@ use Rattle.procedure.specs.Division.{Division, regions}
 use Rattle.procedure.specs.Queues.{minItem}
 use Rattle.theory.proofs.Chosen.{Child, minKey-item, minKey-none}
 use Rattle.run_arrays.specs.Rows.{field}
-use Rattle.run_arrays.specs.Trees.{entry, childCount, QueuesOk}
+use Rattle.run_arrays.specs.Trees.{entry, childCount, QueuesOk, entryBase}
 use Rattle.run_arrays.proofs.trees.Seats.{tree-room}
 use Rattle.run_queue.specs.First.{FirstEntry}
 use Rattle.run_queue.proofs.Trees.{minItem-place, minItem-childless}
 
 module _ {d : Division} {rows keys winners : List ℕ} (Q : QueuesOk d rows keys winners) {r : ℕ} (inside : r < regions d) where
   -- its row says that r has no child: key none and region 0
-  pub first-none : field rows r 1 ≡ 0 → {e : ℕ} → e ≡ top * 65536 + 0 → FirstEntry d keys r e
+  pub first-none : field rows r 1 ≡ 0 → {e : ℕ} → e ≡ top * entryBase + 0 → FirstEntry d keys r e
   unfolding top
   first-none none is = record {
     item = rw is (sym no-item);
@@ -44,7 +44,7 @@ module _ {d : Division} {rows keys winners : List ℕ} (Q : QueuesOk d rows keys
     held : at winners (start + 1) ≡ entry keys (minItem d keys r)
     held = rw (row, Q .seated .laid .planned .starts r inside) (minItem-place Q r count-some .1)
 
-    key-is : at winners (start + 1) / 65536 ≡ at keys (minItem d keys r)
+    key-is : at winners (start + 1) / entryBase ≡ at keys (minItem d keys r)
     key-is = omega (arith, held, child .in-range, Q .seated .laid .planned .counted .numbered .few)
 
     pub first-some : FirstEntry d keys r (at winners (start + 1))

@@ -4,10 +4,10 @@ use mathlib.Core.Path.{_≡_}
 use mathlib.Core.List.{List}
 use Rattle.procedure.specs.Division.{Division}
 use Rattle.procedure.specs.Queues.{minItem}
-use Rattle.run_arrays.specs.Trees.{IsMinKey}
+use Rattle.run_arrays.specs.Trees.{IsMinKey, entryBase}
 
 -- e is the first-chosen item of r and its key, of 32 bits, as one number
 pub record FirstEntry (d : Division) (keys : List ℕ) (r e : ℕ) : Type 0 where
-  pub item : e % 65536 ≡ minItem d keys r
-  pub key : IsMinKey d keys r (e / 65536)
-  pub fits : e / 65536 < 4294967296
+  pub item : e % entryBase ≡ minItem d keys r
+  pub key : IsMinKey d keys r (e / entryBase)
+  pub fits : e / entryBase < 4294967296

@@ -10,6 +10,7 @@ ghost use Rattle.procedure.specs.Division.{Division, regions};
 ghost use Rattle.procedure.specs.Queues.{minItem};
 ghost use Rattle.run_arrays.specs.Trees.{IsMinKey, QueuesOk, SomeQueue, SomeItem};
 ghost use Rattle.run_queue.specs.First.{FirstEntry};
+use run_arrays::trees::ENTRY_BASE;
 use sheet::NONE;
 use sheet::Region;
 
@@ -32,7 +33,7 @@ pub fn min_item(rows: &[u16], winners: &[u64], r: Region) -> Region
     ensures { λ c. ⌜ ((d : Division) (keys : List ℕ) → QueuesOk d (now (rows .entry)) keys (now (winners .entry)) → r .0 < regions d
         → c .0 ≡ minItem d keys (r .0)) ⌝ }
 {
-    Region((first_entry(rows, winners, r) % 65536) as u16)
+    Region((first_entry(rows, winners, r) % ENTRY_BASE) as u16)
 }
 
 // The smallest key of an inner region.
@@ -41,7 +42,7 @@ pub fn min_key(rows: &[u16], winners: &[u64], r: Region) -> u32
     ensures { λ k. ⌜ ((d : Division) (keys : List ℕ) → QueuesOk d (now (rows .entry)) keys (now (winners .entry)) → r .0 < regions d
         → IsMinKey d keys (r .0) k) ⌝ }
 {
-    (first_entry(rows, winners, r) / 65536) as u32
+    (first_entry(rows, winners, r) / ENTRY_BASE) as u32
 }
 
 // Writes the key of a region other than 0 and repairs its parent's tree, from its place up, until a place does not change.

@@ -1,11 +1,20 @@
 -- What functions and laws ask of a sheet and of a nesting: for contracts within the project. Definitions.
-use Prim.Native.Nat.{ℕ, _≤_, _<_}
+use Prim.Native.Nat.{ℕ, _+_, _≤_, _<_}
 use mathlib.Core.List.{List}
 use mathlib.Core.Bool.{Bool, false}
 use mathlib.Core.Path.{_≡_}
+use lib.Dec.{ltb}
+use Rattle.indices.specs.Steps.{if_then_else_}
+use Rattle.sheet.specs.declared.Cursor.{Cursor}
 use Rattle.sheet.specs.declared.Sections.{Sections}
-use Rattle.sheet.specs.Words.{words}
+use Rattle.sheet.specs.declared.Step.{Step}
+use Rattle.sheet.specs.declared.Step.the-variants.{Word, End}
+use Rattle.sheet.specs.Words.{words, word}
 use Rattle.sheet.specs.Sections.{spanCount, arcCount}
+
+-- "A sheet is read word by word from its front": the word at a place with the place after it, or the end
+abbrev pub stepAt : List ℕ → Cursor → Step
+stepAt b c = if ltb (c .place) (words b) then Word (word b (c .place)) (record { place = c .place + 1 }) else End
 
 -- the sizes of the sections of a sheet that has its first two words
 pub record Located (b : List ℕ) (sections : Sections) : Type 0 where

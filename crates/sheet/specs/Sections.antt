@@ -3,17 +3,10 @@ use Prim.Native.Nat.{ℕ, _+_, _-_, _*_, _/_}
 use mathlib.Core.List.{List}
 use mathlib.Core.Bool.{Bool, _&&_}
 use lib.ListN.{drop}
-use lib.Dec.{eqb, ltb}
-use Rattle.indices.specs.Steps.{if_then_else_}
+use lib.Dec.{eqb}
 use Rattle.indices.specs.Tests.{lead}
 use Rattle.sheet.specs.declared.Cursor.{Cursor}
-use Rattle.sheet.specs.declared.Step.{Step}
-use Rattle.sheet.specs.declared.Step.the-variants.{Word, End}
-use Rattle.sheet.specs.Words.{words, word, kind, payload}
-
--- "A sheet is read word by word from its front": the word at a place with the place after it, or the end
-abbrev pub stepAt : List ℕ → Cursor → Step
-stepAt b c = if ltb (c .place) (words b) then Word (word b (c .place)) (record { place = c .place + 1 }) else End
+use Rattle.sheet.specs.Words.{words, kind, payload}
 
 -- the part of a sheet after a place
 abbrev pub partAfter : List ℕ → Cursor → List ℕ

@@ -12,6 +12,13 @@ use crate::Node;
 use crate::Region;
 use crate::Sections;
 
+// How many numbers each field has, by which a payload is taken apart.
+const NODES: u32 = crate::NODE_NUMBERS as u32;
+
+const ARCS: u32 = crate::ARC_NUMBERS as u32;
+
+const REGIONS: u32 = crate::REGION_NUMBERS as u32;
+
 // The payload of the first word of an arc: its two ends.
 pub fn ends_payload(s: &[u8], sections: Sections, a: Arc) -> u32
     requires { ⌜ Located (now s) sections × (a .0 < arcCount (now s)) ⌝ }
@@ -28,9 +35,9 @@ pub fn end_at(s: &[u8], sections: Sections, a: Arc, head: bool) -> Node
 {
     let ends = ends_payload(s, sections, a);
     if head {
-        return Node((ends % 1024) as u16);
+        return Node((ends % NODES) as u16);
     }
-    Node((ends / 1024 % 1024) as u16)
+    Node((ends / NODES % NODES) as u16)
 }
 
 // The length of an arc.
@@ -57,7 +64,7 @@ pub fn parent_word(d: &[u8], k: usize) -> u32
 {
     let p = crate::payload_at(d, k);
     if leaf_word(d, k) {
-        return p / 2048 % 4096;
+        return p / ARCS % REGIONS;
     }
     p
 }
@@ -67,7 +74,7 @@ pub fn arc_word(d: &[u8], k: usize) -> Arc
     requires { ⌜ k < words (now d) ⌝ }
     ensures { λ r. ⌜ (r .0 ≡ arcWord (now (d .entry)) k) × (r .0 < arcNumbers) ⌝ }
 {
-    Arc((crate::payload_at(d, k) % 2048) as u16)
+    Arc((crate::payload_at(d, k) % ARCS) as u16)
 }
 
 // Whether a region is a leaf: region 0 is none and has no word.

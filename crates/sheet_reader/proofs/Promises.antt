@@ -15,7 +15,8 @@ use denote.Signature.{Slot, plain}
 use denote.Slice.{sliceTy, shr-slice-lawful}
 use denote.Enum.Laws as EL
 use Rattle.sheet.specs.Words.{words}
-use Rattle.sheet.specs.Sections.{stepAt, partAfter}
+use Rattle.sheet.specs.Sections.{partAfter}
+use Rattle.sheet.specs.Inner.{stepAt}
 use Rattle.sheet.proofs.Step as S
 use Rattle.sheet.proofs.Step.Laws as S′
 use Rattle.sheet_reader.proofs.Calls.{Promise, Shaped}

@@ -3,8 +3,8 @@
 ghost use mathlib.Core.Path.{_≡_};
 ghost use Prim.Native.Nat.{_≤_};
 ghost use Rattle.sheet.specs.Words.{words};
-ghost use Rattle.sheet.specs.Sections.{stepAt, partAfter, regionWords};
-ghost use Rattle.sheet.specs.Inner.{Located};
+ghost use Rattle.sheet.specs.Sections.{partAfter, regionWords};
+ghost use Rattle.sheet.specs.Inner.{stepAt, Located};
 ghost use Rattle.sheet_reader.specs.Places.{readerAt, placeOf};
 use sheet::Cursor;
 use sheet::Sections;

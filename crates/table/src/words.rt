@@ -17,13 +17,13 @@ pub const COUNT_WORDS: usize = 2 * COUNTS;
 pub const HEADER: usize = 1 + COUNT_WORDS;
 
 // The kinds of table words.
-const STATUS_KIND: u32 = 8;
+pub const STATUS_KIND: u32 = 8;
 
-const LABEL_KIND: u32 = 9;
+pub const LABEL_KIND: u32 = 9;
 
-const PREDECESSOR_KIND: u32 = 10;
+pub const PREDECESSOR_KIND: u32 = 10;
 
-const COUNT_KIND: u32 = 11;
+pub const COUNT_KIND: u32 = 11;
 
 // A word of the given kind.
 fn word(kind: u32, payload: u32) -> u32

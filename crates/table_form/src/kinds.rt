@@ -7,7 +7,10 @@ ghost use Rattle.calls.specs.Tables.{tableLength};
 ghost use Rattle.calls.specs.Routes.{wrongKind, wrongCount, wrongNode};
 ghost use Rattle.procedure.specs.Table.{countsLength};
 use sheet::Node;
+use table::words::COUNT_KIND;
 use table::words::COUNT_WORDS;
+use table::words::LABEL_KIND;
+use table::words::PREDECESSOR_KIND;
 
 // Whether the word at i is not of the kind.
 pub fn wrong_kind(table: &[u32], i: usize, kind: u32) -> bool
@@ -24,7 +27,7 @@ pub fn wrong_counts(table: &[u32]) -> bool
 {
     let mut i = 0;
     while i < COUNT_WORDS {
-        if wrong_kind(table, 1 + i, 11) {
+        if wrong_kind(table, 1 + i, COUNT_KIND) {
             return true;
         }
         i += 1;
@@ -38,10 +41,10 @@ fn wrong_node(table: &[u32], arcs: u32, v: Node) -> bool
     ensures { λ r. ⌜ r ≡ wrongNode (now (table .entry)) arcs (v .0) ⌝ }
 {
     let i = table::words::HEADER + 2 * (v.0 as usize);
-    if wrong_kind(table, i, 9) {
+    if wrong_kind(table, i, LABEL_KIND) {
         return true;
     }
-    if wrong_kind(table, i + 1, 10) {
+    if wrong_kind(table, i + 1, PREDECESSOR_KIND) {
         return true;
     }
     let a = table::read::predecessor_of(table, v);

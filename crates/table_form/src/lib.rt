@@ -22,7 +22,7 @@ pub fn malformed(s: &[u8], sections: Sections, table: &[u32]) -> bool
     requires { ⌜ Fitting (now s) sections (now table) ⌝ }
     ensures { λ r. ⌜ r ≡ malformed (now (s .entry)) (now (table .entry)) ⌝ }
 {
-    if crate::kinds::wrong_kind(table, 0, 8) {
+    if crate::kinds::wrong_kind(table, 0, table::words::STATUS_KIND) {
         return true;
     }
     if crate::kinds::wrong_counts(table) {

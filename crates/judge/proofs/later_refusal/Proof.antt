@@ -4,7 +4,8 @@ use mathlib.Core.Path.{_≡_, sym, ap, _∙_}
 use borrow.Author.Needs.{needs}
 use native.Mathlib.Omega.{arith}
 use Rattle.sheet.specs.Limits.{mostArcs}
-use Rattle.answer.specs.Answer.{accepted, lowest, numbered}
+use Rattle.answer.specs.Answer.{accepted, lowest}
+use Rattle.answer.specs.Inner.{numbered}
 use Rattle.judgement.specs.Judgement.{formRefusals, countRefusals, arcRefusals, refusals, judgement}
 use Rattle.judgement.proofs.Clear.{few-words}
 use Rattle.judge.proofs.Stages.{form-clear, count-nodes, count-arcs, count-region-words, count-stops, arc-stops, division-decides}

@@ -4,7 +4,8 @@ use mathlib.Core.Bool.{false}
 use mathlib.Core.List.{List}
 use mathlib.Core.Path.{_≡_, sym, ap, _∙_}
 use borrow.Author.Needs.{needs}
-use Rattle.answer.specs.Answer.{numbered, accepted, lowest}
+use Rattle.answer.specs.Answer.{accepted, lowest}
+use Rattle.answer.specs.Inner.{numbered}
 use Rattle.answer.proofs.Lowest.{clear-of, stage-stops}
 use Rattle.judgement.specs.Arcs.{endsOutside, lengthsOutside}
 use Rattle.judgement.specs.Judgement.{arcRefusals}

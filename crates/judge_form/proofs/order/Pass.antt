@@ -10,7 +10,7 @@ use Rattle.indices.proofs.Steps.{by-truth}
 use Rattle.sheet.specs.declared.Cursor.{Cursor}
 use Rattle.sheet.specs.declared.Step.the-variants.{Word, End}
 use Rattle.sheet.specs.Words.{words, word, kindOf, kind}
-use Rattle.sheet.specs.Sections.{stepAt}
+use Rattle.sheet.specs.Inner.{stepAt}
 use Rattle.judgement.specs.Form.{outOfOrder}
 use Rattle.judge_form.specs.Kinds.{mayFollow, mayEnd, followOn}
 use Rattle.judge_form.proofs.order.Order.{in-order}
