@@ -20,7 +20,7 @@
 extern "C" {
 #endif
 
-/* A stack of so many bytes has room for each call. No theorem speaks of a stack: tests/c/stack.c measures it, on a sheet of height 15, as 167,351 bytes for
+/* A stack of so many bytes has room for each call. No theorem speaks of a stack: tests/c/stack.c measures it, on a sheet of height 15, as 185,767 bytes for
  * a run, 11,543 for a route and 9,367 for a judgement. */
 #define PIGROZK_STACK_BYTES 196608
 

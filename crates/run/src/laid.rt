@@ -8,7 +8,6 @@ ghost use Rattle.run.specs.Runnable.{NodesFit, Runnable};
 ghost use Rattle.run.specs.Outcome.{Outcome};
 use run_arrays::arrays::FIXED;
 use run_arrays::arrays::PLACES;
-use run_arrays::arrays::PREDECESSORS;
 use run_arrays::arrays::STATE;
 use run_arrays::arrays::WEIGHTS;
 use run_counts::Counts;
@@ -21,9 +20,13 @@ fn write_nodes(state: &[u32; STATE], n: usize, counts: Counts, ended: bool, tabl
     ensures { λ _. ⌜ now (table .exit) ≡ tableOf ended (countsOf counts) (take n (labelSection (now (state .entry))))
         (take n (predecessorSection (now (state .entry)))) (length (take n (labelSection (now (state .entry))))) ⌝ }
 {
-    let whole = &state[..];
-    let e = PREDECESSORS + n;
-    table::write_table(&whole[..n], &whole[PREDECESSORS..e], counts, ended, table);
+    table::write_table(
+        run_arrays::arrays::labels_of(state, n),
+        run_arrays::arrays::predecessors_of(state, n),
+        counts,
+        ended,
+        table,
+    );
 }
 
 // Runs what is laid out for at most `limit` rounds and writes the table. Whether the run has ended.

@@ -1,4 +1,5 @@
--- The four arrays of a run, and the sections of each: a section begins at a fixed place, and its front is in use. Definitions.
+-- The four arrays of a run, and the sections of each: a section begins at a fixed place, and its front is in use. Behind the front nothing is read, and nothing is
+-- said of it. Definitions.
 --   fixed, which is only read: rows of four of the regions, for the queues; then each region's arc, rows of four of the arcs, each node's first arc, and the
 --     number of arcs
 --   weights, which is only read: each arc's length; then each height's span, and each region's height
@@ -52,7 +53,7 @@ stateLength = ownKeysAt + mostArcs
 abbrev pub mostPlaces : ℕ
 mostPlaces = 2 * mostRegions
 
--- the sections, but for those at the front of an array that is only read
+-- The sections, but for those at the front of an array that is only read. In such an array a section is told to the array's end, and its front alone is spoken of.
 module _ (fixed : List ℕ) where
   unfoldable pub regionArcSection : List ℕ
   regionArcSection = drop regionArcsAt fixed

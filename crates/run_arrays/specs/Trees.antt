@@ -1,6 +1,7 @@
 -- One priority queue for each inner region, as winner trees in one list: a tree for each region, one after the other. The tree of a region with
 -- n children has 2n places, and a place holds a key and a region as one number. The children stand at the places n to 2n - 1; a place p below n
--- holds the lower of places 2p and 2p + 1; so place 1 holds the first-chosen child and its key. Definitions.
+-- holds the lower of places 2p and 2p + 1; so place 1 holds the first-chosen child and its key. Place 0 of a tree and the places behind the last tree are not read,
+-- and nothing is said of them. Definitions.
 use Prim.Native.Nat.{ℕ, min, _+_, _*_, _/_, _≤_, _<_}
 use mathlib.Core.Bool.{Bool, false, _&&_}
 use mathlib.Core.Path.{_≡_}

@@ -1,11 +1,12 @@
 // The four arrays of a run, and how the entries of their sections are read and written. What they represent is in specs/.
 ghost use mathlib.Core.Path.{_≡_};
-ghost use Prim.Native.Nat.{_-_, _<_};
+ghost use Prim.Native.Nat.{_-_, _<_, _≤_};
+ghost use lib.ListN.{take};
 ghost use Rattle.indices.specs.Columns.{at};
 ghost use Rattle.sheet.specs.Limits.{mostNodes, mostArcs};
 ghost use Rattle.run_arrays.specs.Rows.{field, rowTail, rowHead, rowLeaf, rowNext};
 ghost use Rattle.run_arrays.specs.Fixed.{HasSpan};
-ghost use Rattle.run_arrays.specs.Sections.{mostRegions, regionArcSection, arcRowSection, firstSection, arcCountOf, spanSection, heightSection, labelSection, ownSection, LabelStored, LabelLowered, OwnStored};
+ghost use Rattle.run_arrays.specs.Sections.{mostRegions, regionArcSection, arcRowSection, firstSection, arcCountOf, spanSection, heightSection, labelSection, predecessorSection, ownSection, LabelStored, LabelLowered, OwnStored};
 use crate::rows::HEAD;
 use crate::rows::LEAF;
 use crate::rows::NEXT;
@@ -42,7 +43,7 @@ pub const HEIGHTS: usize = SPANS + sheet::MOST_SPANS;
 pub const WEIGHTS: usize = HEIGHTS + REGIONS;
 
 // The state: each node's label; each node's predecessor; each arc's own key.
-pub const PREDECESSORS: usize = NODES;
+const PREDECESSORS: usize = NODES;
 
 const OWN_KEYS: usize = PREDECESSORS + NODES;
 
@@ -145,6 +146,25 @@ pub fn label_of(state: &[u32; STATE], v: Node) -> u32
 {
     let i = v.0 as usize;
     state[i]
+}
+
+// The labels of the first n nodes.
+pub fn labels_of(state: &[u32; STATE], n: usize) -> &[u32]
+    requires { ⌜ n ≤ mostNodes ⌝ }
+    ensures { λ r. ⌜ now r ≡ take n (labelSection (now (state .entry))) ⌝ }
+{
+    let whole = &state[..];
+    &whole[..n]
+}
+
+// The predecessors of the first n nodes.
+pub fn predecessors_of(state: &[u32; STATE], n: usize) -> &[u32]
+    requires { ⌜ n ≤ mostNodes ⌝ }
+    ensures { λ r. ⌜ now r ≡ take n (predecessorSection (now (state .entry))) ⌝ }
+{
+    let whole = &state[..];
+    let e = PREDECESSORS + n;
+    &whole[PREDECESSORS..e]
 }
 
 pub fn set_label(state: &mut [u32; STATE], v: Node, label: u32)

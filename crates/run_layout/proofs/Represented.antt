@@ -1,4 +1,4 @@
--- The slices that are laid out represent the graph and the division of an accepted sheet.
+-- The parts that are laid out represent the graph and the division of an accepted sheet.
 use Prim.Native.Nat.{ℕ, _*_, _<_}
 use mathlib.Core.Bool.{Bool, true, false}
 use mathlib.Core.Path.{_≡_, refl, sym, ap, _∙_}

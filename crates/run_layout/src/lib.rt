@@ -1,5 +1,5 @@
-// From an accepted sheet to the two arrays that a run reads: the rows of regions and arcs, first arcs, lengths, spans and heights, each part in its section. Every
-// pass is linear in the sheet's words.
+// From an accepted sheet to the two arrays that a run reads: rows and arcs of the regions, rows, first arcs and number of the arcs; lengths, spans and heights,
+// each part in its section. Behind the front of a section nothing is promised. Every pass is linear in the sheet's words.
 pub mod arcs;
 pub mod lengths;
 pub mod regions;
@@ -68,7 +68,8 @@ pub fn source_of(s: &[u8]) -> Node
     Node(sheet::source_number(s) as u16)
 }
 
-// The rows of the regions for the queues, and each region's arc, each in its section. Of `parents` nothing is promised.
+// The rows of the regions for the queues, and each region's arc, each in its section. Of `parents` nothing is promised, nor of the sections behind: the division is
+// laid before the graph.
 pub fn lay_division(
     s: &[u8],
     sections: Sections,

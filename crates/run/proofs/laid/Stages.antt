@@ -1,12 +1,10 @@
 -- From what is laid out to the table: the rounds leave the state after so many of them, whose counts, labels and predecessors fit the table.
-use Prim.Native.Nat.{ℕ, _+_, _-_, _≤_}
+use Prim.Native.Nat.{ℕ}
 use mathlib.Core.Bool.{Bool}
 use mathlib.Core.Path.{_≡_, sym, ap, _∙_}
 use mathlib.Core.List.{List}
 use native.Mathlib.Omega.{arith}
-use lib.ListN.{length, take, drop}
-use lib.Seq.{take-take}
-use Rattle.sheet.specs.Limits.{mostNodes}
+use lib.ListN.{length, take}
 use Rattle.sheet.specs.Sections.{nodeCount}
 use Rattle.judgement.specs.Judgement.{Accepted}
 use Rattle.judgement.proofs.Accepted.{few-nodes}
@@ -19,7 +17,7 @@ use Rattle.calls.specs.Tables.{tableLength}
 use Rattle.calls.specs.Runs.{stateAfter, runTable}
 use Rattle.theory_calls.proofs.Delivered.{labels-all, predecessors-all, label-small, predecessor-small, counts-small}
 use Rattle.run_counts.specs.declared.Counts.{Counts}
-use Rattle.run_arrays.specs.Sections.{predecessorsAt, labelSection, predecessorSection}
+use Rattle.run_arrays.specs.Sections.{labelSection, predecessorSection}
 use Rattle.run_arrays.specs.States.{Represents}
 use Rattle.table.specs.Writable.{countsOf}
 use Rattle.run.specs.Outcome.{Outcome}
@@ -79,15 +77,3 @@ module _ {b : List ℕ} {k : ℕ} {fixed weights state winners : List ℕ} {c : 
       → Outcome b k hasEnded table
   unfolding runTable
   outcome he written = record { status = he; words = written ∙ rw (labelled, he, same-counts, same-labels, same-predecessors, R .nodes) }
-
--- THE PARTS that the table is written from
-module _ (state : List ℕ) (n : ℕ) (few : n ≤ mostNodes) where
-  pub label-part : take n (labelSection state) ≡ take n state
-  unfolding labelSection
-  label-part = take-take n mostNodes state few
-
-  pub predecessor-part : take n (predecessorSection state) ≡ take ((predecessorsAt + n) - predecessorsAt) (drop predecessorsAt state)
-  unfolding predecessorSection
-  predecessor-part =
-      let all : n ≡ (predecessorsAt + n) - predecessorsAt = omega arith in
-      take-take n mostNodes (drop predecessorsAt state) few ∙ ap (λ (m : ℕ). take m (drop predecessorsAt state)) all

@@ -222,7 +222,7 @@ module _ {g : Graph} {d : Division} {spans fixed weights : List ℕ} {r left₀ 
     sofar = onward;
   }
 
--- the working of a region, whose row has a in place of its arc
+-- the working of a region, whose entry among the regions' arcs is a
 module _ {g : Graph} {d : Division} {spans : List ℕ} {s : State} {fixed weights state winners : List ℕ} {c : Counts} {r : ℕ}
     (R : Represents g d spans s fixed weights state winners c) (W : Workable d r (process g d spans r s)) {a : ℕ}
     (row : a ≡ at (regionArcSection fixed) r) where

@@ -1,4 +1,4 @@
--- What a region's row tells: whether it is a leaf, and its key.
+-- What the entry of a region among the regions' arcs tells: whether it is a leaf, and its key.
 use Prim.Native.Nat.{ℕ, zero, suc, _-_, _≤_, _<_, pred}
 use mathlib.Core.Bool.{true, false}
 use mathlib.Core.Path.{_≡_, refl, sym, ap, _∙_}
@@ -19,7 +19,7 @@ use Rattle.run_arrays.specs.Sections.{mostRegions, regionArcSection, ownSection
 use Rattle.run_arrays.specs.Fixed.{RegionArcs, noArc}
 use Rattle.run_arrays.specs.States.{HoldsQueues, Keyed}
 
--- a is what the row of region r has in place of its arc
+-- a is the entry of region r among the regions' arcs
 module _ {m : ℕ} {d : Division} {regionArcs : List ℕ} (ok : DivisionOk m d) (few : m ≤ mostArcs) (R : RegionArcs d regionArcs) {r : ℕ} (lr : r < regions d)
     {a : ℕ} (row : a ≡ at regionArcs r) where
   -- it is 'no arc' where r is inner

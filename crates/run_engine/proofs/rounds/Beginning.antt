@@ -1,11 +1,11 @@
 -- What the start rests on: an array filled with 'none', with the source's label, and cleared queues are the start before its updates.
-use Prim.Native.Nat.{ℕ, _+_, _-_, _≤_, _<_}
+use Prim.Native.Nat.{ℕ, _≤_, _<_}
 use mathlib.Core.Path.{_≡_, refl, ap, _∙_}
 use mathlib.Core.List.{List}
 use native.Mathlib.Omega.{arith}
-use lib.ListN.{length, set, take, drop, replicate, length-replicate, replicate-append-replicate}
-use lib.Seq.{take-at, drop-at, take-take, take-set-lt}
-use Rattle.sheet.specs.Limits.{mostNodes, mostArcs, mostArcsEachWay}
+use lib.ListN.{length, set, take, replicate, length-replicate}
+use lib.Seq.{take-set-lt}
+use Rattle.sheet.specs.Limits.{mostNodes, mostArcsEachWay}
 use Rattle.sheet.specs.Words.{top}
 use Rattle.procedure.specs.Graph.{Graph, arcs}
 use Rattle.procedure.specs.Division.{Division, regions}
@@ -14,20 +14,12 @@ use Rattle.procedure.specs.Queues.{updateOutgoing}
 use Rattle.procedure.specs.Procedure.{start}
 use Rattle.theory.specs.Counts.{Small}
 use Rattle.theory.proofs.Final.{no-rounds, after-small}
-use Rattle.run_arrays.specs.Sections.{
-  predecessorsAt,
-  ownKeysAt,
-  stateLength,
-  mostPlaces,
-  labelSection,
-  predecessorSection,
-  ownSection,
-  LabelStored,
-}
+use Rattle.run_arrays.specs.Sections.{stateLength, mostPlaces, labelSection, LabelStored}
 use Rattle.run_arrays.specs.Trees.{LaidOut, QueuesOk}
 use Rattle.run_arrays.specs.States.{HoldsQueues, UpdatingOutgoing, LeavesQueues, Represents, Blank}
+use Rattle.run_arrays.proofs.arrays.Filled.{labels-none, predecessors-none, own-none}
 
--- at most four arcs leave a node
+-- two arcs each way are within the four of the law of counts
 pub few-out : mostArcsEachWay ≤ 4
 few-out = omega arith
 
@@ -50,35 +42,7 @@ start-by-updates : (g : Graph) (d : Division) (spans : List ℕ)
 unfolding start
 start-by-updates g d spans = refl
 
--- the front of a list that is filled with 'none', and what follows it
-front-none : (n : ℕ) {m : ℕ} {ys : List ℕ} → ys ≡ replicate m top → n ≤ m → take n ys ≡ replicate n top
-front-none n {m} e l =
-    let parts : n + (m - n) ≡ m = omega arith in
-    rw (e, ← parts, ← replicate-append-replicate n (m - n) top) (take-at (replicate n top) (replicate (m - n) top) n (length-replicate n top))
-
-rest-none : (o n : ℕ) {ys : List ℕ} → ys ≡ replicate (o + n) top → drop o ys ≡ replicate n top
-rest-none o n e = rw (e, ← replicate-append-replicate o n top) (drop-at (replicate o top) (replicate n top) o (length-replicate o top))
-
 module _ {g : Graph} {d : Division} {spans fixed weights : List ℕ} {source count : ℕ} (B : Blank g d spans fixed weights source count) where
-  -- an array that is filled with 'none': so are its sections
-  module _ {state : List ℕ} (none : state ≡ replicate stateLength top) where
-    labels-none : take (g .nodes) (labelSection state) ≡ replicate (g .nodes) top
-    unfolding labelSection
-    labels-none =
-        let few = B .fixed-ok .ok .graph .few-nodes in
-        take-take (g .nodes) mostNodes state few ∙ front-none (g .nodes) {m = stateLength} none (omega arith)
-
-    predecessors-none : take (g .nodes) (predecessorSection state) ≡ replicate (g .nodes) top
-    unfolding predecessorSection
-    predecessors-none =
-        let few = B .fixed-ok .ok .graph .few-nodes in
-        take-take (g .nodes) mostNodes (drop predecessorsAt state) few
-        ∙ front-none (g .nodes) {m = mostNodes + mostArcs} (rest-none predecessorsAt (mostNodes + mostArcs) none) (omega arith)
-
-    own-none : take (arcs g) (ownSection state) ≡ replicate (arcs g) top
-    unfolding ownSection
-    own-none = front-none (arcs g) (rest-none ownKeysAt mostArcs none) (B .fixed-ok .ok .graph .few-arcs)
-
   source-node : source < g .nodes
   source-node = omega (arith, B .at-source, B .fixed-ok .ok .graph .source-in)
 
@@ -108,7 +72,7 @@ module _ {g : Graph} {d : Division} {spans fixed weights : List ℕ} {source cou
   module _ {filled labelled : List ℕ} (none : filled ≡ replicate stateLength top) (K : LabelStored source 0 filled labelled) where
     pub start-held : {winners : List ℕ} → QueuesOk d fixed (replicate (regions d) top) winners → HoldsQueues g d (noKeys g d) fixed labelled winners 0
     start-held valid = record {
-      own = ap (take (arcs g)) (K .own) ∙ own-none none;
+      own = ap (take (arcs g)) (K .own) ∙ own-none none (arcs g) (B .fixed-ok .ok .graph .few-arcs);
       owned = length-replicate (arcs g) top;
       keys = record { valid = valid; counted = refl };
     }
@@ -124,8 +88,8 @@ module _ {g : Graph} {d : Division} {spans fixed weights : List ℕ} {source cou
           labels =
               ap (take (g .nodes)) (Q .nodes .labels ∙ K .labels)
               ∙ take-set-lt (g .nodes) (labelSection filled) source 0 source-node
-              ∙ ap (λ (labels : List ℕ). set labels source 0) (labels-none none);
-          predecessors = ap (take (g .nodes)) (Q .nodes .predecessors ∙ K .predecessors) ∙ predecessors-none none;
+              ∙ ap (λ (labels : List ℕ). set labels source 0) (labels-none none (g .nodes) (B .fixed-ok .ok .graph .few-nodes));
+          predecessors = ap (take (g .nodes)) (Q .nodes .predecessors ∙ K .predecessors) ∙ predecessors-none none (g .nodes) (B .fixed-ok .ok .graph .few-nodes);
           queues = Q .queues;
           rounds = refl;
           leaves = refl;

@@ -11,7 +11,7 @@ use Rattle.sheet.specs.Regions.{regionCount, arcWord, parentWord, isLeaf, leafA
 use Rattle.sheet.proofs.Regions.{parent-of-word}
 use Rattle.run_arrays.specs.Fixed.{noArc}
 use Rattle.run_layout.specs.Regions.{Nested, ParentsEntered, arcEntered}
-use Rattle.indices.proofs.Entries.{Entered, entered-kept, entered-more}
+use Rattle.indices.proofs.Entries.{Entered, entered-more}
 
 -- PARENTS
 

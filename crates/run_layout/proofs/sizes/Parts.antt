@@ -1,10 +1,9 @@
--- The sizes of an accepted sheet are within the limits; a part of a list that fits has its length.
-use Prim.Native.Nat.{ℕ, _+_, _/_, _≤_}
-use mathlib.Core.Path.{_≡_, sym, ap}
+-- The sizes of an accepted sheet are within the limits.
+use Prim.Native.Nat.{ℕ, _+_, _/_}
+use mathlib.Core.Path.{_≡_, ap}
 use mathlib.Core.List.{List}
 use native.Mathlib.Omega.{arith}
-use lib.ListN.{length, take}
-use lib.Seq.{length-take-le}
+use lib.ListN.{length}
 use Rattle.sheet.specs.declared.Sections.{Sections}
 use Rattle.sheet.specs.Sections.{nodeCount, regionWords}
 use Rattle.sheet.specs.Inner.{Located}
@@ -25,7 +24,3 @@ in-use {b} ok found en ed = record {
   few-spans = omega (arith, few-spans b ok, found .spans-all);
   few-regions = omega (arith, few-region-words b ok, ap length ed);
 }
-
--- a part that fits has its length
-pub part-length : (l : List ℕ) (n : ℕ) {room : ℕ} → length l ≡ room → n ≤ room → n ≡ length (take n l)
-part-length l n e h = sym (length-take-le n l (omega arith))

@@ -59,7 +59,7 @@ use Rattle.run_queue.proofs.write.Reads as write
 use Rattle.run_engine.proofs.region.+process_inner+process_region.{statement}
 use Rattle.run_engine.proofs.region.+process_inner+process_region.Tie.{close}
 
--- THE MEASURES, of the regions' rows and the region's number
+-- THE MEASURES, of the region's height among the weights
 abbrev μ-inner : Measures 4 inner-kinds.ps ℕ
 μ-inner κs a = at (heightSection (a .1 .0 .now)) (a .1 .1 .1 .1 .0 .0) * 2
 
@@ -280,12 +280,12 @@ module _ (t : ℕ) where
   abbrev there : (region-lts.Claims → In 4 region-kinds.ps → Out 4 region-kinds.ps region-kinds.r → Type 0) → Type 0
   there P = P (region-heard t) (region-at t) process-region.Post
 
-  -- THE PLACES: the entry, the region's row read, and whether it is inner or a leaf
+  -- THE PLACES: the entry, the region's arc read, and whether it is inner or a leaf
   abbrev Region : Type 0
   Region = there region-lts.Start
 
-  abbrev Row : Type 0
-  Row = there region-lts.After-arc-of
+  abbrev ArcRead : Type 0
+  ArcRead = there region-lts.After-arc-of
 
   abbrev Inner : Type 0
   Inner = there region-lts.Then1
@@ -296,23 +296,23 @@ module _ (t : ℕ) where
   process-inner-requires : there region-lts.Need-process-inner-requires
   process-inner-requires c κs =
       let start : Region = search needs in
-      let row : Row = search needs in
+      let read : ArcRead = search needs in
       let inner : Inner = search needs in
       let asks = start .pre .1 in (
         omega (arith, start .pre .0),
-        record { region = asks; inner = region-inner (asks .represents) (asks .workable) (row .arc-of .ensures) (inner .if1 .taken) },
+        record { region = asks; inner = region-inner (asks .represents) (asks .workable) (read .arc-of .ensures) (inner .if1 .taken) },
       )
 
   inner-returns : there region-lts.Need-returns
   inner-returns c g d spans s R W =
-      let row : Row = search needs in
+      let read : ArcRead = search needs in
       let inner : Inner = search needs in
-      c .process-inner .ensures g d spans s R W (region-inner R W (row .arc-of .ensures) (inner .if1 .taken))
+      c .process-inner .ensures g d spans s R W (region-inner R W (read .arc-of .ensures) (inner .if1 .taken))
 
   process-leaf-requires : there region-lts.Need-process-leaf-requires
   process-leaf-requires c κs =
       let start : Region = search needs in
-      let row : Row = search needs in
+      let read : ArcRead = search needs in
       let leaf : Leaf = search needs in
       let asks = start .pre .1 in
       record {
@@ -321,15 +321,15 @@ module _ (t : ℕ) where
         spans = asks .spans;
         current = asks .current;
         represents = asks .represents;
-        workable = leaf-asks (asks .represents) (asks .workable) (row .arc-of .ensures) (leaf .if1 .left);
-        leaf = region-leaf (asks .represents) (asks .workable) (row .arc-of .ensures) (leaf .if1 .left);
+        workable = leaf-asks (asks .represents) (asks .workable) (read .arc-of .ensures) (leaf .if1 .left);
+        leaf = region-leaf (asks .represents) (asks .workable) (read .arc-of .ensures) (leaf .if1 .left);
       }
 
   leaf-returns : there region-lts.Need-returns-2
   leaf-returns c g d spans s R W =
-      let row : Row = search needs in
+      let read : ArcRead = search needs in
       let leaf : Leaf = search needs in
-      let arc = row .arc-of .ensures in
+      let arc = read .arc-of .ensures in
       let some = leaf .if1 .left in
       leaf-worked R W arc some (c .process-leaf .ensures g d spans s R (leaf-asks R W arc some) (region-leaf R W arc some))
 
