@@ -24,13 +24,14 @@ extern "C" {
  * a run, 11,543 for a route and 9,367 for a judgement. */
 #define PIGROZK_STACK_BYTES 196608
 
-/* The limits of a sheet that is accepted. */
+/* The limits of a sheet that is accepted. A node may have so many arcs out of it, and so many into it. */
 #define PIGROZK_MOST_BYTES 32828
 #define PIGROZK_MOST_NODES 1024
 #define PIGROZK_MOST_SPANS 15
 #define PIGROZK_MOST_SPAN 1000000
 #define PIGROZK_MOST_ARCS 2048
 #define PIGROZK_MOST_LENGTH 262143
+#define PIGROZK_MOST_ARCS_EACH_WAY 4
 #define PIGROZK_MOST_REGION_WORDS 4094
 
 /* How many words a table has, for a sheet of n nodes: exactly so many, or a call answers 21. */

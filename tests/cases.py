@@ -5,7 +5,12 @@ from collections import Counter
 from pathlib import Path
 
 ROOT = Path(__file__).resolve().parent.parent
-MOST_BYTES = 3_500_000
+
+# What the cases of one call may take in a file, so that a family that grows unseen is noticed.
+MOST_BYTES = 4_500_000
+
+# The vectors of the base paper were made when a node had at most two arcs each way.
+BASE_EACH_WAY = 2
 
 # The answers, numbered from 0 as the program numbers them.
 ANSWERS = ['refused input', 'refused state', 'accepted', 'ended', 'paused', 'no route', 'route']
@@ -14,6 +19,14 @@ ANSWERS = ['refused input', 'refused state', 'accepted', 'ended', 'paused', 'no 
 def data(name):
     """The lines of a file of vectors."""
     return [line for line in (ROOT / 'tests' / name).read_text().splitlines() if not line.startswith('#')]
+
+
+def change_fields(call):
+    """The fields of the vectors of change requests for a call, the call itself left out."""
+    for line in data('2026-01_vectors.txt'):
+        name, *fields = line.split()
+        if name == call:
+            yield fields
 
 
 def bytes_in(digits):
@@ -41,6 +54,13 @@ def with_words(answer, words):
     return answer + ': ' + digits_of_words(words) if words else answer
 
 
+def stated_in(answer, words):
+    """An answer as the vectors spell it, with the words of the table or the route that they list."""
+    if answer.startswith(('input:', 'state:')):
+        return 'refused ' + answer.replace(':', ' ')
+    return with_words(answer.replace(':', ' ').replace('-', ' '), words)
+
+
 def line_of(answer):
     """The line printed for an answer."""
     name, number, words = re.fullmatch(r'(.*?)(?: (\d+))?(?:: (\w+))?', answer).groups()
@@ -54,13 +74,40 @@ def hold(family, case, answer, stated):
         sys.exit('%s: expected is %s, stated is %s: %s' % (family.__name__, answer[:99], stated[:99], case[:300]))
 
 
-def lines_of(vectors, families, checked, kind=lambda answer: answer.split(':')[0], line_of=line_of):
-    """The lines of the vectors and, each once, of the cases of all families, where they are not too many; prints how many there are."""
+def held(family, answered):
+    """The cases of a family with their answers, which are as stated."""
+    for case, answer, stated in answered(family):
+        hold(family, case, answer, stated)
+        yield case, answer
+
+
+def counted(kinds):
+    return ', '.join('%s: %d' % pair for pair in sorted(kinds.items()))
+
+
+def held_before(family, answered, kind):
+    """The cases of base vectors with the answers of today. With the limit of that time they are as stated; only a refusal 10 moves."""
+    moved = Counter()
+    for (case, before, stated), (_, answer, _) in zip(answered(family, BASE_EACH_WAY), answered(family)):
+        hold(family, case, before, stated)
+        if before not in ('refused input 10', 'refused 10'):
+            hold(family, case, answer, before)
+        elif answer != before:
+            moved[kind(answer)] += 1
+        yield case, answer
+    print('%s: from refusal 10 to %s' % (family.__name__, counted(moved) or 'nothing else'))
+
+
+def lines_of(base, vectors, families, answered, kind=lambda answer: answer.split(':')[0], line_of=line_of):
+    """The lines of all vectors and, each once, of the cases of all families, where they are not too many; prints how many there are.
+
+    For a family and a limit of arcs each way, `answered` gives the cases, each with the answer expected and the one stated, or None.
+    """
     lines, seen, kinds = [], set(), Counter()
-    for family in vectors + families:
+    for family in base + vectors + families:
         before = len(lines)
-        for case, answer in checked(family):
-            if family in vectors or case not in seen:
+        for case, answer in held_before(family, answered, kind) if family in base else held(family, answered):
+            if family not in families or case not in seen:
                 lines.append((case, line_of(answer)))
                 kinds[kind(answer)] += 1
             seen.add(case)
@@ -69,5 +116,5 @@ def lines_of(vectors, families, checked, kind=lambda answer: answer.split(':')[0
     if max(sizes) > MOST_BYTES:
         sys.exit('%d and %d bytes' % tuple(sizes))
     print('%d cases, %d and %d bytes' % (len(lines), *sizes))
-    print(', '.join('%s: %d' % pair for pair in sorted(kinds.items())))
+    print(counted(kinds))
     return lines

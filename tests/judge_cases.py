@@ -1,15 +1,16 @@
 """The cases of the judge: a sheet, and the answer expected to it.
 
-The judge of tests/paper.py has to agree with every line of tests/judge_vectors.txt and with each answer that a case states; otherwise
-the script stops.
+The judge of tests/paper.py has to agree with every line of tests/judge_vectors.txt, with the limit of that time, and of
+tests/2026-01_vectors.txt, and with each answer that a case states; otherwise the script stops.
 """
 import sys
+from itertools import product
 
-from cases import bytes_in, case_of, data, hold, lines_of
-from paper import applies, judge
+from cases import bytes_in, case_of, change_fields, data, lines_of
+from paper import MOST_EACH_WAY, applies, judge
 from sheets import (
-    FAULTS, HALL_A, Chance, alternate, chain, changed, damaged, flat, halving, inner, leaf, many_chains, one_deep, packed, random_words,
-    sheet_of, side_by_side, two_each_way, with_faults, words_of,
+    FAULTS, HALL_A, WIDE, Chance, alternate, chain, changed, damaged, each_way, flat, halving, inner, leaf, many_chains, one_deep, packed,
+    random_words, sheet_of, side_by_side, with_faults, words_of,
 )
 
 # The cases: pairs of a sheet and the answer stated for it, None where the judge alone says it.
@@ -77,16 +78,18 @@ def arc_ends():
 
 
 def degrees():
+    """Up to five arcs from a node and five to it, in every mixture, self-arcs among them; parallel arcs; and far too many."""
     for v in (0, 3, 1023):
-        w, x = (v + 1) % 1024, (v + 2) % 1024
-        own, both, out, into = (v, v), [(v, w), (w, v)], [(v, w), (v, x)], [(w, v), (x, v)]
-        for arcs, answer in (
-            (out, 0), (into, 0), (out + into, 0), ([own], 0), ([own, own], 0), ([own] + both, 0), ([(v, w)] * 2, 0),
-            (out + [(v, (v + 3) % 1024)], 10), (into + [((v + 3) % 1024, v)], 10), ([own] + out, 10), ([own] + into, 10),
-            ([own, own, (v, w)], 10), ([own, own, (w, v)], 10), ([own] * 3, 10), ([(v, w)] * 3, 10), (out + [own], 10), (into + [own], 10),
-        ):
-            yield sheet_of(1024, 0, [1], arcs, flat(len(arcs))), answer
-    for count in (256, 257, 258):
+        near = [(v + step) % 1024 for step in range(1, 6)]
+        for own, out, into in product(range(6), repeat=3):
+            selves, others = [(v, v)] * own, [(v, w) for w in near[:out]] + [(w, v) for w in near[:into]]
+            most = own + max(out, into)
+            for arcs in (selves + others, others + selves) if most <= 5 else ():
+                yield sheet_of(1024, 0, [1], arcs, flat(len(arcs))), 10 if most == 5 else 0
+        for count in range(1, 6):
+            for ends in ((v, near[0]), (near[0], v)):
+                yield sheet_of(1024, 0, [1], [ends] * count, flat(count)), 10 if count == 5 else 0
+    for count in range(256, 262):
         yield sheet_of(1024, 0, [1], [(5, head) for head in range(count)], flat(count)), 10
         yield sheet_of(1024, 0, [1], [(tail, 5) for tail in range(count)], flat(count)), 10
 
@@ -187,8 +190,18 @@ def pairs():
             yield from ((sheet, low) for sheet in both)
 
 
+def wide_pairs():
+    """Three and four arcs each way, alone and with each fault, which is the answer, where the fault is left."""
+    yield with_faults(*WIDE[2:]), 0
+    for wide in WIDE:
+        yield with_faults(wide), 0
+        for number, changes in FAULTS.items():
+            made = [with_faults(change, wide) if number < 10 else with_faults(wide, change) for change in changes]
+            yield from ((sheet, number) for sheet in made if applies(number, sheet))
+
+
 def full_size():
-    arcs = two_each_way(1024)
+    arcs, wide = each_way(2, 1024), each_way(4, 512)
     full = words_of(1024, 1023, [1_000_000] * 15, arcs, one_deep(2032))
     for words, size in ((full, 32828), (words_of(1024, 1023, [1_000_000] * 15, arcs, one_deep(2031)), 32824)):
         if len(words) * 4 != size:
@@ -201,24 +214,37 @@ def full_size():
     yield packed(full[:2] + full[3:]), 14
     yield sheet_of(1024, 0, [9] * 11, arcs, halving()), 0
     yield sheet_of(1024, 512, [9] * 2, arcs, alternate()), 0
+    yield sheet_of(512, 511, [1_000_000] * 15, wide, one_deep(2032)), 0
+    yield sheet_of(512, 256, [9] * 11, wide, halving()), 0
 
 
 def large():
-    arcs = two_each_way(1024)
+    arcs = each_way(2, 1024)
     yield sheet_of(1024, 0, [1], arcs, flat(2048)[::-1]), 0
     yield sheet_of(1024, 0, [1], [(v, v) for v in range(1024) for _ in range(2)], flat(2048)), 0
     yield sheet_of(1024, 0, [1], arcs + [(0, 0)], []), 7
     yield sheet_of(1023, 0, [1], arcs, []), 8
     yield sheet_of(1024, 0, [1], arcs[:-1] + [(1023, 4, 262144)], []), 9
-    yield sheet_of(1024, 0, [1], arcs[:-1] + [(1023, 5)], []), 10
-    yield sheet_of(1024, 0, [1], arcs[:-1] + [(1022, 4)], []), 10
-    few = two_each_way(200)
+    for third in ((1023, 5), (1022, 4)):
+        yield sheet_of(1024, 0, [1], arcs[:-1] + [third], []), 12
+        yield sheet_of(1024, 0, [1], arcs[:-1] + [third], flat(2048)), 0
+    few = each_way(2, 200)
     for more, answer in ((14, 0), (15, 7)):
         regions = many_chains(272, more)
         if len(regions) != 4080 + more:
             sys.exit('%d region words' % len(regions))
         yield sheet_of(200, 199, [1] * 15, few[:272 + more], regions), answer
     yield sheet_of(1, 0, [1] * 15, [(0, 0)], chain(4094)), 14
+
+
+def large_wide():
+    arcs = each_way(4, 512)
+    yield sheet_of(512, 0, [1], arcs, flat(2048)[::-1]), 0
+    yield sheet_of(512, 0, [1], [(v, v) for v in range(512) for _ in range(4)], flat(2048)), 0
+    yield sheet_of(512, 0, [1], arcs + [(0, 0)], []), 7
+    for fifth in ((511, 5), (510, 12)):
+        yield sheet_of(512, 0, [1], arcs[:-1] + [fifth], []), 10
+        yield sheet_of(512, 0, [1], [fifth] + arcs[:-1], flat(2048)), 10
 
 
 def random_sheets():
@@ -234,9 +260,19 @@ def random_sheets():
         yield packed(damaged(chance, words, turn)), None
 
 
+def random_wide():
+    """Up to three, four and five arcs each way; of the last, some are refused."""
+    chance = Chance(9)
+    for turn in range(120):
+        ways = 3 + turn % 3
+        words = random_words(chance, 8, ways)
+        yield packed(words), 0 if ways < 5 else None
+        yield packed(damaged(chance, words, turn % 4)), None
+
+
 FAMILIES = [
     marked, nodes_and_sources, spans, heights, arc_ends, degrees, bits, parents, leaves, childless_regions, kinds, order, cuts, pairs,
-    full_size, large, random_sheets,
+    wide_pairs, full_size, large, large_wide, random_sheets, random_wide,
 ]
 
 
@@ -246,17 +282,20 @@ def vectors():
         yield bytes_in(digits), int(answer)
 
 
+def change_vectors():
+    for digits, answer in change_fields('judge'):
+        yield bytes_in(digits), int(answer)
+
+
 def said(answer):
     return 'refused input %d' % answer if answer else 'accepted'
 
 
-def checked(family):
-    """The cases of a family with the answers expected."""
+def answered(family, most_each_way=MOST_EACH_WAY):
+    """The cases of a family with the answers expected and stated."""
     for sheet, stated in family():
-        case, answer = case_of(1, sheet), said(judge(sheet))
-        hold(family, case, answer, None if stated is None else said(stated))
-        yield case, answer
+        yield case_of(1, sheet), said(judge(sheet, most_each_way)), None if stated is None else said(stated)
 
 
 def lines():
-    return lines_of([vectors], FAMILIES, checked)
+    return lines_of([vectors], [change_vectors], FAMILIES, answered)

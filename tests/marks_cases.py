@@ -1,14 +1,16 @@
 """The cases of the listing: a sheet, and what `marks` prints of it.
 
-What is expected comes from tests/procedure.py. It has to agree with every line of tests/marks_vectors.txt and with each text that a case
-states, and what is printed of an ended run has to be shortest. Otherwise the script stops.
+What is expected comes from tests/procedure.py. It has to agree with every line of tests/marks_vectors.txt, with the limit of that time,
+and of tests/2026-01_vectors.txt, and with each text that a case states, and what is printed of an ended run has to be shortest. Otherwise
+the script stops.
 """
 
-from cases import bytes_in, case_of, data, hold, lines_of
+from cases import bytes_in, case_of, change_fields, data, lines_of
+from paper import MOST_EACH_WAY
 from procedure import printed
 from sheets import (
-    FAULTS, HALL_A, Chance, balanced, chain, changed, divided, flat, halving, ladder, one_deep, packed, random_arcs, random_regions, two_each_way,
-    with_faults,
+    FAULTS, HALL_A, WIDE, Chance, balanced, chain, changed, divided, each_way, flat, halving, ladder, one_deep, packed, random_arcs,
+    random_regions, turntable, with_faults,
 )
 
 
@@ -30,6 +32,8 @@ def refused():
         for change in changes:
             yield with_faults(change), 'refused %d' % number
     yield with_faults(), None
+    for change in WIDE:
+        yield with_faults(change), None
 
 
 def sizes():
@@ -44,15 +48,24 @@ def sizes():
         yield hall.ljust(size, b'\0'), 'refused 1'
 
 
-def small_halls():
-    chance = Chance(5)
+def halls_of(seed, turns, ways):
+    chance = Chance(seed)
     lengths = [[0], [0, 1], [1, 2, 5], [262143], list(range(0, 262144, 4099))]
-    for turn in range(80):
+    for turn in range(turns):
         nodes = 2 + chance.below(12)
-        count = 1 + chance.below(2 * nodes)
-        arcs = random_arcs(chance, nodes, count, lengths[turn % 5])
+        count = 1 + chance.below(ways * nodes)
+        arcs = random_arcs(chance, nodes, count, lengths[turn % 5], ways)
         shapes = [flat(count), chain(1 + turn % 15, count), ladder(1 + turn % 15, count), balanced(2, list(range(count))), random_regions(chance, count)[0]]
         yield divided(nodes, chance.below(nodes), arcs, shapes[turn % 5], lambda h: 1 + chance.below(3)), None
+
+
+def small_halls():
+    yield from halls_of(5, 80, 2)
+    yield from halls_of(16, 15, 3)
+    yield from halls_of(18, 30, 4)
+    for lanes in (3, 4):
+        for length in (lambda a: 1, lambda a: a % 2, lambda a: 20 - a):
+            yield divided(2 * lanes + 2, 0, turntable(lanes, length), balanced(lanes, list(range(3 * lanes))), lambda h: 2), None
 
 
 def full_size():
@@ -61,11 +74,14 @@ def full_size():
     wide = random_arcs(chance, 1024, 2048, list(range(262144)))
     longest = [(v, v + 1, 262143) for v in range(1023)] + [(v + 1, v, 0) for v in range(1023)]
     yield divided(1024, 0, longest, balanced(4, chance.shuffled(range(2046))), lambda h: 1 + h), None
-    yield divided(1024, 1023, two_each_way(1024), one_deep(2032), lambda h: 1_000_000), None
+    yield divided(1024, 1023, each_way(2, 1024), one_deep(2032), lambda h: 1_000_000), None
     yield divided(1024, 5, wide, halving(), lambda h: 1), None
     yield divided(1024, 9, mixed, flat(2048), lambda h: 2), None
     yield divided(1024, 700, wide, balanced(13, chance.shuffled(range(2048))), lambda h: 1 + chance.below(1_000_000)), None
     yield divided(1024, 1, longest[:1], flat(1), lambda h: 1), None
+    ties = random_arcs(chance, 512, 2048, [0, 1, 2], 4)
+    yield divided(512, 3, ties, halving(), lambda h: 1), None
+    yield divided(512, 511, each_way(4, 512), flat(2048), lambda h: 2), None
 
 
 FAMILIES = [marked, refused, sizes, small_halls, full_size]
@@ -77,12 +93,15 @@ def vectors():
         yield bytes_in(digits), text.replace('|', '\n')
 
 
-def checked(family):
-    """The cases of a family with the texts expected."""
+def change_vectors():
+    for digits, text in change_fields('marks'):
+        yield bytes_in(digits), text.replace('_', ' ').replace('|', '\n').rstrip('\n')
+
+
+def answered(family, most_each_way=MOST_EACH_WAY):
+    """The cases of a family with the texts expected and stated."""
     for sheet, stated in family():
-        case, text = case_of(5, sheet), '\n'.join(printed(sheet))
-        hold(family, case, text, stated)
-        yield case, text
+        yield case_of(5, sheet), '\n'.join(printed(sheet, most_each_way)), stated
 
 
 def kind(text):
@@ -90,4 +109,4 @@ def kind(text):
 
 
 def lines():
-    return lines_of([vectors], FAMILIES, checked, kind, str)
+    return lines_of([vectors], [change_vectors], FAMILIES, answered, kind, str)

@@ -3,6 +3,9 @@ the Rattle code. Where kinds are in order, the lists are the sheet's sections.
 """
 import re
 
+# The most arcs from a node, and the most to a node. The paper says two, change request 2026-01 four.
+MOST_EACH_WAY = 4
+
 
 class Lists:
     def __init__(self, sheet):
@@ -21,9 +24,14 @@ class Lists:
         self.parents = [p if k == 6 else (p >> 11) % 4096 for k, p in self.regions]
 
 
-def three_alike(numbers):
+def more_alike(numbers, most):
+    """Whether some number is there more than so many times."""
     ranked = sorted(numbers)
-    return any(low == high for low, high in zip(ranked, ranked[2:]))
+    return any(low == high for low, high in zip(ranked, ranked[most:]))
+
+
+def crowded(s, most_each_way=MOST_EACH_WAY):
+    return more_alike(s.tails, most_each_way) or more_alike(s.heads, most_each_way)
 
 
 def wrong_parent(s):
@@ -59,7 +67,7 @@ REFUSALS = {
     7: lambda s: len(s.spans) > 15 or len(s.ends) > 2048 or len(s.regions) > 4094,
     8: lambda s: any(node >= s.nodes for node in s.tails + s.heads),
     9: lambda s: any(length > 262143 for length in s.lengths),
-    10: lambda s: three_alike(s.tails) or three_alike(s.heads),
+    10: crowded,
     11: wrong_parent,
     12: wrong_leaves,
     13: childless,
@@ -71,7 +79,8 @@ def applies(number, sheet):
     return REFUSALS[number](Lists(sheet))
 
 
-def judge(sheet):
-    """The lowest number that applies, or 0."""
+def judge(sheet, most_each_way=MOST_EACH_WAY):
+    """The lowest number that applies, or 0. Another limit of arcs each way can be given."""
     lists = Lists(sheet)
-    return next((number for number, test in REFUSALS.items() if test(lists)), 0)
+    tests = {**REFUSALS, 10: lambda s: crowded(s, most_each_way)}
+    return next((number for number, test in tests.items() if test(lists)), 0)

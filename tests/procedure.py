@@ -1,11 +1,11 @@
 """The procedure, its answer table and the route reader, written from the paper. They share nothing with the Rattle code.
 
 `Run` keeps a heap for each inner region, `PlainRun` looks through all children instead; the cases hold the two to each other. Distances
-are found a second way, by `distances`, and every ended table is held to them.
+are found a second way, by `distances`, and every ended table is held to them. The limit of arcs each way is the judge's alone.
 """
 from heapq import heapify, heappop, heappush
 
-from paper import Lists, judge
+from paper import MOST_EACH_WAY, Lists, judge
 
 NONE = 2**28 - 1
 HEADER = 9
@@ -156,9 +156,9 @@ def distances(hall):
     return found
 
 
-def printed(sheet):
+def printed(sheet, most_each_way=MOST_EACH_WAY):
     """The lines that `marks` prints. An ended run is held to `shortest`."""
-    number = judge(sheet)
+    number = judge(sheet, most_each_way)
     if number:
         return ['refused %d' % number]
     hall = Hall(sheet)
@@ -177,9 +177,9 @@ def table_size(nodes):
     return HEADER + 2 * nodes
 
 
-def table_refusal(sheet, length):
+def table_refusal(sheet, length, most_each_way=MOST_EACH_WAY):
     """The refusal of a run, as ('input', number) or ('state', 21), or None."""
-    number = judge(sheet)
+    number = judge(sheet, most_each_way)
     if number:
         return 'input', number
     return ('state', 21) if length != table_size(Lists(sheet).nodes) else None
@@ -242,9 +242,9 @@ def table_faults(hall, table):
     }
 
 
-def route(sheet, table, node, room):
+def route(sheet, table, node, room, most_each_way=MOST_EACH_WAY):
     """('route', arcs), ('no route',), ('input', number) or ('state', number)."""
-    number = judge(sheet)
+    number = judge(sheet, most_each_way)
     if number:
         return 'input', number
     hall = Hall(sheet)

@@ -1,13 +1,14 @@
 """The cases of the route reader: a sheet, a table's words, a node and the buffer's length, and the route, 'no route' or the refusal expected.
 
-What is expected comes from the route reader of tests/procedure.py. It has to agree with every line of tests/route_vectors.txt and with each answer that
-a case states; otherwise the script stops.
+What is expected comes from the route reader of tests/procedure.py. It has to agree with every line of tests/route_vectors.txt, with the
+limit of that time, and of tests/2026-01_vectors.txt, and with each answer that a case states; otherwise the script stops.
 """
-from cases import bytes_in, case_of, data, hold, lines_of, with_words, words_in
+from cases import bytes_in, case_of, change_fields, data, lines_of, stated_in, with_words, words_in
+from paper import MOST_EACH_WAY
 from procedure import HEADER, NONE, Hall, distances, route, tables
 from sheets import (
-    FAULTS, HALL_A, Chance, balanced, chain, changed, divided, flat, halving, ladder, one_deep, packed, random_arcs, random_regions,
-    sheet_of, single_children, two_each_way, with_faults,
+    FAULTS, HALL_A, WIDE, Chance, balanced, chain, changed, divided, each_way, flat, halving, ladder, one_deep, packed, random_arcs,
+    random_regions, sheet_of, single_children, turntable, with_faults,
 )
 
 
@@ -81,13 +82,13 @@ def marked():
     yield from routes(ring, ended(ring))
 
 
-def small_halls():
-    chance = Chance(5)
+def small_halls(seed, turns, ways):
+    chance = Chance(seed)
     lengths = [[0], [0, 1], [1], [0, 1, 2, 5], [262143], list(range(0, 262144, 4099))]
-    for turn in range(40):
+    for turn in range(turns):
         nodes = 2 + chance.below(8)
-        count = 2 * nodes - chance.below(nodes)
-        arcs = random_arcs(chance, nodes, count, lengths[turn % 6])
+        count = ways * nodes - chance.below(nodes)
+        arcs = random_arcs(chance, nodes, count, lengths[turn % 6], ways)
         shapes = [
             flat(count), ladder(1 + turn % 15, count), chain(1 + turn % 15, count), single_children(2 + turn % 3, count),
             balanced(2, chance.shuffled(range(count))), random_regions(chance, count)[0],
@@ -98,13 +99,20 @@ def small_halls():
         yield chance, sheet, other
 
 
-def good_tables():
+def good_tables(halls=(5, 40, 2)):
     """Tables of a run, of a run of another division of the same hall, and of other shortest trees."""
-    for chance, sheet, other in small_halls():
+    for chance, sheet, other in small_halls(*halls):
         yield from routes(sheet, ended(sheet))
         for table in (ended(other), other_tree(chance, sheet)):
             nodes = Hall(sheet).nodes
             yield from routes(sheet, table, sorted({chance.below(nodes), nodes - 1}))
+
+
+def good_wide_tables():
+    yield from good_tables((14, 8, 4))
+    for change in WIDE:
+        sheet = with_faults(change)
+        yield from routes(sheet, ended(sheet), [1, 2, 6])
 
 
 def lengths_of_tables():
@@ -148,7 +156,7 @@ def payloads():
 def one_off():
     """One distance one too small or too large, one feeding arc another, with all else right."""
     chance = Chance(6)
-    for _, sheet, _ in list(small_halls())[::4]:
+    for _, sheet, _ in list(small_halls(5, 40, 2))[::4] + list(small_halls(14, 8, 4))[::4]:
         hall, table = Hall(sheet), ended(sheet)
         for node in range(hall.nodes):
             label = table[label_at(node)] % 2**28
@@ -198,12 +206,26 @@ def rings():
 
 
 def parallel():
-    """Two arcs with the same ends: either feeds where they are as long, the shorter one alone where not."""
-    for lengths in ((3, 3), (3, 4), (4, 3), (0, 0)):
-        sheet = sheet_of(2, 0, [1], [(0, 1, lengths[0]), (0, 1, lengths[1])], flat(2))
-        for arc in range(2):
-            good = lengths[arc] == min(lengths)
+    """Arcs with the same ends: each feeds that is as short as any."""
+    for lengths in ((3, 3), (3, 4), (4, 3), (0, 0), (3, 3, 3), (5, 3, 4), (0, 0, 0, 0), (4, 3, 3, 4), (9, 8, 7, 6)):
+        sheet = sheet_of(2, 0, [1], [(0, 1, length) for length in lengths], flat(len(lengths)))
+        for arc, length in enumerate(lengths):
+            good = length == min(lengths)
             yield (sheet, table_of([0, min(lengths)], [NONE, arc]), 1, 1), said(('route', [arc])) if good else 'refused state 24'
+
+
+def turntables():
+    """Each of the lanes feeds the turntable that is as short as any, and no other arc does."""
+    for lanes in (3, 4):
+        table, last = lanes + 1, 2 * lanes + 1
+        for length in (lambda a: 0, lambda a: 1, lambda a: 2 + a % 2, lambda a: 9 - a if a < 2 * lanes else 1):
+            sheet = divided(last + 1, 0, turntable(lanes, length), balanced(3, list(range(3 * lanes))), lambda h: 1)
+            shortest = min(length(v) + length(lanes + v) for v in range(lanes))
+            yield from routes(sheet, ended(sheet), [0, table, last])
+            for arc in range(3 * lanes):
+                good = lanes <= arc < 2 * lanes and length(arc - lanes) + length(arc) == shortest
+                answer = said(('route', [arc - lanes, arc, 3 * lanes - 1])) if good else 'refused state 24'
+                yield (sheet, with_payload(ended(sheet), feeding_at(table), arc), last, 3), answer
 
 
 # Two faults in one case. Each change makes one fault of a case over a sheet of 8 nodes, of which 0 and 7 are not reached.
@@ -257,16 +279,26 @@ def pairs():
                 yield made(other, lambda case: {'sheet': sheet}), 'refused input %d' % number
 
 
+def wide_pairs():
+    """Three and four arcs each way in the sheet, with the table of another, and with each fault of a case besides."""
+    for change in WIDE:
+        sheet = with_faults(change)
+        yield made(lambda case: {'sheet': sheet}), 'refused state 24'
+        for name, others in CASE_FAULTS.items():
+            for other in others:
+                yield made(other, lambda case: {'sheet': sheet}), 'refused state 24' if name == 'state 25' else 'refused ' + name
+
+
 # Larger halls.
 
 def middling():
-    chance = Chance(7)
-    for turn in range(6):
-        nodes = 60 + chance.below(60)
-        arcs = random_arcs(chance, nodes, 2 * nodes, [[0, 1], list(range(262144)), [0]][turn % 3])
-        sheet = divided(nodes, chance.below(nodes), arcs, balanced(3, chance.shuffled(range(2 * nodes))), lambda h: 3)
-        for table in (ended(sheet), other_tree(chance, sheet)):
-            yield from routes(sheet, table, [chance.below(nodes)])
+    for chance, turns, least, ways in ((Chance(7), 6, 60, 2), (Chance(15), 3, 30, 4)):
+        for turn in range(turns):
+            nodes = least + chance.below(least)
+            arcs = random_arcs(chance, nodes, ways * nodes, [[0, 1], list(range(262144)), [0]][turn % 3], ways)
+            sheet = divided(nodes, chance.below(nodes), arcs, balanced(3, chance.shuffled(range(ways * nodes))), lambda h: 3)
+            for table in (ended(sheet), other_tree(chance, sheet)):
+                yield from routes(sheet, table, [chance.below(nodes)])
 
 
 def full_size():
@@ -286,25 +318,38 @@ def full_size():
     sheet = divided(1024, 7, arcs, one_deep(2032), lambda h: 1_000_000)
     yield (sheet, other_tree(chance, sheet), 9, 1023), None
     yield (sheet, ended(divided(1024, 7, arcs, halving(), lambda h: 2)), 1000, 4096), None
-    wide = divided(1024, 0, two_each_way(1024), halving(), lambda h: 1_000_000)
+    wide = divided(1024, 0, each_way(2, 1024), halving(), lambda h: 1_000_000)
     yield (wide, ended(wide), 1023, 600), None
     alone = sheet_of(1024, 5, [1])
     yield from routes(alone, ended(alone), [0, 5])
 
 
+def full_size_wide():
+    chance = Chance(17)
+    arcs = random_arcs(chance, 512, 2048, [0, 1, 2], 4)
+    ties = divided(512, 7, arcs, halving(), lambda h: 2)
+    yield (ties, other_tree(chance, ties), 9, 511), None
+    yield (ties, ended(divided(512, 7, arcs, flat(2048), lambda h: 1)), 500, 4096), None
+    wide = divided(512, 0, each_way(4, 512), one_deep(2032), lambda h: 1_000_000)
+    yield (wide, ended(wide), 511, 600), None
+
+
 FAMILIES = [
-    marked, good_tables, lengths_of_tables, kinds, payloads, one_off, unreached, rings, parallel, pairs, middling, full_size,
+    marked, good_tables, good_wide_tables, lengths_of_tables, kinds, payloads, one_off, unreached, rings, parallel, turntables, pairs,
+    wide_pairs, middling, full_size, full_size_wide,
 ]
 
 
 def vectors():
     for line in data('route_vectors.txt'):
         sheet, words, node, room, answer, arcs = line.split()
-        if answer.startswith('route:'):
-            stated = said(('route', [] if arcs == '-' else [int(arc) for arc in arcs.split(',')]))
-        else:
-            stated = 'no route' if answer == 'no-route' else 'refused ' + answer.replace(':', ' ')
-        yield (bytes_in(sheet), words_in(words), int(node), int(room)), stated
+        listed = [] if arcs == '-' else [int(arc) for arc in arcs.split(',')]
+        yield (bytes_in(sheet), words_in(words), int(node), int(room)), stated_in(answer, listed)
+
+
+def change_vectors():
+    for sheet, words, node, room, answer, arcs in change_fields('route'):
+        yield (bytes_in(sheet), words_in(words), int(node), int(room)), stated_in(answer, words_in(arcs))
 
 
 def said(answer):
@@ -313,12 +358,10 @@ def said(answer):
     return 'no route' if answer[0] == 'no route' else 'refused %s %d' % answer
 
 
-def checked(family):
-    """The cases of a family with the answers expected."""
+def answered(family, most_each_way=MOST_EACH_WAY):
+    """The cases of a family with the answers expected and stated."""
     for (sheet, table, node, room), stated in family():
-        case, answer = case_of(4, sheet, node, room, table), said(route(sheet, table, node, room))
-        hold(family, case, answer, stated)
-        yield case, answer
+        yield case_of(4, sheet, node, room, table), said(route(sheet, table, node, room, most_each_way)), stated
 
 
 def kind(answer):
@@ -327,4 +370,4 @@ def kind(answer):
 
 
 def lines():
-    return lines_of([vectors], FAMILIES, checked, kind)
+    return lines_of([vectors], [change_vectors], FAMILIES, answered, kind)

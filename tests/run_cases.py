@@ -1,17 +1,17 @@
 """The cases of a run: a sheet, a limit of rounds (None for none) and the table's length, and the answer and the table expected, or the refusal.
 
-What is expected comes from tests/procedure.py. It has to agree with every line of tests/limited_vectors.txt and tests/marks_vectors.txt
-and with each answer that a case states; every ended table has to hold the distances found a second way, and on small halls the run without heaps has
-to make the same tables. Otherwise the script stops.
+What is expected comes from tests/procedure.py. It has to agree with every line of tests/limited_vectors.txt and tests/marks_vectors.txt,
+with the limit of that time, and of tests/2026-01_vectors.txt, and with each answer that a case states; every ended table has to hold the
+distances found a second way, and on small halls the run without heaps has to make the same tables. Otherwise the script stops.
 """
 import sys
 
-from cases import bytes_in, case_of, data, hold, lines_of, with_words, words_in
-from paper import judge
+from cases import BASE_EACH_WAY, bytes_in, case_of, change_fields, data, lines_of, stated_in, with_words, words_in
+from paper import MOST_EACH_WAY, judge
 from procedure import HEADER, Hall, PlainRun, distances, printed, shortest, table_refusal, table_size, tables
 from sheets import (
-    FAULTS, HALL_A, Chance, alternate, balanced, chain, changed, divided, flat, halving, ladder, many_chains, one_deep, packed,
-    random_arcs, random_regions, sheet_of, side_by_side, single_children, two_each_way, with_faults, woken,
+    FAULTS, HALL_A, WIDE, Chance, alternate, balanced, chain, changed, divided, each_way, flat, halving, inner, ladder, leaf, many_chains,
+    one_deep, packed, random_arcs, random_regions, sheet_of, side_by_side, single_children, turntable, with_faults, woken,
 )
 
 MOST_LIMIT = 2**32 - 1
@@ -75,19 +75,26 @@ def refused():
     yield packed([0x10000000, 0x20000000]), [(None, 9, 'refused input 4')]
 
 
+def wide():
+    """Three and four arcs each way, with a table of the right length and of others."""
+    for change in WIDE:
+        yield around_the_end(with_faults(change))
+        yield with_faults(change), [(limit, length, 'refused state 21') for length in (24, 26, 17, 0) for limit in (None, 0, 1)]
+
+
 # Small halls.
 
 SPANS = [lambda h: 1, lambda h: 1_000_000, lambda h: 1 + h % 3, lambda h: 2 if h == 1 else 1]
 
 
-def small_halls():
+def small_halls(seed, turns, most_nodes, ways):
     """Halls with ties, zero lengths, parallel arcs, self-arcs and nodes that no route reaches, in every shape of division."""
-    chance = Chance(2)
+    chance = Chance(seed)
     lengths = [[0], [0, 1], [1], [0, 1, 2, 5], [262143], list(range(0, 262144, 4099))]
-    for turn in range(72):
-        nodes = 2 + chance.below(9)
-        count = 1 + chance.below(2 * nodes) if turn % 4 else 2 * nodes
-        arcs = random_arcs(chance, nodes, count, lengths[turn % 6])
+    for turn in range(turns):
+        nodes = 2 + chance.below(most_nodes - 1)
+        count = 1 + chance.below(ways * nodes) if turn % 4 else ways * nodes
+        arcs = random_arcs(chance, nodes, count, lengths[turn % 6], ways)
         shapes = [
             flat(count), flat(count)[::-1], chain(1 + turn % 15, count), ladder(1 + turn % 15, count), single_children(1 + turn % 15, count),
             balanced(2, chance.shuffled(range(count))), balanced(3, list(range(count))), random_regions(chance, count)[0],
@@ -99,7 +106,7 @@ def small_halls():
 def listed_halls():
     for height in range(1, 16):
         yield single(height)
-        arcs = two_each_way(4)
+        arcs = each_way(2, 4)
         yield divided(4, height % 4, arcs, chain(height, 8), lambda h: 1 + h % 2)
         yield divided(4, height % 4, arcs, ladder(height, 8), lambda h: 1_000_000)
     for arcs in ([(0, 0, 0)], [(0, 0, 5)], [(0, 0, 0)] * 2, [(0, 1, 4), (0, 1, 3)], [(0, 1, 3), (0, 1, 3)], [(1, 0, 2)], [(1, 2, 0), (2, 1, 0)],
@@ -108,21 +115,42 @@ def listed_halls():
             yield divided(3, 0, arcs, regions, lambda h: 1)
 
 
+def turntables():
+    """Lanes that tie, that differ by turns, and each quicker than the one before; undivided, divided across the lanes, and by lanes."""
+    for lanes in (3, 4):
+        arcs = 3 * lanes
+        for length in (lambda a: 0, lambda a: 1, lambda a: a % 2, lambda a: 2 * arcs - a):
+            for regions in (
+                flat(arcs), flat(arcs)[::-1], [inner(0)] * 3 + [leaf(3 - a // lanes, a) for a in range(arcs)],
+                [inner(0)] * lanes + [leaf(1 + a % lanes, a) for a in range(arcs)],
+            ):
+                yield divided(2 * lanes + 2, 0, turntable(lanes, length), regions, lambda h: 1 + h % 2)
+
+
+def wide_halls():
+    for ways in (3, 4):
+        for height in (1, 2, 15):
+            yield divided(5, height % 5, each_way(ways, 5), chain(height, 5 * ways), lambda h: 1 + h % 2)
+            yield divided(5, height % 5, each_way(ways, 5), ladder(height, 5 * ways), lambda h: 1_000_000)
+        for arcs in ([(0, 0, 0)] * ways, [(0, 1, 3)] * ways, [(0, 1, 9 - a) for a in range(ways)], [(1, 0, 2)] * ways + [(0, 1, 2)] * ways):
+            for regions in (flat(len(arcs)), flat(len(arcs))[::-1], single_children(2, len(arcs))):
+                yield divided(3, 0, arcs, regions, lambda h: 1)
+
+
 def small():
-    for sheet in listed_halls():
-        yield around_the_end(sheet)
-    for sheet in small_halls():
-        yield around_the_end(sheet)
+    drawn = [small_halls(2, 72, 10, 2), small_halls(10, 12, 6, 3), small_halls(11, 24, 6, 4)]
+    for halls in (listed_halls(), turntables(), wide_halls(), *drawn):
+        yield from (around_the_end(sheet) for sheet in halls)
 
 
 # Larger halls: middling ones, such in which the deepest region is woken again and again, and full size.
 
-def middling():
-    chance = Chance(3)
-    for turn in range(16):
-        nodes = 40 + chance.below(60)
-        count = 2 * nodes - chance.below(nodes)
-        arcs = random_arcs(chance, nodes, count, [[0, 1, 2, 3], list(range(262144)), list(range(100))][turn % 3])
+def middling_halls(seed, turns, more_nodes, ways):
+    chance = Chance(seed)
+    for turn in range(turns):
+        nodes = 40 + chance.below(more_nodes)
+        count = ways * nodes - chance.below(nodes)
+        arcs = random_arcs(chance, nodes, count, [[0, 1, 2, 3], list(range(262144)), list(range(100))][turn % 3], ways)
         shapes = [
             flat(count), ladder(15, count), chain(15, count), balanced(2, chance.shuffled(range(count))), balanced(5, list(range(count))),
             side_by_side([1 + chance.below(15) for _ in range(count)]), random_regions(chance, count)[0], balanced(2, list(range(count))),
@@ -133,9 +161,15 @@ def middling():
         yield sheet, [(limit, right(sheet), None) for limit in (rounds // 2, rounds - 1, rounds + 5)] + [(None, right(sheet), None)]
 
 
+def middling():
+    yield from middling_halls(3, 16, 60, 2)
+    yield from middling_halls(12, 5, 10, 4)
+
+
 def woken_again():
-    for levels, links in ((1, 1), (2, 3), (3, 1), (5, 20), (8, 60), (11, 100), (14, 12)):
-        nodes, arcs, regions = woken(levels, links)
+    chains = [(levels, links, 1) for levels, links in ((1, 1), (2, 3), (3, 1), (5, 20), (8, 60), (11, 100), (14, 12))]
+    for levels, links, lanes in chains + [(2, 3, 4), (5, 6, 3), (9, 20, 4)]:
+        nodes, arcs, regions = woken(levels, links, lanes)
         yield around_the_end(divided(nodes, 0, arcs, regions, lambda h: 1_000_000))
         if levels < 9:
             yield around_the_end(divided(nodes, 0, arcs, regions, lambda h: 1))
@@ -144,7 +178,7 @@ def woken_again():
 
 def full_size():
     chance = Chance(4)
-    arcs = two_each_way(1024)
+    arcs = each_way(2, 1024)
     mixed = random_arcs(chance, 1024, 2048, list(range(1000)))
     ties = random_arcs(chance, 1024, 2048, [0, 1, 2])
     wide = random_arcs(chance, 1024, 2048, list(range(262144)))
@@ -159,12 +193,26 @@ def full_size():
         (divided(1024, 9, mixed, flat(2048), lambda h: 1), (MOST_LIMIT,)),
         (divided(1024, 0, longest, balanced(4, chance.shuffled(range(2046))), lambda h: 1 + h), (None,)),
         (divided(1024, 0, wide, balanced(13, chance.shuffled(range(2048))), lambda h: 1 + chance.below(1_000_000)), (2,)),
-        (divided(200, 199, two_each_way(200)[:286], many_chains(272, 14), lambda h: 1 + h % 2), (5, None)),
+        (divided(200, 199, each_way(2, 200)[:286], many_chains(272, 14), lambda h: 1 + h % 2), (5, None)),
     ):
         yield sheet, [(limit, right(sheet), None) for limit in limits]
 
 
-FAMILIES = [marked, lengths_of_tables, refused, small, middling, woken_again, full_size]
+def full_size_wide():
+    chance = Chance(13)
+    ties = random_arcs(chance, 512, 2048, [0, 1, 2], 4)
+    wide = random_arcs(chance, 512, 2048, list(range(262144)), 4)
+    for sheet, limit in (
+        (divided(512, 511, each_way(4, 512), one_deep(2032), lambda h: 1_000_000), None),
+        (divided(512, 0, ties, halving(), lambda h: 1), 1000),
+        (divided(512, 7, ties, alternate(), lambda h: 2), 100),
+        (divided(512, 7, wide, flat(2048)[::-1], lambda h: 1_000_000), None),
+        (divided(512, 9, wide, balanced(13, chance.shuffled(range(2048))), lambda h: 1 + chance.below(1_000_000)), 2),
+    ):
+        yield sheet, [(limit, right(sheet), None)]
+
+
+FAMILIES = [marked, lengths_of_tables, refused, wide, small, middling, woken_again, full_size, full_size_wide]
 
 
 # The vectors.
@@ -172,19 +220,26 @@ FAMILIES = [marked, lengths_of_tables, refused, small, middling, woken_again, fu
 def limited_vectors():
     for line in data('limited_vectors.txt'):
         sheet, limit, length, answer, words = line.split()
-        stated = with_words(answer, words_in(words)) if answer in ('ended', 'paused') else 'refused ' + answer.replace(':', ' ')
-        yield bytes_in(sheet), [(int(limit), int(length), stated)]
+        yield bytes_in(sheet), [(int(limit), int(length), stated_in(answer, words_in(words)))]
+
+
+def change_vectors():
+    """Where a limited run has ended, the run to the end has the same answer."""
+    for sheet, limit, length, answer, words in change_fields('run'):
+        for rounds in (int(limit), None) if answer == 'ended' else (int(limit),):
+            yield bytes_in(sheet), [(rounds, int(length), stated_in(answer, words_in(words)))]
 
 
 def marks_vectors():
-    """The sheets of the vectors of `marks`, to their end, where what it prints is what the procedure says."""
+    """The sheets of the vectors of `marks`, to their end, where what it prints is what the procedure says. 25 words for a refused one."""
     for line in data('marks_vectors.txt'):
         digits, stated = line.split(' ', 1)
         sheet = bytes_in(digits)
-        found = '|'.join(printed(sheet))
+        found = '|'.join(printed(sheet, BASE_EACH_WAY))
         if found != stated:
             sys.exit('marks prints %s: %s' % (found[:200], line[:200]))
-        yield sheet, [(None, 25 if judge(sheet) else right(sheet), None)]
+        lengths = ([25] if judge(sheet, BASE_EACH_WAY) else []) + ([] if judge(sheet) else [right(sheet)])
+        yield sheet, [(None, length, None) for length in lengths]
 
 
 # What is expected.
@@ -197,9 +252,9 @@ def sound(hall, table):
     return all(label >= distance for label, distance in zip(labels, distances(hall)))
 
 
-def answers(sheet, wanted):
+def answers(sheet, wanted, most_each_way):
     """The answers expected for a sheet and pairs of a limit and a length."""
-    refusals = [table_refusal(sheet, length) for _, length in wanted]
+    refusals = [table_refusal(sheet, length, most_each_way) for _, length in wanted]
     if all(refusals):
         return ['refused %s %d' % refusal for refusal in refusals]
     hall = Hall(sheet)
@@ -212,14 +267,12 @@ def answers(sheet, wanted):
     return ['refused %s %d' % refusal if refusal else said[limit] for refusal, (limit, _) in zip(refusals, wanted)]
 
 
-def checked(family):
-    """The cases of a family with the answers expected."""
+def answered(family, most_each_way=MOST_EACH_WAY):
+    """The cases of a family with the answers expected and stated."""
     for sheet, cases in family():
-        for (limit, length, stated), answer in zip(cases, answers(sheet, [case[:2] for case in cases])):
-            case = case_of(2, sheet, words=length) if limit is None else case_of(3, sheet, limit, length)
-            hold(family, case, answer, stated)
-            yield case, answer
+        for (limit, length, stated), answer in zip(cases, answers(sheet, [case[:2] for case in cases], most_each_way)):
+            yield case_of(2, sheet, words=length) if limit is None else case_of(3, sheet, limit, length), answer, stated
 
 
 def lines():
-    return lines_of([limited_vectors, marks_vectors], FAMILIES, checked)
+    return lines_of([limited_vectors, marks_vectors], [change_vectors], FAMILIES, answered)

@@ -50,9 +50,16 @@ def side_by_side(depths):
     return regions
 
 
-def two_each_way(nodes):
-    """Two arcs from each node and two to each, with lengths that differ."""
-    return [(v, (v + step) % nodes, 127 * v + step) for v in range(nodes) for step in (1, 5)]
+def each_way(ways, nodes):
+    """So many arcs from each node and so many to each, with lengths that differ."""
+    return [(v, (v + step) % nodes, 127 * v + step) for v in range(nodes) for step in range(1, 4 * ways, 4)]
+
+
+def turntable(lanes, length=lambda a: 1):
+    """Arcs from node 0 to so many lanes, from these to a turntable, and from it to so many nodes; length gives that of an arc."""
+    table, numbers = lanes + 1, range(1, lanes + 1)
+    ends = [(0, v) for v in numbers] + [(v, table) for v in numbers] + [(table, table + v) for v in numbers]
+    return [(tail, head, length(a)) for a, (tail, head) in enumerate(ends)]
 
 
 def changed(words, at, word):
@@ -123,12 +130,17 @@ FAULTS = {
     7: [lambda p: p.spans.extend([1] * 13), lambda p: p.spans.extend([1] * 40)],
     8: [lambda p: p.heads([0], 8), lambda p: p.tails([5], 1023)],
     9: [lambda p: p.length(0, 262144), lambda p: p.length(5, 2**28 - 1)],
-    10: [lambda p: p.tails([1, 2, 3], 2), lambda p: p.heads([2, 3, 4], 4)],
+    10: [lambda p: p.tails([0, 1, 2, 3, 4], 2), lambda p: p.heads([1, 2, 3, 4, 5], 4)],
     11: [lambda p: p.region(2, inner(2)), lambda p: p.leaf_parent(8, 3)],
     12: [lambda p: p.leaf_arc(3, 6), lambda p: p.leaf_arc(7, 3)],
     13: [lambda p: p.regions.append(inner(0)), lambda p: p.regions.extend([inner(0), inner(9)])],
     14: [lambda p: p.spans.extend([1] * 3), lambda p: p.spans.pop(1)],
 }
+
+# Three and four arcs from a node and to a node, which is no fault.
+WIDE = [
+    lambda p: p.tails([1, 2, 3], 2), lambda p: p.heads([2, 3, 4], 4), lambda p: p.tails([2, 3, 4, 5], 3), lambda p: p.heads([0, 1, 2, 3], 2),
+]
 
 
 def with_faults(*changes):
@@ -198,11 +210,15 @@ def random_regions(chance, arcs):
     return words, 1 + max((height(group) for group in groups), default=0)
 
 
-def random_words(chance, most_nodes):
+def random_ends(chance, nodes, count, ways):
+    """The tails and heads of so many arcs, at most so many ways from and to each node, self-arcs and parallel arcs among them."""
+    return zip(*(chance.shuffled([v for v in range(nodes) for _ in range(ways)])[:count] for _ in range(2)))
+
+
+def random_words(chance, most_nodes, ways=2):
     nodes = 1 + chance.below(most_nodes)
-    count = chance.below(2 * nodes + 1)
-    tails, heads = (chance.shuffled([v for v in range(nodes) for _ in range(2)])[:count] for _ in range(2))
-    arcs = [(tail, head, chance.below(262144)) for tail, head in zip(tails, heads)]
+    count = chance.below(ways * nodes + 1)
+    arcs = [(tail, head, chance.below(262144)) for tail, head in random_ends(chance, nodes, count, ways)]
     regions, height = random_regions(chance, count)
     return words_of(nodes, chance.below(nodes), [1 + chance.below(1_000_000) for _ in range(height)], arcs, regions)
 
@@ -252,18 +268,17 @@ def balanced(fan, order):
     return regions
 
 
-def random_arcs(chance, nodes, count, lengths):
-    """At most two arcs from and to each node, self-arcs and parallel arcs among them, with lengths from a list."""
-    tails, heads = (chance.shuffled([v for v in range(nodes) for _ in range(2)])[:count] for _ in range(2))
-    return [(tail, head, lengths[chance.below(len(lengths))]) for tail, head in zip(tails, heads)]
+def random_arcs(chance, nodes, count, lengths, ways=2):
+    """At most so many ways from and to each node, with lengths from a list."""
+    return [(tail, head, lengths[chance.below(len(lengths))]) for tail, head in random_ends(chance, nodes, count, ways)]
 
 
-def woken(levels, links):
+def woken(levels, links, lanes=1):
     """Arcs and division in which the deepest region is woken 2^levels times.
 
     From node j on, a long arc leads to node j + 1 and two short ones lead there too, by way of a node of its own; after the last of these
-    comes a chain of so many links. The long arcs and the chain are in the deepest region, the short arcs of node j in region j, so a long
-    way is taken to its end before the next shorter one is tried.
+    comes a chain of so many links, each of so many lanes, the last the shortest. The long arcs and the chain are in the deepest region, the
+    short arcs of node j in region j, so a long way is taken to its end before the next shorter one is tried.
     """
     arcs, short = [], []
     for j in range(levels):
@@ -272,6 +287,6 @@ def woken(levels, links):
         short += [leaf(j, 3 * j + 1), leaf(j, 3 * j + 2)]
     first = 2 * levels + 1
     ends = [levels] + [first + link for link in range(links)]
-    chained = [(tail, head, 1) for tail, head in zip(ends, ends[1:])]
-    deepest = [leaf(levels, 3 * j) for j in range(levels)] + [leaf(levels, 3 * levels + link) for link in range(links)]
+    chained = [(tail, head, lane) for tail, head in zip(ends, ends[1:]) for lane in range(lanes, 0, -1)]
+    deepest = [leaf(levels, 3 * j) for j in range(levels)] + [leaf(levels, 3 * levels + a) for a in range(links * lanes)]
     return first + links, arcs + chained, [inner(j) for j in range(levels)] + short + deepest

@@ -3,13 +3,14 @@
 //! None of them has a precondition: each answers for every sheet, table and buffer, and ends. A refusal leaves all that was lent as it was. What they
 //! promise is stated in `crates/pigrozk/src/lib.rt`; `include/pigrozk.h` has the same calls for C.
 
-/// The limits of a sheet that is accepted.
+/// The limits of a sheet that is accepted. A node may have `MOST_ARCS_EACH_WAY` arcs out of it, and so many into it.
 pub const MOST_BYTES: usize = 32_828;
 pub const MOST_NODES: usize = 1_024;
 pub const MOST_SPANS: usize = 15;
 pub const MOST_SPAN: u32 = 1_000_000;
 pub const MOST_ARCS: usize = 2_048;
 pub const MOST_LENGTH: u32 = 262_143;
+pub const MOST_ARCS_EACH_WAY: usize = 4;
 pub const MOST_REGION_WORDS: usize = 4_094;
 
 /// The longest table, and room for every route, in words.

@@ -2,11 +2,12 @@
 use Prim.Native.Nat.{ℕ, zero, suc}
 use mathlib.Core.Bool.{Bool, false, cond}
 use mathlib.Core.List.{List, [], _∷_, _++_}
+use mathlib.Core.Logic.{_≢_}
 use mathlib.Core.Path.{_≡_, refl, sym, ap, _∙_}
 use native.Mathlib.Omega.{arith}
 use lib.Dec.{eqb}
 use Rattle.indices.proofs.Steps.{by-truth}
-use Rattle.answer.specs.Answer.{Refusal, input, numberOf, Answer, accepted, refused, Case, lowest}
+use Rattle.answer.specs.Answer.{Refusal, input, numberOf, Answer, accepted, refused, Case, _when_, lowest}
 use Rattle.answer.specs.Inner.{numbered}
 
 -- the cases of the second list are looked at where none of the first applies
@@ -14,7 +15,7 @@ pub lowest-append : (xs ys : List Case) (answer : Answer) → lowest (xs ++ ys) 
 lowest-append [] ys answer = refl
 lowest-append (x ∷ xs) ys answer = ap (λ (a : Answer). cond (x .applies) (refused (x .refusal)) a) (lowest-append xs ys answer)
 
-refused≢accepted : (r : Refusal) → refused r ≡ accepted → ⊥
+pub refused≢accepted : (r : Refusal) → refused r ≡ accepted → ⊥
 refused≢accepted r e = let z : _≡_ {A = ℕ} 0 1 = cc in omega arith
 
 -- where no case applies, the answer is what follows
@@ -27,6 +28,12 @@ lowest-clear (x ∷ xs) answer e =
 pub lowest-stop : (xs : List Case) (answer : Answer) (r : Refusal) → lowest xs accepted ≡ refused r → lowest xs answer ≡ refused r
 lowest-stop [] answer r e = let z : _≡_ {A = ℕ} 0 1 = cc in absurd (omega arith)
 lowest-stop (x ∷ xs) answer r e = by-truth (x .applies) (λ h. rw h (rw h at e)) (λ h. rw h (lowest-stop xs answer r (rw h at e)))
+
+-- a case whose test applies less often changes no answer but the one that it gave
+pub lowest-less : (ys : List Case) (r : Refusal) {more less : Bool} → (more ≡ false → less ≡ false) → (answer : Answer) (xs : List Case)
+    → lowest (xs ++ (r when more ∷ ys)) accepted ≢ refused r → lowest (xs ++ (r when less ∷ ys)) answer ≡ lowest (xs ++ (r when more ∷ ys)) answer
+lowest-less ys r {more} off answer [] other = by-truth more (λ h. absurd (other (rw h))) (λ h. rw (h, off h))
+lowest-less ys r off answer (x ∷ xs) other = by-truth (x .applies) (λ h. rw h) (λ h. rw h (lowest-less ys r off answer xs (rw h at other)))
 
 -- a number other than 0 is a refusal
 a-refusal : (n : ℕ) → (n ≡ 0 → ⊥) → numbered n ≡ refused (input n)

@@ -11,7 +11,7 @@ use Rattle.answer.specs.Answer.{Refusal, state, Answer, ended, paused, refused,
 use Rattle.answer.proofs.Lowest.{lowest-append, lowest-clear, lowest-stop}
 use Rattle.judgement.specs.Judgement.{refusals, judgement, Accepted}
 use Rattle.calls.specs.Tables.{tableLength, wrongLength, statusSays, statusIn}
-use Rattle.calls.specs.Runs.{stateAfter, endedAfter, runRefusals, runAnswer, runTable, tableAfter}
+use Rattle.calls.specs.Runs.{stateAfter, endedAfter, runAnswer, runTable, tableAfter}
 use Rattle.calls.proofs.Reading.{status-in}
 
 -- a table that is not of the wrong length has its own
@@ -35,12 +35,12 @@ table-says b k = ap statusSays (status-in (endedAfter b k) (stateAfter b k) (nod
 module _ (b : List ℕ) (k : ℕ) (table : List ℕ) where
   -- the refusals of the sheet are looked at before the table
   sheet-first : runAnswer b k table ≡ lowest (refusals b) (lowest (state 21 when wrongLength b table ∷ []) (if endedAfter b k then ended else paused))
-  unfolding runAnswer runRefusals
+  unfolding runAnswer
   sheet-first = rw (← table-says b k) (lowest-append (refusals b) (state 21 when wrongLength b table ∷ []) (statusSays (statusIn (runTable b k))))
 
   kept-where-refused : (answer : Answer) → runAnswer b k table ≡ answer → tableAfter b k table ≡ (if isRefused answer then table else runTable b k)
-  unfolding tableAfter
-  kept-where-refused answer e = rw e
+  unfolding tableAfter runAnswer
+  kept-where-refused answer e = ap (λ (a : Answer). if isRefused a then table else runTable b k) e
 
   -- a refused sheet: the answer is the judge's, and the table stays
   pub refused-sheet : (r : Refusal) → judgement b ≡ refused r → (refused r ≡ runAnswer b k table) × (table ≡ tableAfter b k table)

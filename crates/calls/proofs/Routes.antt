@@ -14,12 +14,12 @@ use Rattle.sheet.specs.Words.{top}
 use Rattle.sheet.specs.Sections.{nodeCount}
 use Rattle.answer.specs.Answer.{Refusal, numberOf, input, state, Answer, accepted, ended, paused, route, noRoute, refused, Case, _when_, isRefused, lowest}
 use Rattle.answer.proofs.Lowest.{lowest-append, lowest-clear, lowest-stop}
-use Rattle.judgement.specs.Judgement.{formRefusals, countRefusals, arcRefusals, divisionRefusals, refusals, judgement, Accepted}
+use Rattle.judgement.specs.Judgement.{formRefusals, countRefusals, arcRefusals, divisionRefusals, refusalsUnder, refusals, judgement, Accepted}
 use Rattle.procedure.specs.OfSheet.{graphOf}
 use Rattle.theory_shortest.proofs.WellFormed.{accepted-well-formed}
 use Rattle.theory_shortest.proofs.TableTest.{test-shortest, shortest-test}
 use Rattle.calls.specs.Tables.{wrongLength, labelIn, labelsIn, predecessorsIn}
-use Rattle.calls.specs.Routes.{nodeOutside, malformed, isPaused, ShortestTable, notShortest, tableRefusals, routeRefusals, routeTo, foundRoute, routeAnswer, TableKnown}
+use Rattle.calls.specs.Routes.{nodeOutside, malformed, isPaused, ShortestTable, notShortest, tableRefusals, routeTo, foundRoute, routeAnswer, TableKnown}
 
 -- the number of a refusal; other answers come after all of them
 abbrev rank : Answer → ℕ
@@ -76,7 +76,7 @@ inputs-clear (c ∷ cs) a i l =
     by false mine rest l = rest l
 
 sheet-inputs : (b : List ℕ) → inputs (refusals b) ≡ true
-unfolding refusals formRefusals countRefusals arcRefusals divisionRefusals
+unfolding refusalsUnder formRefusals countRefusals arcRefusals divisionRefusals
 sheet-inputs b = refl
 
 -- the refusals of a route, those of the sheet left out
@@ -120,7 +120,7 @@ module _ (b table : List ℕ) where
     answer-staged : routeAnswer b table node buffer
         ≡ lowest (refusals b)
         (lowest (input 15 when nodeOutside b node ∷ state 21 when wrongLength b table ∷ tableRefusals b table) (foundRoute b table node buffer))
-    unfolding routeAnswer routeRefusals
+    unfolding routeAnswer
     answer-staged = lowest-append (refusals b) _ (foundRoute b table node buffer)
 
     pub sheet-stops : (r : Refusal) → judgement b ≡ refused r → routeAnswer b table node buffer ≡ refused r

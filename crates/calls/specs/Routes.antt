@@ -15,6 +15,7 @@ use Rattle.procedure.specs.OfSheet.{graphOf}
 use Rattle.procedure.specs.Table.{headerLength, countsLength}
 use Rattle.procedure.specs.Routes.{chainTo, Shortest}
 use Rattle.theory_shortest.specs.TableTest.{settled?}
+use Rattle.calls.specs.Calls.{Call, callAnswer, lentAfter}
 use Rattle.calls.specs.Tables.{wrongLength, kindIn, statusIn, labelIn, predecessorIn, labelsIn, predecessorsIn}
 
 -- "15. Node whose route is wanted not below n."
@@ -64,10 +65,6 @@ module _ (b table : List ℕ) where
   unfoldable pub tableRefusals : List Case
   tableRefusals = state 22 when malformed ∷ state 23 when isPaused table ∷ state 24 when notShortest ∷ []
 
-  -- 1 to 14, 15, and 21 to 24, in this order
-  unfoldable pub routeRefusals : ℕ → List Case
-  routeRefusals node = refusals b ++ (input 15 when nodeOutside b node ∷ state 21 when wrongLength b table ∷ tableRefusals)
-
   -- "the arc numbers from source to node": the predecessors followed back
   unfoldable pub routeTo : ℕ → List ℕ
   routeTo node = chainTo (graphOf b) (predecessorsIn (nodeCount b) table) node
@@ -79,9 +76,6 @@ module _ (b table : List ℕ) where
       let fitted = lowest (state 25 when ltb (length buffer) (length way) ∷ []) (route (length way)) in
       if eqb (labelIn table node) top then noRoute else fitted
 
-  unfoldable pub routeAnswer : ℕ → List ℕ → Answer
-  routeAnswer node buffer = lowest (routeRefusals node) (foundRoute node buffer)
-
   -- what an answer leaves: a route "as plain words at the front of a lent buffer", "the rest of the buffer stays"; else the buffer as it was lent
   unfoldable pub leftBy : Answer → ℕ → List ℕ → List ℕ
   leftBy answer node buffer =
@@ -89,8 +83,20 @@ module _ (b table : List ℕ) where
       let made = way ++ drop (length way) buffer in
       if isRoute answer then made else buffer
 
+  -- after 1 to 14 the route reader looks at 15, and at 21 to 24, in this order
+  abbrev pub routeCall : ℕ → List ℕ → Call
+  routeCall node buffer = record {
+    later = input 15 when nodeOutside b node ∷ state 21 when wrongLength b table ∷ tableRefusals;
+    good = foundRoute node buffer;
+    leaves = λ answer. leftBy answer node buffer;
+  }
+
+  unfoldable pub routeAnswer : ℕ → List ℕ → Answer
+  routeAnswer node buffer = callAnswer (refusals b) (routeCall node buffer)
+
+  -- the buffer at exit
   unfoldable pub bufferAfter : ℕ → List ℕ → List ℕ
-  bufferAfter node buffer = leftBy (routeAnswer node buffer) node buffer
+  bufferAfter node buffer = lentAfter (refusals b) (routeCall node buffer)
 
   -- What an answer says of the table: 24, that it is no `ShortestTable`; 25, 'no route' and a route, that it is one.
   pub record TableKnown (answer : Answer) : Type 0 where

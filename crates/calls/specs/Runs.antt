@@ -3,18 +3,19 @@ use Prim.Native.Nat.{ℕ, _^_, _≤_, _<_}
 use mathlib.Core.Bool.{Bool}
 use mathlib.Core.Path.{_≡_}
 use mathlib.Core.Logic.{_⊎_}
-use mathlib.Core.List.{List, [], _∷_, _++_}
+use mathlib.Core.List.{List, [], _∷_}
 use Rattle.indices.specs.Columns.{at}
 use Rattle.indices.specs.Steps.{if_then_else_}
 use Rattle.sheet.specs.Sections.{nodeCount}
 use Rattle.sheet.specs.Words.{top}
-use Rattle.answer.specs.Answer.{state, Answer, Case, _when_, isRefused, lowest}
+use Rattle.answer.specs.Answer.{state, Answer, _when_, isRefused}
 use Rattle.judgement.specs.Judgement.{refusals}
 use Rattle.procedure.specs.OfSheet.{graphOf, divisionOf, spansOf}
 use Rattle.procedure.specs.State.{State, counts}
 use Rattle.procedure.specs.Procedure.{ended as hasEnded, after}
 use Rattle.procedure.specs.Table.{largestLabel, tableOf, countsLength}
 use Rattle.procedure.specs.Routes.{Shortest}
+use Rattle.calls.specs.Calls.{Call, callAnswer, lentAfter}
 use Rattle.calls.specs.Tables.{wrongLength, statusSays, statusIn, countIn, labelIn, labelsIn, predecessorsIn}
 
 -- "A run limited to k rounds stops after k rounds or when it has ended, whichever comes first". The run to its end is the run limited to 2^56 rounds.
@@ -24,21 +25,25 @@ stateAfter b k = after (graphOf b) (divisionOf b) (spansOf b) k
 abbrev pub endedAfter : List ℕ → ℕ → Bool
 endedAfter b k = hasEnded (graphOf b) (divisionOf b) (stateAfter b k)
 
--- 1 to 14, then 21: "Only 21 can come from a run."
-unfoldable pub runRefusals : List ℕ → List ℕ → List Case
-runRefusals b table = refusals b ++ (state 21 when wrongLength b table ∷ [])
-
 -- the table of the state after at most k rounds
 unfoldable pub runTable : List ℕ → ℕ → List ℕ
 runTable b k = let s = stateAfter b k in tableOf (endedAfter b k) (counts s) (s .labels) (s .predecessors) (nodeCount b)
 
--- "a run answers 'ended' or 'paused' as its table says"
-unfoldable pub runAnswer : List ℕ → ℕ → List ℕ → Answer
-runAnswer b k table = lowest (runRefusals b table) (statusSays (statusIn (runTable b k)))
+-- after 1 to 14 a run looks at 21: "Only 21 can come from a run." "a run answers 'ended' or 'paused' as its table says". The table lent is the one of
+-- the run; of a refusal, "Nothing lent changes."
+abbrev pub runCall : List ℕ → ℕ → List ℕ → Call
+runCall b k table = record {
+  later = state 21 when wrongLength b table ∷ [];
+  good = statusSays (statusIn (runTable b k));
+  leaves = λ answer. let made = runTable b k in if isRefused answer then table else made;
+}
 
--- the table at exit; of a refusal, "Nothing lent changes."
+unfoldable pub runAnswer : List ℕ → ℕ → List ℕ → Answer
+runAnswer b k table = callAnswer (refusals b) (runCall b k table)
+
+-- the table at exit
 unfoldable pub tableAfter : List ℕ → ℕ → List ℕ → List ℕ
-tableAfter b k table = let made = runTable b k in if isRefused (runAnswer b k table) then table else made
+tableAfter b k table = lentAfter (refusals b) (runCall b k table)
 
 -- What holds of a table that a run of at most k rounds leaves, read off its words. Demand 3: a limited run's table is what those same rounds have reached
 -- when it stops, in status, counts, labels and feeding arcs; after any number of rounds every count is below 2^56; in every table left as ended the labels

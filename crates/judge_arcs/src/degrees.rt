@@ -1,5 +1,6 @@
 // Refusal 10: how many arcs leave each node and enter it.
 ghost use mathlib.Core.Path.{_≡_};
+ghost use Rattle.sheet.specs.Limits.{mostArcsEachWay};
 ghost use Rattle.judgement.specs.Arcs.{tooManyAtNode};
 ghost use Rattle.judge_arcs.specs.Joined.{Joined};
 use sheet::Arc;
@@ -9,7 +10,7 @@ use sheet::Sections;
 // Refusal 10: some node is the tail of more arcs than it may be, or the head.
 pub fn too_many_at_node(s: &[u8], sections: Sections) -> bool
     requires { ⌜ Joined (now s) sections ⌝ }
-    ensures { λ r. ⌜ r ≡ tooManyAtNode (now (s .entry)) ⌝ }
+    ensures { λ r. ⌜ r ≡ tooManyAtNode mostArcsEachWay (now (s .entry)) ⌝ }
 {
     let mut tails = [0u8; NODE_NUMBERS];
     let mut heads = [0u8; NODE_NUMBERS];

@@ -5,7 +5,7 @@ ghost use mathlib.Core.Path.{_≡_};
 ghost use lib.Dec.{leb};
 ghost use Prim.Native.Nat.{_≤_, _<_};
 ghost use Rattle.indices.specs.Tests.{any};
-ghost use Rattle.sheet.specs.Limits.{mostNodes, mostArcs};
+ghost use Rattle.sheet.specs.Limits.{mostNodes, mostArcs, mostArcsEachWay};
 ghost use Rattle.sheet.specs.Sections.{nodeCount, arcCount};
 ghost use Rattle.sheet.specs.Inner.{Located};
 ghost use Rattle.sheet.specs.Arcs.{endOf};
@@ -84,7 +84,7 @@ fn field_refusal(s: &[u8], sections: Sections) -> u8
 // Refusals 8 to 10: the number, or 0.
 pub fn arc_refusal(s: &[u8], sections: Sections) -> u8
     requires { ⌜ Located (now s) sections × (arcCount (now s) ≤ mostArcs) × (nodeCount (now s) ≤ mostNodes) ⌝ }
-    ensures { λ r. ⌜ numbered r ≡ lowest (arcRefusals (now (s .entry))) accepted ⌝ }
+    ensures { λ r. ⌜ numbered r ≡ lowest (arcRefusals mostArcsEachWay (now (s .entry))) accepted ⌝ }
 {
     let field = field_refusal(s, sections);
     if field != 0 {

@@ -19,7 +19,7 @@ use Rattle.answer.proofs.Lowest.{clear-of}
 use Rattle.judgement.specs.Form.{wrongFront, noRegionWord, outOfOrder, nodesOutside, sourceOutside, spanOutside, spansOutside, tooMany}
 use Rattle.judgement.specs.Arcs.{endsOutside, tooLong, lengthsOutside, endsAt, crowded, crowdedNodes, tooManyAtNode}
 use Rattle.judgement.specs.Division.{wrongParents, noSuchArc, leafOfArc, notOneLeaf, wrongLeaves, childlessRegions, spansDiffer}
-use Rattle.judgement.specs.Judgement.{formRefusals, countRefusals, arcRefusals, divisionRefusals, refusals, judgement, Accepted}
+use Rattle.judgement.specs.Judgement.{formRefusals, countRefusals, arcRefusals, divisionRefusals, refusalsUnder, refusals, judgement, Accepted}
 use Rattle.judgement.proofs.Parents as parents
 use Rattle.judgement.proofs.Clear as clear
 
@@ -32,14 +32,14 @@ record NoRefusal (b : List ℕ) : Type 0 where
   many : tooMany b ≡ false
   ends : endsOutside b ≡ false
   lengths : lengthsOutside b ≡ false
-  degrees : tooManyAtNode b ≡ false
+  degrees : tooManyAtNode mostArcsEachWay b ≡ false
   parents : wrongParents (regionWords b) ≡ false
   leaves : wrongLeaves (regionWords b) (arcCount b) ≡ false
   children : childlessRegions (regionWords b) ≡ false
   height : spansDiffer (regionWords b) (spanCount b) ≡ false
 
 none-applies : (b : List ℕ) → Accepted b → NoRefusal b
-unfolding judgement refusals formRefusals countRefusals arcRefusals divisionRefusals
+unfolding judgement refusalsUnder formRefusals countRefusals arcRefusals divisionRefusals
 none-applies b ok = let free = clear-of (refusals b) ok in record {
   order = free 2;
   nodes = free 4;
@@ -111,16 +111,14 @@ module _ (b : List ℕ) (ok : Accepted b) where
   length-short a l = ltb-false mostLength (arcLength b a) (any-at (tooLong b) (arcCount b) a (none .lengths) l)
 
   -- 10. no node has more arcs each way than it may have, and what is no node has none
-  not-crowded : (heads : Bool) → crowdedNodes heads b ≡ false
-  unfolding tooManyAtNode
-  not-crowded true = or-right (crowdedNodes false b) (crowdedNodes true b) (none .degrees)
-  not-crowded false = or-left (crowdedNodes false b) (crowdedNodes true b) (none .degrees)
+  not-crowded : (heads : Bool) → crowdedNodes mostArcsEachWay heads b ≡ false
+  not-crowded = clear.both-ways b mostArcsEachWay (none .degrees)
 
   pub few-ends : (heads : Bool) (v : ℕ) → count (endsAt heads b v) (arcCount b) ≤ mostArcsEachWay
   unfolding crowdedNodes
   few-ends heads v =
       by-order v (nodeCount b)
-      (λ l. ltb-false mostArcsEachWay (count (endsAt heads b v) (arcCount b)) (any-at (crowded heads b) (nodeCount b) v (not-crowded heads) l))
+      (λ l. ltb-false mostArcsEachWay (count (endsAt heads b v) (arcCount b)) (any-at (crowded mostArcsEachWay heads b) (nodeCount b) v (not-crowded heads) l))
       (λ l. omega (arith, count-out-all (endsAt heads b v) (arcCount b) (elsewhere l)))
     where
       elsewhere : nodeCount b ≤ v → (a : ℕ) → a < arcCount b → endsAt heads b v a ≡ false

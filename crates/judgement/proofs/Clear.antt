@@ -14,7 +14,7 @@ use Rattle.sheet.specs.Words.{words, kind}
 use Rattle.sheet.specs.Sections.{nodeCount, spanCount, arcCount, regionWords}
 use Rattle.sheet.specs.Arcs.{tail, head, endOf}
 use Rattle.judgement.specs.Form.{wrongSize, wrongFront, outOfOrder, nodesOutside, tooMany}
-use Rattle.judgement.specs.Arcs.{endOutside, endsOutside}
+use Rattle.judgement.specs.Arcs.{endOutside, endsOutside, crowdedNodes, tooManyAtNode}
 
 module _ (b : List ℕ) where
   -- 1. a sheet of the right size has few words
@@ -53,3 +53,9 @@ module _ (b : List ℕ) where
       at : (h : Bool) → endOutside b a ≡ false → endOf h b a < nodeCount b
       at true e = leb-false _ _ (or-right (leb (nodeCount b) (tail b a)) (leb (nodeCount b) (head b a)) e)
       at false e = leb-false _ _ (or-left (leb (nodeCount b) (tail b a)) (leb (nodeCount b) (head b a)) e)
+
+  -- 10. no node has too many arcs, neither out of it nor into it
+  pub both-ways : (most : ℕ) → tooManyAtNode most b ≡ false → (heads : Bool) → crowdedNodes most heads b ≡ false
+  unfolding tooManyAtNode
+  both-ways most ok true = or-right (crowdedNodes most false b) (crowdedNodes most true b) ok
+  both-ways most ok false = or-left (crowdedNodes most false b) (crowdedNodes most true b) ok

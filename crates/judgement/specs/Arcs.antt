@@ -4,7 +4,7 @@ use mathlib.Core.List.{List}
 use mathlib.Core.Bool.{Bool, true, false, _||_}
 use lib.Dec.{ltb, leb, eqb}
 use Rattle.indices.specs.Tests.{any, count}
-use Rattle.sheet.specs.Limits.{mostLength, mostArcsEachWay}
+use Rattle.sheet.specs.Limits.{mostLength}
 use Rattle.sheet.specs.Sections.{nodeCount, arcCount}
 use Rattle.sheet.specs.Arcs.{tail, head, arcLength, endOf}
 
@@ -22,16 +22,17 @@ tooLong b a = ltb mostLength (arcLength b a)
 unfoldable pub lengthsOutside : List ℕ → Bool
 lengthsOutside b = any (tooLong b) (arcCount b)
 
--- 10. "A node with more than two outgoing or more than two incoming arcs."
+-- 10. "A node with more than two outgoing or more than two incoming arcs.", where "From now on a node may have up to four each way, and five is still 10."
+-- (2026-01): with `most` for two and four.
 -- arc a has node v as its head, or else as its tail
 abbrev pub endsAt : Bool → List ℕ → ℕ → ℕ → Bool
 endsAt heads b v a = eqb (endOf heads b a) v
 
-abbrev pub crowded : Bool → List ℕ → ℕ → Bool
-crowded heads b v = ltb mostArcsEachWay (count (endsAt heads b v) (arcCount b))
+abbrev pub crowded : ℕ → Bool → List ℕ → ℕ → Bool
+crowded most heads b v = ltb most (count (endsAt heads b v) (arcCount b))
 
-unfoldable pub crowdedNodes : Bool → List ℕ → Bool
-crowdedNodes heads b = any (crowded heads b) (nodeCount b)
+unfoldable pub crowdedNodes : ℕ → Bool → List ℕ → Bool
+crowdedNodes most heads b = any (crowded most heads b) (nodeCount b)
 
-unfoldable pub tooManyAtNode : List ℕ → Bool
-tooManyAtNode b = crowdedNodes false b || crowdedNodes true b
+unfoldable pub tooManyAtNode : ℕ → List ℕ → Bool
+tooManyAtNode most b = crowdedNodes most false b || crowdedNodes most true b

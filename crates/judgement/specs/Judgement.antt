@@ -2,6 +2,7 @@
 use Prim.Native.Nat.{ℕ}
 use mathlib.Core.List.{List, [], _∷_, _++_}
 use mathlib.Core.Path.{_≡_}
+use Rattle.sheet.specs.Limits.{mostArcsEachWay}
 use Rattle.sheet.specs.Sections.{spanCount, arcCount, regionWords}
 use Rattle.answer.specs.Answer.{input, Answer, accepted, Case, _when_, lowest}
 use Rattle.judgement.specs.Form.{wrongSize, outOfOrder, bitSet, nodesOutside, sourceOutside, spansOutside, tooMany}
@@ -16,20 +17,29 @@ unfoldable pub countRefusals : List ℕ → List Case
 countRefusals b =
     input 4 when nodesOutside b ∷ input 5 when sourceOutside b ∷ input 6 when spansOutside b ∷ input 7 when tooMany b ∷ []
 
-unfoldable pub arcRefusals : List ℕ → List Case
-arcRefusals b = input 8 when endsOutside b ∷ input 9 when lengthsOutside b ∷ input 10 when tooManyAtNode b ∷ []
+-- where a node may have so many arcs each way
+unfoldable pub arcRefusals : ℕ → List ℕ → List Case
+arcRefusals most b = input 8 when endsOutside b ∷ input 9 when lengthsOutside b ∷ input 10 when tooManyAtNode most b ∷ []
 
 -- of region words d, where the sheet has so many arcs and spans
 unfoldable pub divisionRefusals : List ℕ → ℕ → ℕ → List Case
 divisionRefusals d arcs spans =
     input 11 when wrongParents d ∷ input 12 when wrongLeaves d arcs ∷ input 13 when childlessRegions d ∷ input 14 when spansDiffer d spans ∷ []
 
-unfoldable pub refusals : List ℕ → List Case
-refusals b = formRefusals b ++ (countRefusals b ++ (arcRefusals b ++ divisionRefusals (regionWords b) (arcCount b) (spanCount b)))
+-- the refusals and the judgement of a sheet where a node may have so many arcs each way: 2 before request 2026-01
+unfoldable pub refusalsUnder : ℕ → List ℕ → List Case
+refusalsUnder most b = formRefusals b ++ (countRefusals b ++ (arcRefusals most b ++ divisionRefusals (regionWords b) (arcCount b) (spanCount b)))
+
+abbrev pub judgementUnder : ℕ → List ℕ → Answer
+judgementUnder most b = lowest (refusalsUnder most b) accepted
+
+-- the refusals of a sheet
+abbrev pub refusals : List ℕ → List Case
+refusals b = refusalsUnder mostArcsEachWay b
 
 -- what the judge answers
 unfoldable pub judgement : List ℕ → Answer
-judgement b = lowest (refusals b) accepted
+judgement b = judgementUnder mostArcsEachWay b
 
 -- "A sheet is accepted when no refusal of the sheet itself (here 1 to 14) applies to it."
 abbrev pub Accepted : List ℕ → Type 0

@@ -10,12 +10,14 @@ use Rattle.indices.specs.Steps.{if_then_else_}
 use Rattle.sheet.specs.Words.{top, payload}
 use Rattle.sheet.specs.Sections.{nodeCount}
 use Rattle.answer.specs.Answer.{state, Answer, route, noRoute, refused, Case, lowest}
+use Rattle.judgement.specs.Judgement.{refusals}
 use Rattle.procedure.specs.Graph.{Graph, tail}
 use Rattle.procedure.specs.OfSheet.{graphOf}
 use Rattle.procedure.specs.Routes.{followed}
 use Rattle.procedure.proofs.OfSheet.{graph-nodes}
+use Rattle.calls.specs.Calls.{callRefusals}
 use Rattle.calls.specs.Tables.{labelIn}
-use Rattle.calls.specs.Routes.{routeRefusals, routeTo, foundRoute, routeAnswer}
+use Rattle.calls.specs.Routes.{routeTo, foundRoute, routeCall, routeAnswer}
 use Rattle.answer.specs.Inner.{arcsOf}
 
 -- followed back for n steps, at most n arcs are met
@@ -60,5 +62,5 @@ module _ (b table : List ℕ) (node : ℕ) (buffer : List ℕ) where
   pub few-arcs : arcsOf (routeAnswer b table node buffer) < 268435456
   unfolding routeAnswer
   few-arcs =
-      let few = lowest-within (routeRefusals b table node) (foundRoute b table node buffer) in
+      let few = lowest-within (callRefusals (refusals b) (routeCall b table node buffer)) (foundRoute b table node buffer) in
       omega (arith, few, found-within, way-within, graph-nodes b, few-nodes b)

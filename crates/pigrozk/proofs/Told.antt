@@ -11,10 +11,11 @@ use Rattle.indices.specs.Steps.{if_then_else_}
 use Rattle.indices.proofs.Tests.{and-left, and-right}
 use Rattle.sheet.specs.Words.{top}
 use Rattle.answer.specs.Answer.{Refusal, input, state, Answer, accepted, ended, paused, route, noRoute, refused, Case, lowest}
-use Rattle.judgement.specs.Judgement.{formRefusals, countRefusals, arcRefusals, divisionRefusals, refusals, judgement}
+use Rattle.judgement.specs.Judgement.{formRefusals, countRefusals, arcRefusals, divisionRefusals, refusalsUnder, refusals, judgement}
+use Rattle.calls.specs.Calls.{callRefusals}
 use Rattle.calls.specs.Tables.{statusIn, labelIn}
-use Rattle.calls.specs.Runs.{runRefusals, runAnswer, runTable}
-use Rattle.calls.specs.Routes.{tableRefusals, routeRefusals, routeTo, foundRoute, routeAnswer}
+use Rattle.calls.specs.Runs.{runCall, runAnswer, runTable}
+use Rattle.calls.specs.Routes.{tableRefusals, routeTo, foundRoute, routeCall, routeAnswer}
 use Rattle.answer.specs.Codes.{codeOf, fromState, answerOf}
 
 -- equal answers have one code
@@ -68,12 +69,12 @@ lowest-told (c ∷ cs) a rows told =
     at false this rest = rest
 
 pub judge-told : (b : List ℕ) → Told (judgement b)
-unfolding judgement refusals formRefusals countRefusals arcRefusals divisionRefusals answerOf
+unfolding judgement refusalsUnder formRefusals countRefusals arcRefusals divisionRefusals answerOf
 judge-told b = lowest-told (refusals b) accepted refl refl
 
 pub run-told : (b : List ℕ) (k : ℕ) (table : List ℕ) → Told (runAnswer b k table)
-unfolding runAnswer runRefusals refusals formRefusals countRefusals arcRefusals divisionRefusals answerOf
-run-told b k table = lowest-told (runRefusals b table) _ refl (at (eqb (statusIn (runTable b k)) 1))
+unfolding runAnswer refusalsUnder formRefusals countRefusals arcRefusals divisionRefusals answerOf
+run-told b k table = lowest-told (callRefusals (refusals b) (runCall b k table)) _ refl (at (eqb (statusIn (runTable b k)) 1))
   where
     at : (over : Bool) → Told (if over then ended else paused)
     at true = refl
@@ -90,5 +91,5 @@ module _ (b table : List ℕ) (node : ℕ) (buffer : List ℕ) where
       at false false = count-told (length (routeTo b table node))
 
   pub route-told : Told (routeAnswer b table node buffer)
-  unfolding routeAnswer routeRefusals tableRefusals refusals formRefusals countRefusals arcRefusals divisionRefusals
-  route-told = lowest-told (routeRefusals b table node) (foundRoute b table node buffer) refl found-told
+  unfolding routeAnswer tableRefusals refusalsUnder formRefusals countRefusals arcRefusals divisionRefusals
+  route-told = lowest-told (callRefusals (refusals b) (routeCall b table node buffer)) _ refl found-told

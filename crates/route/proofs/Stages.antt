@@ -53,7 +53,7 @@ module _ (b table : List ℕ) (node : ℕ) (buffer : List ℕ) where
   -- the right answer leaves the right buffer, and tells of the table
   module _ (a : Answer) (same : a ≡ routeAnswer b table node buffer) where
     pub left-after : leftBy b table a node buffer ≡ bufferAfter b table node buffer
-    unfolding bufferAfter
+    unfolding bufferAfter routeAnswer
     left-after = ap (λ (x : Answer). leftBy b table x node buffer) same
 
     pub answer-known : TableKnown b table a

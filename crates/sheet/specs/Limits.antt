@@ -24,9 +24,9 @@ mostArcs = 2048
 abbrev pub mostLength : ℕ
 mostLength = 262143
 
--- "A node with more than two outgoing or more than two incoming arcs."
+-- "From now on a node may have up to four each way, and five is still 10." (2026-01)
 abbrev pub mostArcsEachWay : ℕ
-mostArcsEachWay = 2
+mostArcsEachWay = 4
 
 -- "kinds 6 and 7 in any mixture, up to 4,094"
 abbrev pub mostRegionWords : ℕ

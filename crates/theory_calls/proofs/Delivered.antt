@@ -20,7 +20,7 @@ use Rattle.procedure.specs.Table.{largestLabel}
 use Rattle.theory_shortest.specs.WellFormed.{WellFormed}
 use Rattle.procedure.proofs.OfSheet.{graph-nodes}
 use Rattle.theory_shortest.proofs.WellFormed.{accepted-well-formed}
-use Rattle.theory.proofs.Final.{after-shape, label-fits, label-word, predecessor-word, final-ended}
+use Rattle.theory.proofs.Final.{few-each-way, after-shape, label-fits, label-word, predecessor-word, final-ended}
 use Rattle.theory.proofs.Distances.{ended-shortest, counts-fit}
 use Rattle.calls.specs.Tables.{statusIn, countIn, labelIn, labelsIn, predecessorsIn}
 use Rattle.calls.specs.Runs.{stateAfter, endedAfter, runTable, Delivered}
@@ -34,9 +34,6 @@ status-ended false e = absurd (omega arith)
 module _ (b : List ℕ) (ok : Accepted b) where
   pub well : WellFormed mostArcsEachWay (graphOf b) (divisionOf b) (spansOf b)
   well = accepted-well-formed b ok
-
-  pub few : mostArcsEachWay ≤ 4
-  few = omega arith
 
   module _ (k : ℕ) where
     -- a label and a predecessor for each node, each of 28 bits
@@ -54,10 +51,10 @@ module _ (b : List ℕ) (ok : Accepted b) where
 
     -- demand 3: every count is below 2^56
     pub counts-small : (i : ℕ) → i < 4 → at (counts (stateAfter b k)) i < 2 ^ 56
-    counts-small zero l = counts-fit well few k .0
-    counts-small (suc zero) l = counts-fit well few k .1
-    counts-small (suc (suc zero)) l = counts-fit well few k .2
-    counts-small (suc (suc (suc zero))) l = counts-fit well few k .3
+    counts-small zero l = counts-fit well few-each-way k .0
+    counts-small (suc zero) l = counts-fit well few-each-way k .1
+    counts-small (suc (suc zero)) l = counts-fit well few-each-way k .2
+    counts-small (suc (suc (suc zero))) l = counts-fit well few-each-way k .3
     counts-small (suc (suc (suc (suc i)))) l = absurd (omega arith)
 
     -- what is read out of the table is the state after at most k rounds
@@ -99,4 +96,4 @@ module _ (b : List ℕ) (ok : Accepted b) where
   -- the run to its end has ended
   pub run-ends : endedAfter b enoughRounds ≡ true
   unfolding final
-  run-ends = final-ended well few
+  run-ends = final-ended well few-each-way

@@ -23,7 +23,7 @@ use Rattle.sheet.specs.Arcs.{tail, head, arcLength, endsWord}
 use Rattle.sheet.proofs.Bounds.{region-words, regions-inside, region-kind}
 use Rattle.answer.proofs.Lowest.{clear-of}
 use Rattle.judgement.specs.Form.{wrongFront, outOfOrder}
-use Rattle.judgement.specs.Judgement.{formRefusals, refusals, judgement, Accepted}
+use Rattle.judgement.specs.Judgement.{formRefusals, refusalsUnder, refusals, judgement, Accepted}
 use Rattle.judgement.proofs.Accepted.{front-there, region-kinds}
 use Rattle.procedure.specs.OfSheet.{graphOf}
 use Rattle.calls.specs.Halls.{passing, ofHall, hallWords}
@@ -109,7 +109,7 @@ module _ (b : List ℕ) where
 
   module _ (ok : Accepted b) where
     in-order : outOfOrder b ≡ false
-    unfolding judgement refusals formRefusals
+    unfolding judgement refusalsUnder formRefusals
     in-order = clear-of (refusals b) ok 2
 
     -- "kind 1, once", "kind 2, once"

@@ -5,3 +5,4 @@ pub mod Agree
 pub mod Finished
 pub mod Correct
 pub mod Marked
+pub mod AsBefore

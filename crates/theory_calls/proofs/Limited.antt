@@ -13,11 +13,11 @@ use Rattle.procedure.specs.State.{State}
 use Rattle.procedure.specs.Procedure.{enoughRounds, ended, after, final}
 use Rattle.theory_shortest.specs.WellFormed.{WellFormed}
 use Rattle.judgement.specs.Judgement.{Accepted}
-use Rattle.theory.proofs.Final.{next-round, rounds-in-parts, ended-stays, final-ended, ended-final}
+use Rattle.theory.proofs.Final.{few-each-way, next-round, rounds-in-parts, ended-stays, final-ended, ended-final}
 use Rattle.theory.proofs.Counts.{round-more, still-running}
 use Rattle.theory.proofs.Grows.{rounds-grow}
 use Rattle.calls.specs.Runs.{stateAfter, runAnswer, runTable, tableAfter}
-use Rattle.theory_calls.proofs.Delivered.{well, few}
+use Rattle.theory_calls.proofs.Delivered.{well}
 
 module _ {most : ℕ} {g : Graph} {d : Division} {spans : List ℕ} (ok : WellFormed most g d spans) where
   -- a run that has not ended after k rounds has counted k, and one round more counts one more
@@ -52,7 +52,7 @@ module _ {most : ℕ} {g : Graph} {d : Division} {spans : List ℕ} (ok : WellFo
 module _ (b : List ℕ) (ok : Accepted b) (k : ℕ) (l : stateAfter b enoughRounds .rounds ≤ k) where
   pub same-state : stateAfter b k ≡ stateAfter b enoughRounds
   unfolding final
-  same-state = enough (well b ok) (few b ok) k l
+  same-state = enough (well b ok) few-each-way k l
 
   same-run : runTable b k ≡ runTable b enoughRounds
   unfolding runTable
@@ -64,4 +64,4 @@ module _ (b : List ℕ) (ok : Accepted b) (k : ℕ) (l : stateAfter b enoughRoun
 
   pub same-table : (table : List ℕ) → tableAfter b k table ≡ tableAfter b enoughRounds table
   unfolding tableAfter
-  same-table table = rw (same-answer table, same-run)
+  same-table table = rw same-run

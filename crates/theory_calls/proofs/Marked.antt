@@ -11,12 +11,12 @@ use Rattle.sheet.specs.Sections.{spansFrom, arcsFrom, regionWords}
 use Rattle.sheet.specs.Arcs.{tail, head, arcLength}
 use Rattle.sheet.specs.Heights.{heightIn, heightOf}
 use Rattle.sheet.specs.Regions.{leafWord, parentWord, arcWord}
-use Rattle.sheet.proofs.Samples.{bytesOf, mostOfHallA, hallA, oneNode}
+use Rattle.sheet.proofs.Samples.{bytesOf, mostOfHallA, hallA, oneNode, turntable, fiveIn, fiveOut}
 use Rattle.answer.specs.Answer.{input, state, Answer, accepted, ended, paused, route, refused}
 use Rattle.judgement.specs.Form.{wrongSize, outOfOrder, bitSet, nodesOutside, sourceOutside, spansOutside, tooMany}
 use Rattle.judgement.specs.Arcs.{endsOutside, lengthsOutside, crowdedNodes, tooManyAtNode}
 use Rattle.judgement.specs.Division.{wrongParents, wrongLeaves, childlessRegions, spansDiffer}
-use Rattle.judgement.specs.Judgement.{formRefusals, countRefusals, arcRefusals, divisionRefusals, refusals, judgement}
+use Rattle.judgement.specs.Judgement.{formRefusals, countRefusals, arcRefusals, divisionRefusals, refusalsUnder, judgement}
 use Rattle.procedure.specs.Division.{leafOf}
 use Rattle.procedure.specs.OfSheet.{graphOf, divisionOf, spansOf}
 use Rattle.procedure.specs.Queues.{before, choose, minItemBelow, minItem, minKey, write, updateFor, update, updateArc, updateOutgoing}
@@ -25,26 +25,26 @@ use Rattle.procedure.specs.Table.{nodeWords, tableOf}
 use Rattle.procedure.specs.Routes.{followed}
 use Rattle.theory_shortest.specs.TableTest.{leadsBack, sourceTest, unfedTest, fedTest, relaxedTest, ledTest, settled?}
 use Rattle.calls.specs.Tables.{tableLength, wrongLength, labelsIn, predecessorsIn}
-use Rattle.calls.specs.Runs.{runRefusals, runAnswer, runTable, tableAfter}
-use Rattle.calls.specs.Routes.{nodeOutside, wrongNode, isPaused, malformed, notShortest, tableRefusals, routeRefusals, routeTo, foundRoute, routeAnswer, leftBy, bufferAfter}
+use Rattle.calls.specs.Runs.{runAnswer, runTable, tableAfter}
+use Rattle.calls.specs.Routes.{nodeOutside, wrongNode, isPaused, malformed, notShortest, tableRefusals, routeTo, foundRoute, routeAnswer, leftBy, bufferAfter}
 use Rattle.listing.specs.Text.{ascii, lastDigits, decimal}
 use Rattle.listing.specs.Listing.{cell, spaced, status, counted, statusLine, nodeLine, nodeLines, listingOf, refusedLine}
 use Rattle.listing.specs.Printed.{printed}
 
--- a call: to judge a sheet, given by its words; to run it for at most so many rounds, with a table lent; to read the route to a node out of a table, with
+-- a task: to judge a sheet, given by its words; to run it for at most so many rounds, with a table lent; to read the route to a node out of a table, with
 -- a buffer lent; and what `marks` does, to run a sheet to its end and print
-pub data Call : Type 0 where
-  judge : List ℕ → Call
-  run : List ℕ → ℕ → List ℕ → Call
-  readRoute : List ℕ → List ℕ → ℕ → List ℕ → Call
-  print : List ℕ → Call
+pub data Task : Type 0 where
+  judge : List ℕ → Task
+  run : List ℕ → ℕ → List ℕ → Task
+  readRoute : List ℕ → List ℕ → ℕ → List ℕ → Task
+  print : List ℕ → Task
 
 -- what comes of it: the answer, and the words of what was lent, or the bytes printed
 record Outcome : Type 0 where
   answer : Answer
   words : List ℕ
 
-abbrev outcome : Call → Outcome
+abbrev outcome : Task → Outcome
 outcome (judge ws) = record { answer = judgement (bytesOf ws); words = [] }
 outcome (run ws k table) = record { answer = runAnswer (bytesOf ws) k table; words = tableAfter (bytesOf ws) k table }
 outcome (print ws) = record { answer = judgement (bytesOf ws); words = printed (bytesOf ws) }
@@ -52,15 +52,15 @@ outcome (readRoute ws table node buffer) =
     record { answer = routeAnswer (bytesOf ws) table node buffer; words = bufferAfter (bytesOf ws) table node buffer }
 
 record Row : Type 0 where
-  call : Call
+  task : Task
   expected : Outcome
 
 infix 70 _is_ _is_leaving_
-abbrev _is_ : Call → Answer → Row
-c is a = record { call = c; expected = record { answer = a; words = [] } }
+abbrev _is_ : Task → Answer → Row
+t is a = record { task = t; expected = record { answer = a; words = [] } }
 
-abbrev _is_leaving_ : Call → Answer → List ℕ → Row
-c is a leaving ws = record { call = c; expected = record { answer = a; words = ws } }
+abbrev _is_leaving_ : Task → Answer → List ℕ → Row
+t is a leaving ws = record { task = t; expected = record { answer = a; words = ws } }
 
 -- a sheet whose first word is the given one; one node with an arc to itself whose second word is the given one; the one-node hall without its third word
 abbrev startingWith : ℕ → List ℕ
@@ -145,15 +145,31 @@ rows =
     ∷ readRoute cutOff ring 1 (0 ∷ 7 ∷ []) is refused (state 24) leaving (0 ∷ 7 ∷ [])
     -- "Span 0: 6."
     ∷ judge (0x10000001 ∷ 0x20000000 ∷ 0x30000000 ∷ []) is refused (input 6)
+    -- 2026-01: "From now on a node may have up to four each way, and five is still 10."
+    ∷ print turntable is accepted leaving (
+    ascii "ended rounds 3 leaves 12 inner 6 updates 53\n"
+    ++ ascii "0 0 -\n"
+    ++ ascii "1 200 0\n"
+    ++ ascii "2 300 1\n"
+    ++ ascii "3 400 2\n"
+    ++ ascii "4 500 3\n"
+    ++ ascii "5 800 7\n"
+    ++ ascii "6 1050 8\n"
+    ++ ascii "7 1100 9\n"
+    ++ ascii "8 1150 10\n"
+    ++ ascii "9 1200 11\n"
+    )
+    ∷ print fiveIn is refused (input 10) leaving ascii "refused 10\n"
+    ∷ print fiveOut is refused (input 10) leaving ascii "refused 10\n"
     ∷ []
 
-pub marked : map (λ row. outcome (row .call)) rows ≡ map (λ row. row .expected) rows
+pub marked : map (λ row. outcome (row .task)) rows ≡ map (λ row. row .expected) rows
 unfolding any count lead most upTo times column word kind payload top spansFrom arcsFrom regionWords tail head arcLength heightIn heightOf leafWord
-    parentWord arcWord judgement refusals formRefusals countRefusals arcRefusals divisionRefusals wrongSize outOfOrder bitSet nodesOutside sourceOutside
+    parentWord arcWord judgement refusalsUnder formRefusals countRefusals arcRefusals divisionRefusals wrongSize outOfOrder bitSet nodesOutside sourceOutside
     spansOutside tooMany endsOutside lengthsOutside crowdedNodes tooManyAtNode wrongParents wrongLeaves childlessRegions spansDiffer leafOf graphOf
     divisionOf spansOf before choose minItemBelow minItem minKey write updateFor update updateArc updateOutgoing relax clearKey processLeaf rewriteKey
-    countInner countRound processChild alive hasEnded processFor process start round after nodeWords tableOf wrongLength runRefusals runAnswer runTable
+    countInner countRound processChild alive hasEnded processFor process start round after nodeWords tableOf wrongLength runAnswer runTable
     tableAfter all labelsIn predecessorsIn followed leadsBack sourceTest unfedTest fedTest relaxedTest ledTest settled? nodeOutside wrongNode isPaused
-    malformed notShortest tableRefusals routeRefusals routeTo foundRoute routeAnswer leftBy bufferAfter
+    malformed notShortest tableRefusals routeTo foundRoute routeAnswer leftBy bufferAfter
     lastDigits decimal cell spaced status counted statusLine nodeLine nodeLines listingOf refusedLine printed
 marked = refl

@@ -3,10 +3,10 @@ use Prim.Native.Nat.{_≤_}
 use mathlib.Core.Path.{_≡_, sym, ap, _∙_}
 use borrow.Author.Needs.{needs}
 use native.Mathlib.Omega.{arith}
-use Rattle.sheet.specs.Limits.{mostArcs}
+use Rattle.sheet.specs.Limits.{mostArcs, mostArcsEachWay}
 use Rattle.answer.specs.Answer.{accepted, lowest}
 use Rattle.answer.specs.Inner.{numbered}
-use Rattle.judgement.specs.Judgement.{formRefusals, countRefusals, arcRefusals, refusals, judgement}
+use Rattle.judgement.specs.Judgement.{formRefusals, countRefusals, arcRefusals, refusalsUnder, judgement}
 use Rattle.judgement.proofs.Clear.{few-words}
 use Rattle.judge.proofs.Stages.{form-clear, count-nodes, count-arcs, count-region-words, count-stops, arc-stops, division-decides}
 use Rattle.judge.proofs.later_refusal.Statement.{statement}
@@ -26,7 +26,7 @@ formed c = form-clear _ (begin c .pre .sized) (begin c .pre .ordered) (sym (c .b
 counted : (c : tie.Else2) → lowest (countRefusals (begun c .args .s .now)) accepted ≡ accepted
 counted c = sym (c .before .count-refusal .ensures) ∙ ap numbered (c .if2 .left)
 
-arced : (c : tie.Else3) → lowest (arcRefusals (begun (c .before .before) .args .s .now)) accepted ≡ accepted
+arced : (c : tie.Else3) → lowest (arcRefusals mostArcsEachWay (begun (c .before .before) .args .s .now)) accepted ≡ accepted
 arced c = sym (c .before .arc-refusal .ensures) ∙ ap numbered (c .if3 .left)
 
 -- so the arcs that were found are few
@@ -34,7 +34,7 @@ few-arcs : (c : tie.Else2) → begun c .args .sections .arcs ≤ mostArcs
 few-arcs c = omega (arith, begun c .pre .located .arcs-all, count-arcs (begun c .args .s .now) (counted c))
 
 returns : tie.Need-returns
-unfolding judgement refusals formRefusals
+unfolding judgement refusalsUnder formRefusals
 returns c =
     let pre = c .before .before .before .pre in
     rw (pre .sized, pre .ordered, sym (c .before .bit-set .ensures) ∙ c .if1 .taken)

@@ -5,7 +5,7 @@ use mathlib.Core.List.{List}
 use mathlib.Core.Path.{_≡_, sym, _∙_}
 use borrow.Author.Needs.{needs}
 use Rattle.judgement.specs.Form.{wrongSize, outOfOrder}
-use Rattle.judgement.specs.Judgement.{formRefusals, refusals, judgement}
+use Rattle.judgement.specs.Judgement.{formRefusals, refusalsUnder, judgement}
 use Rattle.judgement.proofs.Clear.{front-there}
 use Rattle.judge.proofs.lowest_refusal.Statement.{statement}
 use Rattle.judge.proofs.lowest_refusal.Tie as tie
@@ -21,7 +21,7 @@ ordered : (c : tie.Else2) → outOfOrder (sheet (c .before .before)) ≡ false
 ordered c = sym (c .before .out-of-order .ensures) ∙ c .if2 .left
 
 pub lowest-refusal-spec : {M : Type 1} → statement M
-unfolding judgement refusals formRefusals
+unfolding judgement refusalsUnder formRefusals
 lowest-refusal-spec =
     tie.close (tie.spec
     (λ c κs. search needs)

@@ -25,7 +25,7 @@ pub record Counting (b tails heads : List ℕ) (a : ℕ) : Type 0 where
 
 module _ (b : List ℕ) where
   -- one way is enough
-  one-way : (heads : Bool) → crowdedNodes heads b ≡ true → tooManyAtNode b ≡ true
+  one-way : (heads : Bool) → crowdedNodes mostArcsEachWay heads b ≡ true → tooManyAtNode mostArcsEachWay b ≡ true
   unfolding tooManyAtNode
   one-way true e = rw (e, or-true)
   one-way false e = rw e
@@ -34,11 +34,11 @@ module _ (b : List ℕ) where
   module _ (heads : Bool) {seen : List ℕ} {a v : ℕ} (t : Tally (endsAt heads b) mostArcsEachWay seen a) (e : v ≡ endOf heads b a)
       (inside : v < length seen) where
     -- arc a is one more than v may have
-    pub one-too-many : endsOutside b ≡ false → a < arcCount b → mostArcsEachWay ≤ getD seen v 0 → tooManyAtNode b ≡ true
+    pub one-too-many : endsOutside b ≡ false → a < arcCount b → mostArcsEachWay ≤ getD seen v 0 → tooManyAtNode mostArcsEachWay b ≡ true
     unfolding crowdedNodes
     one-too-many ok l full =
         let here : count (endsAt heads b v) (a + 1) ≡ count (endsAt heads b v) a + 1 = count-in (endsAt heads b v) a (eq-eqb (endOf heads b a) v (sym e)) in
-        one-way heads (any-hit (crowded heads b) v (nodeCount b) (omega (arith, end-in b ok heads a l))
+        one-way heads (any-hit (crowded mostArcsEachWay heads b) v (nodeCount b) (omega (arith, end-in b ok heads a l))
         (lt-ltb mostArcsEachWay (count (endsAt heads b v) (arcCount b))
         (omega (arith, t .counts v inside, count-mono (endsAt heads b v) (a + 1) (arcCount b) (omega arith)))))
 
@@ -50,13 +50,13 @@ module _ (b : List ℕ) where
 
   -- no node has one too many, either way
   uncrowded : (heads : Bool) (seen : List ℕ) → nodeCount b ≤ length seen → Tally (endsAt heads b) mostArcsEachWay seen (arcCount b)
-      → crowdedNodes heads b ≡ false
+      → crowdedNodes mostArcsEachWay heads b ≡ false
   unfolding crowdedNodes
   uncrowded heads seen fits t =
-      any-false (crowded heads b) (nodeCount b)
+      any-false (crowded mostArcsEachWay heads b) (nodeCount b)
       (λ v l. le-ltb mostArcsEachWay (count (endsAt heads b v) (arcCount b)) (omega (arith, t .counts v (omega arith), t .below v (omega arith))))
 
-  pub none-too-many : {tails heads : List ℕ} {a : ℕ} → Counting b tails heads a → nodeCount b ≤ mostNodes → a ≡ arcCount b → tooManyAtNode b ≡ false
+  pub none-too-many : {tails heads : List ℕ} {a : ℕ} → Counting b tails heads a → nodeCount b ≤ mostNodes → a ≡ arcCount b → tooManyAtNode mostArcsEachWay b ≡ false
   unfolding tooManyAtNode
   none-too-many {tails} {heads} now few all =
       rw (uncrowded false tails (omega (arith, now .tails-long)) (rw all at (now .out)))

@@ -1,11 +1,11 @@
 -- What the start rests on: an array filled with 'none', with the source's label, and cleared queues are the start before its updates.
-use Prim.Native.Nat.{ℕ, _≤_, _<_}
+use Prim.Native.Nat.{ℕ, _<_}
 use mathlib.Core.Path.{_≡_, refl, ap, _∙_}
 use mathlib.Core.List.{List}
 use native.Mathlib.Omega.{arith}
 use lib.ListN.{length, set, take, replicate, length-replicate}
 use lib.Seq.{take-set-lt}
-use Rattle.sheet.specs.Limits.{mostNodes, mostArcsEachWay}
+use Rattle.sheet.specs.Limits.{mostNodes}
 use Rattle.sheet.specs.Words.{top}
 use Rattle.procedure.specs.Graph.{Graph, arcs}
 use Rattle.procedure.specs.Division.{Division, regions}
@@ -13,15 +13,11 @@ use Rattle.procedure.specs.State.{Queues, State}
 use Rattle.procedure.specs.Queues.{updateOutgoing}
 use Rattle.procedure.specs.Procedure.{start}
 use Rattle.theory.specs.Counts.{Small}
-use Rattle.theory.proofs.Final.{no-rounds, after-small}
+use Rattle.theory.proofs.Final.{few-each-way, no-rounds, after-small}
 use Rattle.run_arrays.specs.Sections.{stateLength, mostPlaces, labelSection, LabelStored}
 use Rattle.run_arrays.specs.Trees.{LaidOut, QueuesOk}
 use Rattle.run_arrays.specs.States.{HoldsQueues, UpdatingOutgoing, LeavesQueues, Represents, Blank}
 use Rattle.run_arrays.proofs.arrays.Filled.{labels-none, predecessors-none, own-none}
-
--- two arcs each way are within the four of the law of counts
-pub few-out : mostArcsEachWay ≤ 4
-few-out = omega arith
 
 -- the queues without a key, and the start from a source, where its queues are q
 abbrev pub noKeys : Graph → Division → Queues
@@ -54,7 +50,7 @@ module _ {g : Graph} {d : Division} {spans fixed weights : List ℕ} {source cou
   start-laid long = record { planned = B .planned; room = omega (arith, B .fixed-ok .ok .division .few-regions) }
 
   start-small : Small (start g d spans)
-  start-small = rw (no-rounds g d spans) at (after-small (B .fixed-ok .ok) few-out 0)
+  start-small = rw (no-rounds g d spans) at (after-small (B .fixed-ok .ok) few-each-way 0)
 
   is-start : startWith g source (updateOutgoing d (g .tails) source 0 (noKeys g d)) ≡ start g d spans
   is-start = ap (λ (v : ℕ). startWith g v (updateOutgoing d (g .tails) v 0 (noKeys g d))) (B .at-source) ∙ start-by-updates g d spans

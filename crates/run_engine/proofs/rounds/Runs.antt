@@ -8,9 +8,8 @@ use Rattle.procedure.specs.Division.{Division}
 use Rattle.procedure.specs.Procedure.{start, after}
 use Rattle.theory_shortest.specs.WellFormed.{WellFormed}
 use Rattle.theory.specs.Counts.{Small}
-use Rattle.theory.proofs.Final.{after-small}
+use Rattle.theory.proofs.Final.{few-each-way, after-small}
 use Rattle.run_arrays.specs.States.{moreRounds}
-use Rattle.run_engine.proofs.rounds.Beginning.{few-out}
 
 pub after-start : (g : Graph) (d : Division) (spans : List ℕ) (limit : ℕ) → moreRounds g d spans limit (start g d spans) ≡ after g d spans limit
 unfolding after
@@ -18,4 +17,4 @@ after-start g d spans limit = refl
 
 pub started-small : {g : Graph} {d : Division} {spans : List ℕ} → WellFormed mostArcsEachWay g d spans → (limit : ℕ)
     → Small (moreRounds g d spans limit (start g d spans))
-started-small {g} {d} {spans} ok limit = rw (after-start g d spans limit) (after-small ok few-out limit)
+started-small {g} {d} {spans} ok limit = rw (after-start g d spans limit) (after-small ok few-each-way limit)
