@@ -1,9 +1,10 @@
-//! Times the proved calls against the independent program and plain Dijkstra, in one run, and prints the ratios.
+//! Times the proved calls against the independent program and plain Dijkstra, in one run, and prints the ratios: `bench [HALL]..`, for all halls
+//! unless some are named.
 //!
 //! Every time is that of a whole call, from the sheet's bytes to the table or the judgement, and the least of interleaved repetitions.
 
 use bench::generate::divisions::{Nesting, NESTINGS};
-use bench::generate::halls::{Shape, SHAPES};
+use bench::generate::halls::{Shape, NARROW, SHAPES, WIDE};
 use bench::generate::sheets::{self, Spans, SPANS};
 use bench::{proved, reference};
 use std::hint::black_box;
@@ -11,6 +12,12 @@ use std::time::{Duration, Instant};
 
 const TIME_FOR_A_SHEET: Duration = Duration::from_millis(400);
 const LEAST_REPETITIONS: usize = 7;
+const GROWING: [(Shape, Nesting, Spans); 4] = [
+    (Shape::Grid, Nesting::Halves, Spans::Random),
+    (Shape::Random, Nesting::Mixed, Spans::One),
+    (Shape::Rings, Nesting::Flat, Spans::Million),
+    (Shape::WideGrid, Nesting::Halves, Spans::Random),
+];
 
 /// Least times in microseconds, and the leaves that the run works.
 struct Times {
@@ -60,15 +67,17 @@ impl Ratios {
     }
 }
 
-fn every_shape() {
-    println!("Full-size sheets: 1,024 nodes, up to 2,048 arcs. Times in microseconds.");
+/// A table of halls with the same number of arcs each way, and the summary of their ratios.
+fn every_sheet(shapes: &[Shape]) {
+    let Some(first) = shapes.first() else { return };
+    println!("Full-size sheets: {} nodes, {} arcs each way, up to 2048 arcs. Times in microseconds.", first.full_nodes(), first.each_way());
     println!("| hall | division | spans | leaves | proved run | plain run | Dijkstra | ratio | to Dijkstra | proved judge | plain judge | ratio |");
     println!("|---|---|---|--:|--:|--:|--:|--:|--:|--:|--:|--:|");
     let mut columns = [Ratios(vec![]), Ratios(vec![]), Ratios(vec![])];
-    for shape in SHAPES {
+    for shape in shapes {
         for nesting in NESTINGS {
             for spans in SPANS {
-                let t = measured(&sheets::regular(shape, nesting, spans, 1024), 1024);
+                let t = measured(&sheets::regular(*shape, nesting, spans, shape.full_nodes()), shape.full_nodes());
                 let ratios = [t.proved_run / t.plain_run, t.proved_run / t.dijkstra, t.proved_judge / t.plain_judge];
                 print!("| {shape:?} | {nesting:?} | {spans:?} | {} | {:.1} | {:.1} | {:.1} ", t.leaves, t.proved_run, t.plain_run, t.dijkstra);
                 println!("| {:.2} | {:.2} | {:.1} | {:.1} | {:.2} |", ratios[0], ratios[1], t.proved_judge, t.plain_judge, ratios[2]);
@@ -80,24 +89,35 @@ fn every_shape() {
     columns[0].line("proved run / plain run");
     columns[1].line("proved run / Dijkstra");
     columns[2].line("proved judge / plain judge");
+    println!();
 }
 
 fn growth(shape: Shape, nesting: Nesting, spans: Spans) {
-    println!("\nGrowth: {shape:?}, {nesting:?}, spans {spans:?}. Run and judge in microseconds.");
+    println!("Growth: {shape:?}, {nesting:?}, spans {spans:?}. Run and judge in microseconds.");
     println!("| arcs | leaves | proved run | plain run | Dijkstra | proved, ns a leaf | plain, ns a leaf | proved judge | plain judge | ns an arc |");
     println!("|--:|--:|--:|--:|--:|--:|--:|--:|--:|--:|");
     for arcs in [64, 128, 256, 512, 1024, 2048] {
-        let t = measured(&sheets::regular(shape, nesting, spans, arcs / 2), arcs / 2);
+        let nodes = arcs / shape.each_way();
+        let t = measured(&sheets::regular(shape, nesting, spans, nodes), nodes);
         let of_leaf = |time: f64| 1000.0 * time / t.leaves as f64;
         print!("| {arcs} | {} | {:.1} | {:.1} | {:.1} ", t.leaves, t.proved_run, t.plain_run, t.dijkstra);
         print!("| {:.1} | {:.1} ", of_leaf(t.proved_run), of_leaf(t.plain_run));
         println!("| {:.1} | {:.1} | {:.1} |", t.proved_judge, t.plain_judge, 1000.0 * t.proved_judge / arcs as f64);
     }
+    println!();
 }
 
 fn main() {
-    every_shape();
-    growth(Shape::Grid, Nesting::Halves, Spans::Random);
-    growth(Shape::Random, Nesting::Mixed, Spans::One);
-    growth(Shape::Rings, Nesting::Flat, Spans::Million);
+    let names: Vec<String> = std::env::args().skip(1).collect();
+    if names.iter().any(|name| !SHAPES.iter().any(|shape| format!("{shape:?}") == *name)) {
+        eprintln!("usage: bench [HALL]..\nhalls {SHAPES:?}");
+        std::process::exit(2)
+    }
+    let wanted = |shape: &Shape| names.is_empty() || names.contains(&format!("{shape:?}"));
+    for shapes in [&NARROW[..], &WIDE] {
+        every_sheet(&shapes.iter().copied().filter(wanted).collect::<Vec<_>>());
+    }
+    for (shape, nesting, spans) in GROWING.into_iter().filter(|(shape, _, _)| wanted(shape)) {
+        growth(shape, nesting, spans);
+    }
 }

@@ -1,13 +1,15 @@
 //! The four proved calls against the independent program, on generated sheets: `differential [CASES] [SEED]`.
 //!
 //! Compared are the answers, every word of the tables and buffers lent and of the words around them, and that a refusal changed nothing. Ends with 1
-//! at the first difference, or if a refusal number or an answer was never seen.
+//! at the first difference, or if a refusal number, an answer or a number of arcs one way was never seen.
 
 use bench::generate::random::Random;
 use bench::generate::{damage, sheets, tables};
-use bench::reference::{self, judge::accepted, sheet::Sheet};
-use bench::{proved, reference::Answer};
-use std::collections::BTreeMap;
+use bench::proved;
+use bench::reference::judge::{accepted, Judged, MOST_EACH_WAY};
+use bench::reference::sheet::{words, Sheet};
+use bench::reference::{self, Answer};
+use std::collections::{BTreeMap, BTreeSet};
 use std::fmt::Write;
 use std::process::ExitCode;
 use std::time::Instant;
@@ -21,11 +23,14 @@ struct Difference(String);
 
 type Outcome = Result<(), Difference>;
 
-/// How often each call gave each answer: the number of a route stands for routes of any length.
+/// How often each call gave each answer: the number of a route stands for routes of any length. How many sheets there were of each sort, and by the
+/// most arcs that a node has one way, how many accepted ones and how many refused as 10.
 #[derive(Default)]
 struct Tally {
     answers: BTreeMap<(&'static str, u32), u64>,
     sheets: BTreeMap<&'static str, u64>,
+    accepted: BTreeMap<usize, u64>,
+    crowded: BTreeMap<usize, u64>,
 }
 
 impl Tally {
@@ -33,9 +38,22 @@ impl Tally {
         *self.answers.entry((call, answer.code().min(65_536))).or_default() += 1;
     }
 
+    fn count_ways(&mut self, bytes: &[u8], judged: &Judged) {
+        let (sheets, most) = match judged {
+            Ok(accepted) => (&mut self.accepted, accepted.sheet.most_one_way()),
+            Err(10) => (&mut self.crowded, Sheet::in_order(words(bytes)).map_or(0, |sheet| sheet.most_one_way())),
+            Err(_) => return,
+        };
+        *sheets.entry(most.min(MOST_EACH_WAY + 2)).or_default() += 1;
+    }
+
     fn print(&self) {
         for (kind, count) in &self.sheets {
             println!("sheets {kind}: {count}");
+        }
+        for (judged, sheets) in [("accepted", &self.accepted), ("refused as 10", &self.crowded)] {
+            let parts: Vec<String> = sheets.iter().map(|(most, count)| format!("{} {count}", ways(*most))).collect();
+            println!("{judged}, by the most arcs that a node has one way: {}", parts.join(", "));
         }
         for call in ["judge", "run", "run_limited", "route"] {
             let answers = self.answers.iter().filter(|((of, _), _)| *of == call);
@@ -45,10 +63,21 @@ impl Tally {
         println!("calls compared: {}", self.answers.values().sum::<u64>());
     }
 
-    /// The numbers and answers that were never seen.
+    /// The numbers, answers and numbers of arcs one way that were never seen.
     fn unseen(&self) -> Vec<String> {
         let wanted = (1..=15).chain(21..=25).chain(256..=259).chain([65_536]);
-        wanted.filter(|code| !self.answers.keys().any(|(_, seen)| seen == code)).map(named).collect()
+        let answers = wanted.filter(|code| !self.answers.keys().any(|(_, seen)| seen == code)).map(named);
+        let seen: BTreeSet<_> = self.accepted.keys().chain(self.crowded.keys()).collect();
+        let arcs = (0..=MOST_EACH_WAY + 2).filter(|most| !seen.contains(most)).map(|most| ways(most) + " arcs one way");
+        answers.chain(arcs).collect()
+    }
+}
+
+fn ways(most: usize) -> String {
+    if most > MOST_EACH_WAY + 1 {
+        format!("above {}", MOST_EACH_WAY + 1)
+    } else {
+        most.to_string()
     }
 }
 
@@ -121,7 +150,9 @@ impl Trial<'_> {
         let bytes = self.bytes;
         let nothing = Lent { words: vec![0; 2 * GUARD] };
         compared("judge", String::new, nothing, self.tally, |_| proved::judge(bytes), |_| reference::judge(bytes))?;
-        match accepted(bytes) {
+        let judged = accepted(bytes);
+        self.tally.count_ways(bytes, &judged);
+        match judged {
             Ok(accepted) => self.accepted(&accepted.sheet)?,
             Err(_) => self.refused()?,
         }

@@ -25,9 +25,10 @@ fn usage() -> ! {
 fn main() {
     let arguments: Vec<String> = std::env::args().skip(1).collect();
     let call = arguments.first().map_or("", String::as_str);
-    let sheet = sheets::regular(named(&SHAPES, arguments.get(1)), named(&NESTINGS, arguments.get(2)), named(&SPANS, arguments.get(3)), 1024);
+    let shape = named(&SHAPES, arguments.get(1));
+    let sheet = sheets::regular(shape, named(&NESTINGS, arguments.get(2)), named(&SPANS, arguments.get(3)), shape.full_nodes());
     let times = arguments.get(4).map_or(1, |times| times.parse().unwrap_or_else(|_| usage()));
-    let mut table = vec![0; 9 + 2 * 1024];
+    let mut table = vec![0; 9 + 2 * shape.full_nodes()];
     for _ in 0..times {
         let sheet = black_box(&sheet);
         let answer = match call {

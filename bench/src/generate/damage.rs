@@ -5,10 +5,10 @@ use super::random::Random;
 /// The bytes of a sheet damaged in one to three places.
 pub fn damaged(mut words: Vec<u32>, random: &mut Random) -> Vec<u8> {
     for _ in 0..random.pick(&[1, 1, 1, 2, 3]) {
-        if random.once_in(2) {
-            anywhere(&mut words, random);
-        } else {
-            in_a_section(&mut words, random);
+        match random.below(5) {
+            0 => crowded(&mut words, random),
+            1..=2 => anywhere(&mut words, random),
+            _ => in_a_section(&mut words, random),
         }
     }
     let mut bytes = super::sheets::bytes(&words);
@@ -65,6 +65,23 @@ fn in_a_section(words: &mut Vec<u32>, random: &mut Random) {
         _ => leaf_payload(words[at], random),
     };
     words[at] = kind << 28 | payload;
+}
+
+/// Three, four or five arcs from one node, to one node, or both: as many arcs as that takes are led there. Five are refused as 10.
+fn crowded(words: &mut [u32], random: &mut Random) {
+    let mut places = places(words, 4);
+    if places.is_empty() {
+        return;
+    }
+    let ends = random.pick(&[0xffc00, 0x3ff, 0xfffff]);
+    let wanted = words[random.pick(&places)] & ends;
+    let there = places.iter().filter(|at| words[**at] & ends == wanted).count();
+    let more = random.pick(&[3, 4, 5usize]).saturating_sub(there);
+    places.retain(|at| words[*at] & ends != wanted);
+    random.shuffle(&mut places);
+    for at in places.into_iter().take(more) {
+        words[at] = words[at] & !ends | wanted;
+    }
 }
 
 fn ends_payload(ends: u32, random: &mut Random) -> u32 {

@@ -1,6 +1,9 @@
-//! Halls: nodes, source and arcs, with at most two arcs from and to each node.
+//! Halls: nodes, source and arcs, with at most four arcs from and to each node.
 
 use super::random::Random;
+
+pub const MOST_NODES: usize = 1024;
+pub const MOST_ARCS: usize = 2048;
 
 pub struct Hall {
     pub nodes: usize,
@@ -15,25 +18,60 @@ pub enum Shape {
     Ladder,
     Rings,
     Random,
+    WideGrid,
+    WideRandom,
 }
 
-pub const SHAPES: [Shape; 4] = [Shape::Grid, Shape::Ladder, Shape::Rings, Shape::Random];
+/// The shapes with two arcs each way, and those with four.
+pub const NARROW: [Shape; 4] = [Shape::Grid, Shape::Ladder, Shape::Rings, Shape::Random];
+pub const WIDE: [Shape; 2] = [Shape::WideGrid, Shape::WideRandom];
+pub const SHAPES: [Shape; 6] = [Shape::Grid, Shape::Ladder, Shape::Rings, Shape::Random, Shape::WideGrid, Shape::WideRandom];
 
 impl Shape {
-    /// Arcs of this shape between so many nodes, with length 0: two from and two to each node where their number lets it.
-    pub fn arcs(self, nodes: usize, random: &mut Random) -> Vec<(usize, usize, u32)> {
+    /// The arcs from a node, and as many to it, where the number of nodes lets it.
+    pub fn each_way(self) -> usize {
+        if WIDE.contains(&self) {
+            4
+        } else {
+            2
+        }
+    }
+
+    /// The nodes of a hall in which 2,048 arcs are so many each way.
+    pub fn full_nodes(self) -> usize {
+        MOST_ARCS / self.each_way()
+    }
+
+    /// Arcs of this shape between so many nodes, with length 0.
+    fn arcs(self, nodes: usize, random: &mut Random) -> Vec<(usize, usize, u32)> {
         match self {
             Shape::Grid => grid(nodes),
             Shape::Ladder => ladder(nodes),
             Shape::Rings => (0..nodes).flat_map(|v| [(v, (v + 1) % nodes, 0), (v, (v + nodes - 1) % nodes, 0)]).collect(),
-            Shape::Random => random_arcs(nodes, random),
+            Shape::Random | Shape::WideRandom => random_arcs(nodes, self.each_way(), random),
+            Shape::WideGrid => wide_grid(nodes),
         }
     }
+
+    /// The same, in random order and some left out where they are more than a hall may have.
+    fn arcs_within_limit(self, nodes: usize, random: &mut Random) -> Vec<(usize, usize, u32)> {
+        let mut arcs = self.arcs(nodes, random);
+        if arcs.len() > MOST_ARCS {
+            random.shuffle(&mut arcs);
+            arcs.truncate(MOST_ARCS);
+        }
+        arcs
+    }
+}
+
+/// How many nodes a row of a grid has.
+fn row(nodes: usize) -> usize {
+    (1..=nodes).take_while(|wide| wide * wide <= nodes).last().unwrap_or(1)
 }
 
 /// Rows and columns of one-way streets that change direction from one to the next, joined at the edges.
 fn grid(nodes: usize) -> Vec<(usize, usize, u32)> {
-    let wide = (1..=nodes).take_while(|wide| wide * wide <= nodes).last().unwrap_or(1);
+    let wide = row(nodes);
     let high = nodes / wide;
     let mut arcs = Vec::new();
     for v in 0..wide * high {
@@ -43,6 +81,13 @@ fn grid(nodes: usize) -> Vec<(usize, usize, u32)> {
         arcs.extend([(v, y * wide + along, 0), (v, across * wide + x, 0)]);
     }
     arcs
+}
+
+/// Rows and columns of streets both ways. The end of a row is joined to the start of the next, and the last node to the first.
+fn wide_grid(nodes: usize) -> Vec<(usize, usize, u32)> {
+    let wide = row(nodes);
+    let ahead = [1, nodes - 1, wide, nodes - wide];
+    (0..nodes).flat_map(|v| ahead.map(|steps| (v, (v + steps) % nodes, 0))).collect()
 }
 
 /// Two rails, one for each direction, and rungs both ways between them.
@@ -60,25 +105,34 @@ fn ladder(nodes: usize) -> Vec<(usize, usize, u32)> {
 }
 
 /// Self-arcs and parallel arcs among them.
-fn random_arcs(nodes: usize, random: &mut Random) -> Vec<(usize, usize, u32)> {
-    let mut heads: Vec<usize> = (0..2 * nodes).map(|end| end / 2).collect();
+fn random_arcs(nodes: usize, each_way: usize, random: &mut Random) -> Vec<(usize, usize, u32)> {
+    let mut heads: Vec<usize> = (0..each_way * nodes).map(|end| end / each_way).collect();
     random.shuffle(&mut heads);
-    heads.into_iter().enumerate().map(|(end, head)| (end / 2, head, 0)).collect()
+    heads.into_iter().enumerate().map(|(end, head)| (end / each_way, head, 0)).collect()
 }
 
 /// A hall of full size or smaller for the benchmark, with lengths up to 262,143.
 pub fn regular(shape: Shape, nodes: usize, random: &mut Random) -> Hall {
-    let mut arcs = shape.arcs(nodes, random);
+    let mut arcs = shape.arcs_within_limit(nodes, random);
     for arc in &mut arcs {
         arc.2 = random.below(262_144) as u32;
     }
     Hall { nodes, source: 0, arcs }
 }
 
+/// Wide and narrow shapes are equally frequent.
+pub fn any_shape(random: &mut Random) -> Shape {
+    if random.once_in(2) {
+        random.pick(&WIDE)
+    } else {
+        random.pick(&NARROW)
+    }
+}
+
 /// A hall of any kind: arcs left out, in any order, with lengths of a kind.
 pub fn any(most_nodes: usize, random: &mut Random) -> Hall {
     let nodes = 1 + random.below(most_nodes);
-    let mut arcs = random.pick(&SHAPES).arcs(nodes, random);
+    let mut arcs = any_shape(random).arcs_within_limit(nodes, random);
     if random.once_in(2) {
         random.shuffle(&mut arcs);
     }

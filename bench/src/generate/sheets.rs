@@ -43,7 +43,7 @@ pub fn bytes(words: &[u32]) -> Vec<u8> {
 /// An accepted sheet of any shape; most are small, a few of full size.
 pub fn any(random: &mut Random) -> Vec<u32> {
     let most_nodes = match random.below(2000) {
-        0 => 1024,
+        0 => halls::MOST_NODES,
         1..=20 => 200,
         21..=400 => 40,
         _ => 12,
@@ -54,7 +54,7 @@ pub fn any(random: &mut Random) -> Vec<u32> {
     words(&hall, &division, random.pick(&SPANS), random)
 }
 
-/// The sheet of the benchmark for a shape of each kind.
+/// A sheet of the benchmark: a hall, a division and spans of these kinds.
 pub fn regular(shape: Shape, nesting: Nesting, spans: Spans, nodes: usize) -> Vec<u8> {
     let mut random = Random::new(9);
     let hall = halls::regular(shape, nodes, &mut random);
@@ -62,9 +62,11 @@ pub fn regular(shape: Shape, nesting: Nesting, spans: Spans, nodes: usize) -> Ve
     bytes(&words(&hall, &division, spans, &mut random))
 }
 
-/// A sheet of full size: 1,024 nodes, and as many arcs as the shape has.
+/// A sheet of full size: up to 2,048 arcs, between 1,024 nodes or so few that each has as many as the shape gives it.
 pub fn full(random: &mut Random) -> Vec<u32> {
-    let hall = halls::regular(random.pick(&halls::SHAPES), 1024, random);
+    let shape = halls::any_shape(random);
+    let nodes = random.pick(&[shape.full_nodes(), halls::MOST_NODES]);
+    let hall = halls::regular(shape, nodes, random);
     let division = random.pick(&NESTINGS).full(hall.arcs.len(), random);
     words(&hall, &division, random.pick(&SPANS), random)
 }

@@ -1,5 +1,6 @@
 //! Plain Dijkstra with the heap of the standard library.
 
+use super::judge::MOST_EACH_WAY;
 use super::sheet::Sheet;
 use super::table::{write_header, write_node, Counts};
 use super::{Answer, TOP};
@@ -13,10 +14,11 @@ pub struct Distances {
 
 pub fn distances(sheet: &Sheet) -> Distances {
     let arcs: Vec<_> = sheet.arcs().collect();
-    let mut outgoing = vec![[TOP; 2]; sheet.nodes()];
+    let mut outgoing = vec![[TOP; MOST_EACH_WAY]; sheet.nodes()];
+    let mut taken = vec![0u8; sheet.nodes()];
     for (number, arc) in arcs.iter().enumerate() {
-        let pair = &mut outgoing[arc.tail];
-        pair[(pair[0] != TOP) as usize] = number as u32;
+        outgoing[arc.tail][taken[arc.tail] as usize] = number as u32;
+        taken[arc.tail] += 1;
     }
     let mut labels = vec![TOP; sheet.nodes()];
     let mut feeds = vec![TOP; sheet.nodes()];
@@ -27,7 +29,7 @@ pub fn distances(sheet: &Sheet) -> Distances {
         if label > labels[node as usize] {
             continue;
         }
-        for number in outgoing[node as usize].into_iter().filter(|number| *number != TOP) {
+        for number in outgoing[node as usize].into_iter().take_while(|number| *number != TOP) {
             let arc = arcs[number as usize];
             let sum = label + arc.length;
             if sum < labels[arc.head] {

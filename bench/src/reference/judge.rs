@@ -1,6 +1,9 @@
 //! The refusals 1 to 14, one after the other.
 
-use super::sheet::{is_leaf, kind, leaf_arc, parent, payload, Sheet};
+use super::sheet::{is_leaf, kind, leaf_arc, parent, payload, words, Sheet};
+
+/// The most arcs out of a node, and the most into it.
+pub const MOST_EACH_WAY: usize = 4;
 
 /// An accepted sheet, with the height of each region.
 pub struct Accepted {
@@ -8,33 +11,49 @@ pub struct Accepted {
     pub heights: Vec<u16>,
 }
 
-/// The sheet, or the lowest number that applies to it.
-pub fn accepted(bytes: &[u8]) -> Result<Accepted, u32> {
+/// What the judge finds: the sheet, or the lowest number that applies to it.
+pub type Judged = Result<Accepted, u32>;
+
+type Test = (u32, fn(&Sheet) -> bool);
+
+const BEFORE_CROWDED: [Test; 7] = [
+    (3, bit_set),
+    (4, |sheet| sheet.nodes() < 1 || sheet.nodes() > 1024),
+    (5, |sheet| sheet.source() >= sheet.nodes()),
+    (6, |sheet| sheet.spans().iter().any(|word| payload(*word) < 1 || payload(*word) > 1_000_000)),
+    (7, |sheet| sheet.spans().len() > 15 || sheet.arc_count() > 2048 || sheet.regions().len() > 4094),
+    (8, |sheet| sheet.arcs().any(|arc| arc.tail >= sheet.nodes() || arc.head >= sheet.nodes())),
+    (9, |sheet| sheet.arcs().any(|arc| arc.length > 262_143)),
+];
+
+const AFTER_CROWDED: [Test; 3] = [(11, wrong_parent), (12, wrong_leaves), (13, childless)];
+
+pub fn accepted(bytes: &[u8]) -> Judged {
+    accepted_within(MOST_EACH_WAY, bytes)
+}
+
+/// The same with at most so many arcs out of a node and into it, `MOST_EACH_WAY` at most. Before request 2026-01 it was 2.
+pub fn accepted_within(most: usize, bytes: &[u8]) -> Judged {
     if bytes.len() % 4 != 0 || bytes.len() > 32_828 {
         return Err(1);
     }
-    let words = bytes.chunks_exact(4).map(|word| u32::from_be_bytes([word[0], word[1], word[2], word[3]])).collect();
-    let sheet = Sheet::in_order(words).ok_or(2u32)?;
-    const TESTS: [(u32, fn(&Sheet) -> bool); 11] = [
-        (3, bit_set),
-        (4, |sheet| sheet.nodes() < 1 || sheet.nodes() > 1024),
-        (5, |sheet| sheet.source() >= sheet.nodes()),
-        (6, |sheet| sheet.spans().iter().any(|word| payload(*word) < 1 || payload(*word) > 1_000_000)),
-        (7, |sheet| sheet.spans().len() > 15 || sheet.arc_count() > 2048 || sheet.regions().len() > 4094),
-        (8, |sheet| sheet.arcs().any(|arc| arc.tail >= sheet.nodes() || arc.head >= sheet.nodes())),
-        (9, |sheet| sheet.arcs().any(|arc| arc.length > 262_143)),
-        (10, crowded),
-        (11, wrong_parent),
-        (12, wrong_leaves),
-        (13, childless),
-    ];
-    if let Some((number, _)) = TESTS.iter().find(|(_, applies)| applies(&sheet)) {
-        return Err(*number);
+    let sheet = Sheet::in_order(words(bytes)).ok_or(2u32)?;
+    passes(&sheet, &BEFORE_CROWDED)?;
+    if crowded(most, &sheet) {
+        return Err(10);
     }
+    passes(&sheet, &AFTER_CROWDED)?;
     let heights = heights(&sheet);
     match sheet.spans().len() == heights[0] as usize {
         true => Ok(Accepted { sheet, heights }),
         false => Err(14),
+    }
+}
+
+fn passes(sheet: &Sheet, tests: &[Test]) -> Result<(), u32> {
+    match tests.iter().find(|(_, applies)| applies(sheet)) {
+        Some((number, _)) => Err(*number),
+        None => Ok(()),
     }
 }
 
@@ -43,14 +62,14 @@ fn bit_set(sheet: &Sheet) -> bool {
         || sheet.regions().iter().any(|word| kind(*word) == 7 && payload(*word) >> 23 != 0)
 }
 
-fn crowded(sheet: &Sheet) -> bool {
+fn crowded(most: usize, sheet: &Sheet) -> bool {
     let mut outgoing = [0u16; 1024];
     let mut incoming = [0u16; 1024];
     for arc in sheet.arcs() {
         outgoing[arc.tail] += 1;
         incoming[arc.head] += 1;
     }
-    outgoing.iter().chain(&incoming).any(|count| *count > 2)
+    outgoing.iter().chain(&incoming).any(|count| *count as usize > most)
 }
 
 fn wrong_parent(sheet: &Sheet) -> bool {

@@ -7,7 +7,7 @@ pub mod route;
 pub mod sheet;
 pub mod table;
 
-use judge::Accepted;
+use judge::{accepted, Judged};
 
 /// The payload that stands for 'unreached', for the key 'none' and for 'no arc'.
 pub const TOP: u32 = (1 << 28) - 1;
@@ -38,45 +38,55 @@ impl Answer {
 }
 
 pub fn judge(bytes: &[u8]) -> Answer {
-    match judge::accepted(bytes) {
-        Ok(_) => Answer::Accepted,
-        Err(number) => Answer::Refused(number),
-    }
+    judge_of(accepted(bytes))
 }
 
 pub fn run(bytes: &[u8], table: &mut [u32]) -> Answer {
-    run_for(bytes, None, table)
+    run_of(accepted(bytes), None, table)
 }
 
 pub fn run_limited(bytes: &[u8], rounds: u32, table: &mut [u32]) -> Answer {
-    run_for(bytes, Some(rounds), table)
+    run_of(accepted(bytes), Some(rounds), table)
 }
 
-fn run_for(bytes: &[u8], limit: Option<u32>, table: &mut [u32]) -> Answer {
-    match accepted_for(bytes, table) {
-        Err(number) => Answer::Refused(number),
-        Ok(accepted) => procedure::run(&accepted, limit, table),
-    }
+pub fn route(bytes: &[u8], table: &[u32], node: u32, buffer: &mut [u32]) -> Answer {
+    route_of(accepted(bytes), table, node, buffer)
 }
 
 /// Distances and feeding arcs by Dijkstra's procedure, in a table whose counts are 0.
 pub fn run_dijkstra(bytes: &[u8], table: &mut [u32]) -> Answer {
-    match accepted_for(bytes, table) {
+    match fitting(accepted(bytes), table) {
         Err(number) => Answer::Refused(number),
         Ok(accepted) => dijkstra::run(&accepted.sheet, table),
     }
 }
 
-fn accepted_for(bytes: &[u8], table: &[u32]) -> Result<Accepted, u32> {
-    let accepted = judge::accepted(bytes)?;
+/// The calls on a sheet that has been judged, by whichever limit.
+pub fn judge_of(judged: Judged) -> Answer {
+    match judged {
+        Ok(_) => Answer::Accepted,
+        Err(number) => Answer::Refused(number),
+    }
+}
+
+pub fn run_of(judged: Judged, limit: Option<u32>, table: &mut [u32]) -> Answer {
+    match fitting(judged, table) {
+        Err(number) => Answer::Refused(number),
+        Ok(accepted) => procedure::run(&accepted, limit, table),
+    }
+}
+
+/// What was judged, refused as 21 where the table has not the length for it.
+fn fitting(judged: Judged, table: &[u32]) -> Judged {
+    let accepted = judged?;
     match table.len() == table::length(accepted.sheet.nodes()) {
         true => Ok(accepted),
         false => Err(21),
     }
 }
 
-pub fn route(bytes: &[u8], table: &[u32], node: u32, buffer: &mut [u32]) -> Answer {
-    match route::arcs(bytes, table, node) {
+pub fn route_of(judged: Judged, table: &[u32], node: u32, buffer: &mut [u32]) -> Answer {
+    match judged.and_then(|accepted| route::arcs(&accepted.sheet, table, node)) {
         Err(number) => Answer::Refused(number),
         Ok(None) => Answer::NoRoute,
         Ok(Some(arcs)) if arcs.len() > buffer.len() => Answer::Refused(25),

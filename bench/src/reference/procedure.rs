@@ -4,7 +4,7 @@
 //! 2p and 2p + 1, and place 1 the first-chosen child. A place holds key and region number in one number, so that the better one is the lower one.
 //! A leaf's own key and its key in its parent are equal whenever one of them is read, and stand in the parent's tree alone.
 
-use super::judge::Accepted;
+use super::judge::{Accepted, MOST_EACH_WAY};
 use super::sheet::{is_leaf, leaf_arc, parent, payload, Arc};
 use super::table::{write_header, write_node, Counts};
 use super::{Answer, TOP};
@@ -38,7 +38,7 @@ struct Region {
 struct Node {
     label: u32,
     feed: u32,
-    leaves: [u16; 2],
+    leaves: [u16; MOST_EACH_WAY],
 }
 
 struct Run {
@@ -107,10 +107,11 @@ impl Run {
         for (number, row) in regions.iter().enumerate().filter(|(_, row)| row.leaf) {
             leaves[row.span_or_arc as usize] = number as u16;
         }
-        let mut nodes = vec![Node { label: TOP, feed: TOP, leaves: [0; 2] }; sheet.nodes()];
+        let mut nodes = vec![Node { label: TOP, feed: TOP, leaves: [0; MOST_EACH_WAY] }; sheet.nodes()];
+        let mut taken = vec![0u8; sheet.nodes()];
         for (arc, leaf) in arcs.iter().zip(&leaves) {
-            let pair = &mut nodes[arc.tail].leaves;
-            pair[(pair[0] != 0) as usize] = *leaf;
+            nodes[arc.tail].leaves[taken[arc.tail] as usize] = *leaf;
+            taken[arc.tail] += 1;
         }
         Run { regions, trees, arcs, nodes, counts: Counts { rounds: 0, leaves: 0, inner: 0, updates: 0 } }
     }

@@ -1,20 +1,18 @@
 //! The route reader: the refusals 15 and 21 to 24, and the arcs of a route.
 
 use super::dijkstra::distances;
-use super::judge::accepted;
 use super::sheet::{kind, payload, Arc, Sheet};
 use super::{table, TOP};
 
 /// The arcs from the source to a node, nothing for an unreached node, or a refusal. The buffer is left to the caller.
-pub fn arcs(bytes: &[u8], table: &[u32], node: u32) -> Result<Option<Vec<u32>>, u32> {
-    let sheet = accepted(bytes)?.sheet;
+pub fn arcs(sheet: &Sheet, table: &[u32], node: u32) -> Result<Option<Vec<u32>>, u32> {
     if node as usize >= sheet.nodes() {
         return Err(15);
     }
     if table.len() != table::length(sheet.nodes()) {
         return Err(21);
     }
-    if wrong_form(&sheet, table) {
+    if wrong_form(sheet, table) {
         return Err(22);
     }
     if payload(table[0]) == 0 {
@@ -23,13 +21,13 @@ pub fn arcs(bytes: &[u8], table: &[u32], node: u32) -> Result<Option<Vec<u32>>, 
     let labels: Vec<u32> = table[9..].iter().step_by(2).map(|word| payload(*word)).collect();
     let feeds: Vec<u32> = table[10..].iter().step_by(2).map(|word| payload(*word)).collect();
     let arcs: Vec<Arc> = sheet.arcs().collect();
-    if labels != distances(&sheet).labels || !(0..sheet.nodes()).all(|node| fed_well(&sheet, &arcs, &labels, &feeds, node)) {
+    if labels != distances(sheet).labels || !(0..sheet.nodes()).all(|node| fed_well(sheet, &arcs, &labels, &feeds, node)) {
         return Err(24);
     }
     if labels[node as usize] == TOP {
         return Ok(None);
     }
-    Ok(chain(&sheet, &arcs, &feeds, node as usize))
+    Ok(chain(sheet, &arcs, &feeds, node as usize))
 }
 
 fn wrong_form(sheet: &Sheet, table: &[u32]) -> bool {

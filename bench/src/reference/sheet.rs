@@ -14,6 +14,11 @@ pub fn payload(word: u32) -> u32 {
     word & 0x0fff_ffff
 }
 
+/// The words of bytes whose number is a multiple of 4.
+pub fn words(bytes: &[u8]) -> Vec<u32> {
+    bytes.chunks_exact(4).map(|word| u32::from_be_bytes([word[0], word[1], word[2], word[3]])).collect()
+}
+
 impl Sheet {
     /// The sections of a sheet whose kinds are in order, otherwise nothing.
     pub fn in_order(words: Vec<u32>) -> Option<Sheet> {
@@ -50,6 +55,16 @@ impl Sheet {
 
     pub fn arcs(&self) -> impl Iterator<Item = Arc> + '_ {
         self.arc_words().chunks_exact(2).map(|pair| Arc::of(pair[0], pair[1]))
+    }
+
+    /// The most arcs out of a node or into one.
+    pub fn most_one_way(&self) -> usize {
+        let mut counts = [[0; 1024]; 2];
+        for arc in self.arcs() {
+            counts[0][arc.tail] += 1;
+            counts[1][arc.head] += 1;
+        }
+        counts.iter().flatten().copied().max().unwrap_or(0)
     }
 
     /// The words of regions 1, 2, 3 and so on.
