@@ -24,7 +24,7 @@ extern "C" {
  * a run, 11,543 for a route and 9,367 for a judgement. */
 #define PIGROZK_STACK_BYTES 196608
 
-/* The limits of a sheet that is accepted. A node may have so many arcs out of it, and so many into it. */
+/* The limits of a sheet that is accepted. A node may have PIGROZK_MOST_ARCS_EACH_WAY arcs out of it, and as many into it. */
 #define PIGROZK_MOST_BYTES 32828
 #define PIGROZK_MOST_NODES 1024
 #define PIGROZK_MOST_SPANS 15

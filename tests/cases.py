@@ -88,7 +88,7 @@ def counted(kinds):
 def held_before(family, answered, kind):
     """The cases of base vectors with the answers of today. With the limit of that time they are as stated; only a refusal 10 moves."""
     moved = Counter()
-    for (case, before, stated), (_, answer, _) in zip(answered(family, BASE_EACH_WAY), answered(family)):
+    for (case, before, stated), (_, answer, _) in zip(answered(family, BASE_EACH_WAY), answered(family), strict=True):
         hold(family, case, before, stated)
         if before not in ('refused input 10', 'refused 10'):
             hold(family, case, answer, before)

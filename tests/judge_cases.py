@@ -197,7 +197,10 @@ def wide_pairs():
         yield with_faults(wide), 0
         for number, changes in FAULTS.items():
             made = [with_faults(change, wide) if number < 10 else with_faults(wide, change) for change in changes]
-            yield from ((sheet, number) for sheet in made if applies(number, sheet))
+            left = [sheet for sheet in made if applies(number, sheet)]
+            if not left:
+                sys.exit('no wide sheet has fault %d' % number)
+            yield from ((sheet, number) for sheet in left)
 
 
 def full_size():

@@ -3,7 +3,7 @@
 //! None of them has a precondition: each answers for every sheet, table and buffer, and ends. A refusal leaves all that was lent as it was. What they
 //! promise is stated in `crates/pigrozk/src/lib.rt`; `include/pigrozk.h` has the same calls for C.
 
-/// The limits of a sheet that is accepted. A node may have `MOST_ARCS_EACH_WAY` arcs out of it, and so many into it.
+/// The limits of a sheet that is accepted. A node may have `MOST_ARCS_EACH_WAY` arcs out of it, and as many into it.
 pub const MOST_BYTES: usize = 32_828;
 pub const MOST_NODES: usize = 1_024;
 pub const MOST_SPANS: usize = 15;

@@ -6,7 +6,7 @@ use mathlib.Core.Path.{_≡_, sym, ap, _∙_}
 use Rattle.sheet.specs.Limits.{mostNodes, mostArcs, mostArcsEachWay, mostRegionWords}
 use Rattle.sheet.specs.Words.{words}
 use Rattle.sheet.specs.Sections.{nodeCount, spanCount, arcCount, regionWords}
-use Rattle.answer.specs.Answer.{accepted, lowest}
+use Rattle.answer.specs.Answer.{accepted, Case, lowest}
 use Rattle.answer.specs.Inner.{numbered}
 use Rattle.answer.proofs.Lowest.{lowest-append, lowest-clear, stage-stops, clear-of}
 use Rattle.judgement.specs.Form.{wrongSize, outOfOrder, bitSet}
@@ -32,28 +32,32 @@ module _ (b : List ℕ) (ok : lowest (countRefusals b) accepted ≡ accepted) wh
   unfolding countRefusals
   count-region-words = few-region-words b (clear-of (countRefusals b) ok 7)
 
+-- 8 to 10, and 11 to 14, of a sheet
+abbrev ofArcs : List ℕ → List Case
+ofArcs b = arcRefusals mostArcsEachWay b
+
+abbrev ofDivision : List ℕ → List Case
+ofDivision b = divisionRefusals (regionWords b) (arcCount b) (spanCount b)
+
 -- the stages make the judgement, one after the other
-staged : (b : List ℕ) → judgement b
-    ≡ lowest (formRefusals b)
-    (lowest (countRefusals b) (lowest (arcRefusals mostArcsEachWay b) (lowest (divisionRefusals (regionWords b) (arcCount b) (spanCount b)) accepted)))
+staged : (b : List ℕ) → judgement b ≡ lowest (formRefusals b) (lowest (countRefusals b) (lowest (ofArcs b) (lowest (ofDivision b) accepted)))
 unfolding judgement refusalsUnder
 staged b =
-    let d = divisionRefusals (regionWords b) (arcCount b) (spanCount b) in
-    lowest-append (formRefusals b) (countRefusals b ++ (arcRefusals mostArcsEachWay b ++ d)) accepted
-    ∙ ap (lowest (formRefusals b)) (lowest-append (countRefusals b) (arcRefusals mostArcsEachWay b ++ d) accepted ∙ ap (lowest (countRefusals b))
-    (lowest-append (arcRefusals mostArcsEachWay b) d accepted))
+    lowest-append (formRefusals b) (countRefusals b ++ (ofArcs b ++ ofDivision b)) accepted
+    ∙ ap (lowest (formRefusals b)) (lowest-append (countRefusals b) (ofArcs b ++ ofDivision b) accepted ∙ ap (lowest (countRefusals b))
+    (lowest-append (ofArcs b) (ofDivision b) accepted))
 
 module _ (b : List ℕ) (form : lowest (formRefusals b) accepted ≡ accepted) where
-  later : judgement b ≡ lowest (countRefusals b) (lowest (arcRefusals mostArcsEachWay b) (lowest (divisionRefusals (regionWords b) (arcCount b) (spanCount b)) accepted))
+  later : judgement b ≡ lowest (countRefusals b) (lowest (ofArcs b) (lowest (ofDivision b) accepted))
   later = staged b ∙ lowest-clear (formRefusals b) _ form
 
   pub count-stops : {n : ℕ} → (n ≡ 0 → ⊥) → numbered n ≡ lowest (countRefusals b) accepted → numbered n ≡ judgement b
   count-stops {n} ne e = stage-stops (countRefusals b) _ n ne e ∙ sym later
 
   module _ (count : lowest (countRefusals b) accepted ≡ accepted) where
-    pub arc-stops : {n : ℕ} → (n ≡ 0 → ⊥) → numbered n ≡ lowest (arcRefusals mostArcsEachWay b) accepted → numbered n ≡ judgement b
-    arc-stops {n} ne e = stage-stops (arcRefusals mostArcsEachWay b) _ n ne e ∙ sym (later ∙ lowest-clear (countRefusals b) _ count)
+    pub arc-stops : {n : ℕ} → (n ≡ 0 → ⊥) → numbered n ≡ lowest (ofArcs b) accepted → numbered n ≡ judgement b
+    arc-stops {n} ne e = stage-stops (ofArcs b) _ n ne e ∙ sym (later ∙ lowest-clear (countRefusals b) _ count)
 
-    pub division-decides : lowest (arcRefusals mostArcsEachWay b) accepted ≡ accepted → {d : List ℕ} {arcs spans : ℕ} → d ≡ regionWords b → arcs ≡ arcCount b
+    pub division-decides : lowest (ofArcs b) accepted ≡ accepted → {d : List ℕ} {arcs spans : ℕ} → d ≡ regionWords b → arcs ≡ arcCount b
         → spans ≡ spanCount b → lowest (divisionRefusals d arcs spans) accepted ≡ judgement b
-    division-decides arc ed ea es = rw (ed, ea, es) (sym (later ∙ lowest-clear (countRefusals b) _ count ∙ lowest-clear (arcRefusals mostArcsEachWay b) _ arc))
+    division-decides arc ed ea es = rw (ed, ea, es) (sym (later ∙ lowest-clear (countRefusals b) _ count ∙ lowest-clear (ofArcs b) _ arc))

@@ -17,7 +17,7 @@ use Rattle.sheet.specs.Inner.{Nesting}
 use Rattle.sheet.specs.Regions.{regionCount, leafWord, arcWord, isLeaf, parent, height}
 use Rattle.answer.proofs.Lowest.{clear-of}
 use Rattle.judgement.specs.Form.{wrongFront, noRegionWord, outOfOrder, nodesOutside, sourceOutside, spanOutside, spansOutside, tooMany}
-use Rattle.judgement.specs.Arcs.{endsOutside, tooLong, lengthsOutside, endsAt, crowded, crowdedNodes, tooManyAtNode}
+use Rattle.judgement.specs.Arcs.{endsOutside, tooLong, lengthsOutside, endsAt, tooManyAtNode}
 use Rattle.judgement.specs.Division.{wrongParents, noSuchArc, leafOfArc, notOneLeaf, wrongLeaves, childlessRegions, spansDiffer}
 use Rattle.judgement.specs.Judgement.{formRefusals, countRefusals, arcRefusals, divisionRefusals, refusalsUnder, refusals, judgement, Accepted}
 use Rattle.judgement.proofs.Parents as parents
@@ -111,14 +111,10 @@ module _ (b : List ℕ) (ok : Accepted b) where
   length-short a l = ltb-false mostLength (arcLength b a) (any-at (tooLong b) (arcCount b) a (none .lengths) l)
 
   -- 10. no node has more arcs each way than it may have, and what is no node has none
-  not-crowded : (heads : Bool) → crowdedNodes mostArcsEachWay heads b ≡ false
-  not-crowded = clear.both-ways b mostArcsEachWay (none .degrees)
-
   pub few-ends : (heads : Bool) (v : ℕ) → count (endsAt heads b v) (arcCount b) ≤ mostArcsEachWay
-  unfolding crowdedNodes
   few-ends heads v =
       by-order v (nodeCount b)
-      (λ l. ltb-false mostArcsEachWay (count (endsAt heads b v) (arcCount b)) (any-at (crowded mostArcsEachWay heads b) (nodeCount b) v (not-crowded heads) l))
+      (λ l. clear.few-at-nodes b mostArcsEachWay .0 (none .degrees) heads v l)
       (λ l. omega (arith, count-out-all (endsAt heads b v) (arcCount b) (elsewhere l)))
     where
       elsewhere : nodeCount b ≤ v → (a : ℕ) → a < arcCount b → endsAt heads b v a ≡ false

@@ -3,18 +3,20 @@
 use Prim.Native.Nat.{ℕ, _%_, _<_, _≤_}
 use mathlib.Core.Bool.{Bool, true, false, not, _||_}
 use mathlib.Core.List.{List}
+use mathlib.Core.Logic.{_↔_}
 use mathlib.Core.Path.{_≡_}
-use borrow.Author.Tests.{ltb-false, leb-false}
+use borrow.Author.Tests.{ltb-false, leb-false, le-ltb}
 use native.Mathlib.Omega.{arith}
 use lib.ListN.{length}
 use lib.Dec.{ltb, leb, eqb}
-use Rattle.indices.proofs.Tests.{any-at, or-left, or-right}
+use Rattle.indices.specs.Tests.{count}
+use Rattle.indices.proofs.Tests.{any-at, any-false, or-left, or-right, neither}
 use Rattle.sheet.specs.Limits.{mostBytes, mostNodes, mostSpans, mostArcs, mostRegionWords}
 use Rattle.sheet.specs.Words.{words, kind}
 use Rattle.sheet.specs.Sections.{nodeCount, spanCount, arcCount, regionWords}
 use Rattle.sheet.specs.Arcs.{tail, head, endOf}
 use Rattle.judgement.specs.Form.{wrongSize, wrongFront, outOfOrder, nodesOutside, tooMany}
-use Rattle.judgement.specs.Arcs.{endOutside, endsOutside, crowdedNodes, tooManyAtNode}
+use Rattle.judgement.specs.Arcs.{endOutside, endsOutside, endsAt, crowded, crowdedNodes, tooManyAtNode}
 
 module _ (b : List ℕ) where
   -- 1. a sheet of the right size has few words
@@ -54,8 +56,24 @@ module _ (b : List ℕ) where
       at true e = leb-false _ _ (or-right (leb (nodeCount b) (tail b a)) (leb (nodeCount b) (head b a)) e)
       at false e = leb-false _ _ (or-left (leb (nodeCount b) (tail b a)) (leb (nodeCount b) (head b a)) e)
 
-  -- 10. no node has too many arcs, neither out of it nor into it
-  pub both-ways : (most : ℕ) → tooManyAtNode most b ≡ false → (heads : Bool) → crowdedNodes most heads b ≡ false
+  -- 10. a limit does not find some node crowded exactly where each node has at most so many arcs: out of it, or into it
+  uncrowded : (limit : ℕ) (heads : Bool) → (crowdedNodes limit heads b ≡ false)
+      ↔ ((v : ℕ) → v < nodeCount b → count (endsAt heads b v) (arcCount b) ≤ limit)
+  unfolding crowdedNodes
+  uncrowded limit heads = (
+    λ e v l. ltb-false limit _ (any-at (crowded limit heads b) (nodeCount b) v e l),
+    λ few. any-false (crowded limit heads b) (nodeCount b) (λ v l. le-ltb limit _ (few v l)),
+  )
+
+  -- it does not apply exactly where each node has at most so many both ways
+  pub few-at-nodes : (limit : ℕ) → (tooManyAtNode limit b ≡ false)
+      ↔ ((heads : Bool) (v : ℕ) → v < nodeCount b → count (endsAt heads b v) (arcCount b) ≤ limit)
   unfolding tooManyAtNode
-  both-ways most ok true = or-right (crowdedNodes most false b) (crowdedNodes most true b) ok
-  both-ways most ok false = or-left (crowdedNodes most false b) (crowdedNodes most true b) ok
+  few-at-nodes limit = (
+    λ e heads. uncrowded limit heads .0 (one-way heads e),
+    λ few. neither _ _ (uncrowded limit false .1 (few false)) (uncrowded limit true .1 (few true)),
+  )
+    where
+      one-way : (heads : Bool) → crowdedNodes limit false b || crowdedNodes limit true b ≡ false → crowdedNodes limit heads b ≡ false
+      one-way true e = or-right (crowdedNodes limit false b) _ e
+      one-way false e = or-left (crowdedNodes limit false b) _ e

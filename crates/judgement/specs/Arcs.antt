@@ -23,16 +23,16 @@ unfoldable pub lengthsOutside : List ℕ → Bool
 lengthsOutside b = any (tooLong b) (arcCount b)
 
 -- 10. "A node with more than two outgoing or more than two incoming arcs.", where "From now on a node may have up to four each way, and five is still 10."
--- (2026-01): with `most` for two and four.
+-- (2026-01): with `limit` for two and four.
 -- arc a has node v as its head, or else as its tail
 abbrev pub endsAt : Bool → List ℕ → ℕ → ℕ → Bool
 endsAt heads b v a = eqb (endOf heads b a) v
 
 abbrev pub crowded : ℕ → Bool → List ℕ → ℕ → Bool
-crowded most heads b v = ltb most (count (endsAt heads b v) (arcCount b))
+crowded limit heads b v = ltb limit (count (endsAt heads b v) (arcCount b))
 
 unfoldable pub crowdedNodes : ℕ → Bool → List ℕ → Bool
-crowdedNodes most heads b = any (crowded most heads b) (nodeCount b)
+crowdedNodes limit heads b = any (crowded limit heads b) (nodeCount b)
 
 unfoldable pub tooManyAtNode : ℕ → List ℕ → Bool
-tooManyAtNode most b = crowdedNodes most false b || crowdedNodes most true b
+tooManyAtNode limit b = crowdedNodes limit false b || crowdedNodes limit true b

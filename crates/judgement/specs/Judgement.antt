@@ -19,19 +19,19 @@ countRefusals b =
 
 -- where a node may have so many arcs each way
 unfoldable pub arcRefusals : ℕ → List ℕ → List Case
-arcRefusals most b = input 8 when endsOutside b ∷ input 9 when lengthsOutside b ∷ input 10 when tooManyAtNode most b ∷ []
+arcRefusals limit b = input 8 when endsOutside b ∷ input 9 when lengthsOutside b ∷ input 10 when tooManyAtNode limit b ∷ []
 
 -- of region words d, where the sheet has so many arcs and spans
 unfoldable pub divisionRefusals : List ℕ → ℕ → ℕ → List Case
 divisionRefusals d arcs spans =
     input 11 when wrongParents d ∷ input 12 when wrongLeaves d arcs ∷ input 13 when childlessRegions d ∷ input 14 when spansDiffer d spans ∷ []
 
--- the refusals and the judgement of a sheet where a node may have so many arcs each way: 2 before request 2026-01
+-- the refusals and the judgement of a sheet where a node may have so many arcs each way: `mostArcsBefore` before request 2026-01
 unfoldable pub refusalsUnder : ℕ → List ℕ → List Case
-refusalsUnder most b = formRefusals b ++ (countRefusals b ++ (arcRefusals most b ++ divisionRefusals (regionWords b) (arcCount b) (spanCount b)))
+refusalsUnder limit b = formRefusals b ++ (countRefusals b ++ (arcRefusals limit b ++ divisionRefusals (regionWords b) (arcCount b) (spanCount b)))
 
 abbrev pub judgementUnder : ℕ → List ℕ → Answer
-judgementUnder most b = lowest (refusalsUnder most b) accepted
+judgementUnder limit b = lowest (refusalsUnder limit b) accepted
 
 -- the refusals of a sheet
 abbrev pub refusals : List ℕ → List Case

@@ -25,9 +25,13 @@ textOf noRoute listing = listing
 abbrev pub endTable : List ℕ → List ℕ
 endTable b = runTable b enoughRounds
 
+-- what is printed of a sheet that is judged so
+abbrev pub printedBy : Answer → List ℕ → List ℕ
+printedBy judged b = textOf judged (listingOf (endTable b) (nodeCount b))
+
 -- "reads a sheet on standard input, runs it to its end and prints"
 unfoldable pub printed : List ℕ → List ℕ
-printed b = textOf (judgement b) (listingOf (endTable b) (nodeCount b))
+printed b = printedBy (judgement b) b
 
 -- the text stands at the front of the buffer, the rest is as it was, and n is the number of its bytes
 pub record Filled (before text after : List ℕ) (n : ℕ) : Type 0 where
@@ -35,9 +39,12 @@ pub record Filled (before text after : List ℕ) (n : ℕ) : Type 0 where
   pub count : n ≡ length text
 
 -- the words lent for the table afterwards: the table at their front, or of a refusal as they were
+abbrev pub wordsBy : Answer → List ℕ → List ℕ → List ℕ
+wordsBy judged b table =
+    let made = endTable b ++ drop (tableLength (nodeCount b)) table in if isRefused judged then table else made
+
 unfoldable pub wordsAfter : List ℕ → List ℕ → List ℕ
-wordsAfter b table =
-    let made = endTable b ++ drop (tableLength (nodeCount b)) table in if isRefused (judgement b) then table else made
+wordsAfter b table = wordsBy (judgement b) b table
 
 -- the text at the front of the buffer, and every word lent for the table
 pub record Reported (b table out tableAfter outAfter : List ℕ) (n : ℕ) : Type 0 where

@@ -28,6 +28,10 @@ mostLength = 262143
 abbrev pub mostArcsEachWay : ℕ
 mostArcsEachWay = 4
 
+-- "A node with more than two outgoing or more than two incoming arcs.": so many before 2026-01
+abbrev pub mostArcsBefore : ℕ
+mostArcsBefore = 2
+
 -- "kinds 6 and 7 in any mixture, up to 4,094"
 abbrev pub mostRegionWords : ℕ
 mostRegionWords = 4094

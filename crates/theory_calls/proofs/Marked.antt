@@ -1,4 +1,5 @@
--- The marked cases of the paper as a table, computed from the definitions: a call, what it answers, and what is then in what was lent or is printed.
+-- The marked cases of the paper as a table, and cases of change requests with them, computed from the definitions: a call, what it answers, and what is then in
+-- what was lent or is printed.
 use Prim.Native.Nat.{ℕ}
 use mathlib.Core.List.{List, [], _∷_, _++_, map}
 use mathlib.Core.Path.{_≡_, refl}
@@ -31,7 +32,7 @@ use Rattle.listing.specs.Text.{ascii, lastDigits, decimal}
 use Rattle.listing.specs.Listing.{cell, spaced, status, counted, statusLine, nodeLine, nodeLines, listingOf, refusedLine}
 use Rattle.listing.specs.Printed.{printed}
 
--- a task: to judge a sheet, given by its words; to run it for at most so many rounds, with a table lent; to read the route to a node out of a table, with
+-- a call as a case names it: to judge a sheet, given by its words; to run it for at most so many rounds, with a table lent; to read the route to a node out of a table, with
 -- a buffer lent; and what `marks` does, to run a sheet to its end and print
 pub data Task : Type 0 where
   judge : List ℕ → Task

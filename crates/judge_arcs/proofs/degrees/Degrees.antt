@@ -3,17 +3,17 @@ use Prim.Native.Nat.{ℕ, _+_, _<_, _≤_}
 use mathlib.Core.Bool.{Bool, true, false, or-true}
 use mathlib.Core.List.{List}
 use mathlib.Core.Path.{_≡_, sym, _∙_}
-use borrow.Author.Tests.{eq-eqb, ne-eqb, lt-ltb, le-ltb}
+use borrow.Author.Tests.{eq-eqb, ne-eqb, lt-ltb}
 use native.Mathlib.Omega.{arith}
 use lib.ListN.{length, getD, set}
 use Rattle.indices.specs.Tests.{count}
 use Rattle.indices.proofs.Tally.{Tally, tally-in}
-use Rattle.indices.proofs.Tests.{any-hit, any-false, count-in, count-mono}
+use Rattle.indices.proofs.Tests.{any-hit, count-in, count-mono}
 use Rattle.sheet.specs.Limits.{mostArcsEachWay, nodeNumbers, mostNodes}
 use Rattle.sheet.specs.Sections.{nodeCount, arcCount}
 use Rattle.sheet.specs.Arcs.{endOf}
 use Rattle.judgement.specs.Arcs.{endsOutside, endsAt, crowded, crowdedNodes, tooManyAtNode}
-use Rattle.judgement.proofs.Clear.{end-in}
+use Rattle.judgement.proofs.Clear.{end-in, few-at-nodes}
 
 -- the counters, once a arcs are passed: how many of them leave each node, and enter it
 pub record Counting (b tails heads : List ℕ) (a : ℕ) : Type 0 where
@@ -48,16 +48,16 @@ module _ (b : List ℕ) where
         tally-in (endsAt heads b) mostArcsEachWay seen a t v inside (eq-eqb (endOf heads b a) v (sym e))
         (λ w ne. ne-eqb (endOf heads b a) w (λ h. ne (sym h ∙ sym e))) room
 
-  -- no node has one too many, either way
-  uncrowded : (heads : Bool) (seen : List ℕ) → nodeCount b ≤ length seen → Tally (endsAt heads b) mostArcsEachWay seen (arcCount b)
-      → crowdedNodes mostArcsEachWay heads b ≡ false
-  unfolding crowdedNodes
-  uncrowded heads seen fits t =
-      any-false (crowded mostArcsEachWay heads b) (nodeCount b)
-      (λ v l. le-ltb mostArcsEachWay (count (endsAt heads b v) (arcCount b)) (omega (arith, t .counts v (omega arith), t .below v (omega arith))))
+  -- counters of all arcs say that each node has few, out of it or into it
+  few-seen : (heads : Bool) (seen : List ℕ) → nodeCount b ≤ length seen → Tally (endsAt heads b) mostArcsEachWay seen (arcCount b)
+      → (v : ℕ) → v < nodeCount b → count (endsAt heads b v) (arcCount b) ≤ mostArcsEachWay
+  few-seen heads seen fits t v l = omega (arith, t .counts v (omega arith), t .below v (omega arith))
 
-  pub none-too-many : {tails heads : List ℕ} {a : ℕ} → Counting b tails heads a → nodeCount b ≤ mostNodes → a ≡ arcCount b → tooManyAtNode mostArcsEachWay b ≡ false
-  unfolding tooManyAtNode
-  none-too-many {tails} {heads} now few all =
-      rw (uncrowded false tails (omega (arith, now .tails-long)) (rw all at (now .out)))
-      (uncrowded true heads (omega (arith, now .heads-long)) (rw all at (now .into)))
+  -- no node has one too many, either way
+  pub none-too-many : {tails heads : List ℕ} {a : ℕ} → Counting b tails heads a → nodeCount b ≤ mostNodes → a ≡ arcCount b
+      → tooManyAtNode mostArcsEachWay b ≡ false
+  none-too-many {tails} {heads} now few all = few-at-nodes b mostArcsEachWay .1 seen
+    where
+      seen : (way : Bool) (v : ℕ) → v < nodeCount b → count (endsAt way b v) (arcCount b) ≤ mostArcsEachWay
+      seen false = few-seen false tails (omega (arith, now .tails-long)) (rw all at (now .out))
+      seen true = few-seen true heads (omega (arith, now .heads-long)) (rw all at (now .into))
