@@ -1,5 +1,5 @@
 //! The four calls through the wrapper: the paper's cases on hall A, lengths at the edge, and the samples, whose listings come from another program.
-use pigrozk::{judge, route, run, run_limited, table_words, Answer, MOST_TABLE_WORDS, NONE};
+use pigrozk::{judge, route, run, run_limited, table_words, Answer, MOST_ARCS_EACH_WAY, MOST_TABLE_WORDS, NONE};
 use std::fmt::Write;
 use std::path::{Path, PathBuf};
 
@@ -60,7 +60,7 @@ fn samples_as_listed() {
             tried += 1;
         }
     }
-    assert!(tried >= 12);
+    assert!(tried >= 13);
 }
 
 #[test]
@@ -71,6 +71,19 @@ fn judged() {
     assert_eq!(judge(&[]), Answer::Refused(2));
     sheet[3] = 0;
     assert_eq!(judge(&sheet), Answer::Refused(4));
+}
+
+/// Two nodes with so many arcs from each to the other, all on region 0.
+fn joined(arcs: u32) -> Vec<u8> {
+    let ends = (0..2 * arcs).flat_map(|arc| [0x4000_0000 | if arc < arcs { 1 } else { 1 << 10 }, 0x5000_0001]);
+    let leaves = (0..2 * arcs).map(|arc| 0x7000_0000 | arc);
+    [0x1000_0002, 0x2000_0000, 0x3000_0001].into_iter().chain(ends).chain(leaves).flat_map(u32::to_be_bytes).collect()
+}
+
+#[test]
+fn arcs_each_way() {
+    assert_eq!(judge(&joined(MOST_ARCS_EACH_WAY as u32)), Answer::Accepted);
+    assert_eq!(judge(&joined(MOST_ARCS_EACH_WAY as u32 + 1)), Answer::Refused(10));
 }
 
 #[test]

@@ -1,4 +1,4 @@
-/* The four calls from C, on the paper's hall A: what they answer, and every word that they leave. */
+/* The four calls from C, on the paper's hall A: what they answer, and every word that they leave; and the limit on the arcs at a node. */
 #include <stdio.h>
 #include <string.h>
 
@@ -50,6 +50,24 @@ static void judging(const uint8_t *sheet) {
     expect("no node is refused as 4", pigrozk_judge(wrong, 72) == 4);
 }
 
+/* Two nodes with so many arcs from each to the other, all on region 0. */
+static uint32_t judged_joined(uint32_t arcs) {
+    uint32_t joined[3 + 6 * (PIGROZK_MOST_ARCS_EACH_WAY + 1)] = {0x10000002, 0x20000000, 0x30000001};
+    uint8_t sheet[sizeof joined];
+    for (uint32_t arc = 0; arc < 2 * arcs; arc++) {
+        joined[3 + 2 * arc] = 0x40000000 + (arc < arcs ? 1 : 1 << 10);
+        joined[4 + 2 * arc] = 0x50000001;
+        joined[3 + 4 * arcs + arc] = 0x70000000 + arc;
+    }
+    to_bytes(sheet, joined, 3 + 6 * arcs);
+    return pigrozk_judge(sheet, 4 * (3 + 6 * arcs));
+}
+
+static void counting(void) {
+    expect("as many arcs each way as a node may have are accepted", judged_joined(PIGROZK_MOST_ARCS_EACH_WAY) == PIGROZK_ACCEPTED);
+    expect("one more is refused as 10", judged_joined(PIGROZK_MOST_ARCS_EACH_WAY + 1) == 10);
+}
+
 static void running(const uint8_t *sheet, uint32_t *table) {
     fill(table, 18);
     expect("a table of 18 words is refused as 21", pigrozk_run(sheet, 72, table, 18) == 21);
@@ -88,6 +106,7 @@ int main(void) {
     uint32_t table[18];
     to_bytes(sheet, words, 18);
     judging(sheet);
+    counting();
     running(sheet, table);
     reading(sheet, table);
     puts(failures ? "C: failed" : "C: passed");
