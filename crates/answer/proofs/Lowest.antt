@@ -1,4 +1,5 @@
--- The lowest refusal that applies: lists of cases one after the other, a list of which none applies, and the number of one that applies.
+-- The lowest refusal that applies: lists of cases one after the other, a list of which none applies, a test that applies less often, and the number of a
+-- refusal that applies.
 use Prim.Native.Nat.{ℕ, zero, suc}
 use mathlib.Core.Bool.{Bool, false, cond}
 use mathlib.Core.List.{List, [], _∷_, _++_}

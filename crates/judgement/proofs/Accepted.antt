@@ -114,7 +114,7 @@ module _ (b : List ℕ) (ok : Accepted b) where
   pub few-ends : (heads : Bool) (v : ℕ) → count (endsAt heads b v) (arcCount b) ≤ mostArcsEachWay
   few-ends heads v =
       by-order v (nodeCount b)
-      (λ l. clear.few-at-nodes b mostArcsEachWay .0 (none .degrees) heads v l)
+      (clear.few-at-nodes b mostArcsEachWay .0 (none .degrees) heads v)
       (λ l. omega (arith, count-out-all (endsAt heads b v) (arcCount b) (elsewhere l)))
     where
       elsewhere : nodeCount b ≤ v → (a : ℕ) → a < arcCount b → endsAt heads b v a ≡ false

@@ -1,7 +1,6 @@
 -- Cases of refusal 10, each computed from a sheet's bytes, so that an edit of its definition is refused here.
-use Prim.Native.Nat.{ℕ}
 use mathlib.Core.Path.{_≡_, refl}
-use mathlib.Core.List.{List, [], _∷_}
+use mathlib.Core.List.{[], _∷_}
 use Rattle.indices.specs.Tests.{any, count, lead, most}
 use Rattle.sheet.specs.Limits.{mostArcsBefore}
 use Rattle.sheet.specs.Words.{word, kind, payload, top}

@@ -56,7 +56,7 @@ module _ (b : List ℕ) where
       at true e = leb-false _ _ (or-right (leb (nodeCount b) (tail b a)) (leb (nodeCount b) (head b a)) e)
       at false e = leb-false _ _ (or-left (leb (nodeCount b) (tail b a)) (leb (nodeCount b) (head b a)) e)
 
-  -- 10. a limit does not find some node crowded exactly where each node has at most so many arcs: out of it, or into it
+  -- 10. no node has too many arcs one way exactly where each has at most so many
   uncrowded : (limit : ℕ) (heads : Bool) → (crowdedNodes limit heads b ≡ false)
       ↔ ((v : ℕ) → v < nodeCount b → count (endsAt heads b v) (arcCount b) ≤ limit)
   unfolding crowdedNodes
@@ -65,7 +65,7 @@ module _ (b : List ℕ) where
     λ few. any-false (crowded limit heads b) (nodeCount b) (λ v l. le-ltb limit _ (few v l)),
   )
 
-  -- it does not apply exactly where each node has at most so many both ways
+  -- it does not apply exactly where each node has at most so many arcs out of it, and at most so many into it
   pub few-at-nodes : (limit : ℕ) → (tooManyAtNode limit b ≡ false)
       ↔ ((heads : Bool) (v : ℕ) → v < nodeCount b → count (endsAt heads b v) (arcCount b) ≤ limit)
   unfolding tooManyAtNode

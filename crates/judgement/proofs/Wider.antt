@@ -1,4 +1,4 @@
--- A wider limit on the arcs at a node refuses less as 10, so it changes the judgement of such sheets alone as the narrower limit refuses as 10.
+-- A wider limit on the arcs at a node refuses less as 10, so it changes the judgement of those sheets alone that the narrower limit refuses as 10.
 use Prim.Native.Nat.{ℕ, _≤_}
 use mathlib.Core.Bool.{false}
 use mathlib.Core.List.{List, [], _∷_, _++_}

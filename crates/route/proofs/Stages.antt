@@ -22,7 +22,8 @@ pub node-below : (b : List ℕ) (node : ℕ) → nodeOutside b node ≡ false �
 unfolding nodeOutside
 node-below b node e = leb-false (nodeCount b) node e
 
-pub table-ready : {b table : List ℕ} {sections : Sections} → Fitting b sections table → lowest (tableRefusals b table) accepted ≡ accepted → Ready b sections table
+pub table-ready : {b table : List ℕ} {sections : Sections} → Fitting b sections table → lowest (tableRefusals b table) accepted ≡ accepted
+    → Ready b sections table
 unfolding tableRefusals
 table-ready {b} {table} fitting e = record { fitting = fitting; passed = clear-of (tableRefusals b table) e 24 }
 

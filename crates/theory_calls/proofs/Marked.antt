@@ -32,8 +32,8 @@ use Rattle.listing.specs.Text.{ascii, lastDigits, decimal}
 use Rattle.listing.specs.Listing.{cell, spaced, status, counted, statusLine, nodeLine, nodeLines, listingOf, refusedLine}
 use Rattle.listing.specs.Printed.{printed}
 
--- a call as a case names it: to judge a sheet, given by its words; to run it for at most so many rounds, with a table lent; to read the route to a node out of a table, with
--- a buffer lent; and what `marks` does, to run a sheet to its end and print
+-- a call as a case names it: to judge a sheet, given by its words; to run it for at most so many rounds, with a table lent; to read the route to a node
+-- out of a table, with a buffer lent; and what `marks` does, to run a sheet to its end and print
 pub data Task : Type 0 where
   judge : List ℕ → Task
   run : List ℕ → ℕ → List ℕ → Task

@@ -47,7 +47,8 @@ returns-4 c =
     let past : tie.Else2 = search needs in
     let found = begun past .pre .located in
     c .division-refusal .ensures
-    ∙ division-decides _ (formed (search needs)) (counted past) (arced (search needs)) (c .before .before .region-words .ensures) (found .arcs-all) (found .spans-all)
+    ∙ division-decides _ (formed (search needs)) (counted past) (arced (search needs)) (c .before .before .region-words .ensures) (found .arcs-all)
+    (found .spans-all)
 
 pub later-refusal-spec : {M : Type 1} → statement M
 later-refusal-spec =

@@ -85,7 +85,9 @@ module _ {g : Graph} {d : Division} {spans fixed weights : List ℕ} {source cou
               ap (take (g .nodes)) (Q .nodes .labels ∙ K .labels)
               ∙ take-set-lt (g .nodes) (labelSection filled) source 0 source-node
               ∙ ap (λ (labels : List ℕ). set labels source 0) (labels-none none (g .nodes) (B .fixed-ok .ok .graph .few-nodes));
-          predecessors = ap (take (g .nodes)) (Q .nodes .predecessors ∙ K .predecessors) ∙ predecessors-none none (g .nodes) (B .fixed-ok .ok .graph .few-nodes);
+          predecessors =
+              ap (take (g .nodes)) (Q .nodes .predecessors ∙ K .predecessors)
+              ∙ predecessors-none none (g .nodes) (B .fixed-ok .ok .graph .few-nodes);
           queues = Q .queues;
           rounds = refl;
           leaves = refl;
