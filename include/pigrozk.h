@@ -20,7 +20,7 @@
 extern "C" {
 #endif
 
-/* A stack of so many bytes has room for each call. No theorem speaks of a stack: tests/c/stack.c measures it, on a sheet of height 15, as 185,767 bytes for
+/* A stack of so many bytes has room for each call. No theorem speaks of a stack: tests/c/stack.c measures it, on a sheet of height 15, as 185,847 bytes for
  * a run, 11,543 for a route and 9,367 for a judgement. */
 #define PIGROZK_STACK_BYTES 196608
 
@@ -34,18 +34,31 @@ extern "C" {
 #define PIGROZK_MOST_ARCS_EACH_WAY 4
 #define PIGROZK_MOST_REGION_WORDS 4094
 
-/* How many words a table has, for a sheet of n nodes: exactly so many, or a call answers 21. */
-#define PIGROZK_TABLE_WORDS(n) (9 + 2 * (size_t)(n))
-#define PIGROZK_MOST_TABLE_WORDS 2057
+/* How many words a table has, for a sheet of n nodes: exactly 37 + 2n, or a call answers 21. PIGROZK_HEADER_WORDS of them stand before those of the nodes: the
+ * status, and two words for each of 18 counts. These are rounds, leaves worked, inner regions worked at each of the heights 1 to 15, updates. */
+#define PIGROZK_COUNTS (3 + PIGROZK_MOST_SPANS)
+#define PIGROZK_HEADER_WORDS (1 + 2 * PIGROZK_COUNTS)
+#define PIGROZK_TABLE_WORDS(n) (PIGROZK_HEADER_WORDS + 2 * (size_t)(n))
+#define PIGROZK_MOST_TABLE_WORDS (PIGROZK_HEADER_WORDS + 2 * PIGROZK_MOST_NODES)
 
 /* A buffer of so many words has room for every route. */
 #define PIGROZK_MOST_ROUTE_WORDS 1023
 
-/* The words of a table: the top 4 bits are the kind, the low 28 the payload. Place 0 has kind 8: 1 ended, 0 paused. Places 1 to 8 have kind 11: rounds,
- * leaves worked, inner regions worked, updates, each as its high 28 bits, then its low 28. Then for each node a word of kind 9, its distance, and one of
- * kind 10, its feeding arc. */
+/* The words of a table: the top 4 bits are the kind, the low 28 the payload. Place 0 has kind 8: 1 ended, 0 paused. Places 1 to 36 have kind 11: the counts,
+ * each as its high 28 bits, then its low 28; an inner count is 0 at a height that the sheet has no span for. Then for each node a word of kind 9, its
+ * distance, and one of kind 10, its feeding arc. */
 #define PIGROZK_KIND(word) ((uint32_t)(word) >> 28)
 #define PIGROZK_PAYLOAD(word) ((uint32_t)(word) & 268435455u)
+/* The place of a count among the counts; of an inner count by its height, from 1 to PIGROZK_MOST_SPANS. */
+#define PIGROZK_ROUNDS 0
+#define PIGROZK_LEAVES 1
+#define PIGROZK_INNER(height) (1 + (height))
+#define PIGROZK_UPDATES (PIGROZK_COUNTS - 1)
+/* The count at such a place in a table, below 2^56. */
+#define PIGROZK_COUNT(table, at) ((uint64_t)PIGROZK_PAYLOAD((table)[1 + 2 * (at)]) << 28 | PIGROZK_PAYLOAD((table)[2 + 2 * (at)]))
+/* Where the words of a node stand in a table. */
+#define PIGROZK_DISTANCE_AT(node) (PIGROZK_HEADER_WORDS + 2 * (size_t)(node))
+#define PIGROZK_FEEDING_ARC_AT(node) (PIGROZK_DISTANCE_AT(node) + 1)
 /* The payload that says 'unreached' in kind 9 and 'no arc' in kind 10. */
 #define PIGROZK_NONE 268435455u
 

@@ -1,7 +1,7 @@
 """The cases of the judge: a sheet, and the answer expected to it.
 
-The judge of tests/paper.py has to agree with every line of tests/judge_vectors.txt, with the limit of that time, and of
-tests/2026-01_vectors.txt, and with each answer that a case states; otherwise the script stops.
+The judge of tests/paper.py has to agree with every line of tests/judge_vectors.txt, with the limit of that time, of
+tests/2026-01_vectors.txt and tests/2026-02_vectors.txt, and with each answer that a case states; otherwise the script stops.
 """
 import sys
 from itertools import product
@@ -285,9 +285,17 @@ def vectors():
         yield bytes_in(digits), int(answer)
 
 
-def change_vectors():
-    for digits, answer in change_fields('judge'):
+def stated_by(request):
+    for digits, answer in change_fields(request, 'judge'):
         yield bytes_in(digits), int(answer)
+
+
+def first_change_vectors():
+    return stated_by('2026-01')
+
+
+def second_change_vectors():
+    return stated_by('2026-02')
 
 
 def said(answer):
@@ -301,4 +309,4 @@ def answered(family, most_each_way=MOST_EACH_WAY):
 
 
 def lines():
-    return lines_of([vectors], [change_vectors], FAMILIES, answered)
+    return lines_of(([vectors], [first_change_vectors], [second_change_vectors]), FAMILIES, answered)

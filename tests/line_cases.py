@@ -1,9 +1,11 @@
 """The lines that are no cases, some for each reason, and cases written in other ways or at the edge of what has room."""
 from cases import case_of, digits_of_words, line_of
+from procedure import table_size
 from sheets import HALL_A, packed
 
 A = packed(HALL_A)
 JUDGED, ROUTED = case_of(1, A), case_of(4, A)
+GOOD = table_size(4)
 
 # The most bytes of a line, and the most words of a table and lent, as the program has room for.
 ROOM = 16 + 65536
@@ -25,7 +27,7 @@ def digits():
 def sizes():
     """A sheet that is longer or shorter than the line says, and a line that is longer than there is room for."""
     for call in (1, 2, 3, 5):
-        head = digits_of_words([call, 0, 17 if call in (2, 3) else 0])
+        head = digits_of_words([call, 0, GOOD if call in (2, 3) else 0])
         for size in (0, len(A) - 4, len(A) - 1, len(A) + 1, len(A) + 4, 2**31, 2**32 - 16, 2**32 - 1):
             yield head + digits_of_words([size]) + A.hex()
     yield from (digits_of_words([4, 0, 9, size]) + A.hex() for size in (len(A) + 1, 2**32 - 1))
@@ -33,7 +35,7 @@ def sizes():
 
 
 def calls():
-    yield from (case_of(call, A, words=17) for call in (0, 6, 257, 2**16 + 1, 2**28, 2**32 - 1))
+    yield from (case_of(call, A, words=GOOD) for call in (0, 6, 257, 2**16 + 1, 2**28, 2**32 - 1))
 
 
 def tables():

@@ -1,23 +1,23 @@
 """The cases of the listing: a sheet, and what `marks` prints of it.
 
-What is expected comes from tests/procedure.py. It has to agree with every line of tests/marks_vectors.txt, with the limit of that time,
-and of tests/2026-01_vectors.txt, and with each text that a case states, and what is printed of an ended run has to be shortest. Otherwise
-the script stops.
+What is expected comes from tests/procedure.py. It has to agree with every line of tests/marks_vectors.txt, with the limit of that time, of
+tests/2026-01_vectors.txt and of tests/2026-02_vectors.txt, where tests/before.py says how with the older ones, and with each text that a
+case states, and what is printed of an ended run has to be shortest. Otherwise the script stops.
 """
-
+from before import listing_before
 from cases import bytes_in, case_of, change_fields, data, lines_of
 from paper import MOST_EACH_WAY
 from procedure import printed
 from sheets import (
-    FAULTS, HALL_A, WIDE, Chance, balanced, chain, changed, divided, each_way, flat, halving, ladder, one_deep, packed, random_arcs,
-    random_regions, turntable, with_faults,
+    FAULTS, HALL_A, WIDE, Chance, balanced, chain, changed, divided, each_way, flat, halving, high_halls, ladder, one_deep, packed, random_arcs,
+    random_regions, turntable, uneven_halls, with_faults,
 )
 
 
 # Each family yields sheets, each with the text stated, None where the procedure alone says it.
 
 def marked():
-    yield packed(HALL_A), 'ended rounds 3 leaves 5 inner 6 updates 13\n0 0 -\n1 3 2\n2 1 1\n3 8 3'
+    yield packed(HALL_A), 'ended rounds 3 leaves 5 inner 3 3 updates 13\n0 0 -\n1 3 2\n2 1 1\n3 8 3'
     yield packed([0x10000001, 0x20000000, 0x30000001]), 'ended rounds 0 leaves 0 inner 0 updates 0\n0 0 -'
     yield packed([0x10000001, 0x20000000]), 'refused 14'
     for at, word, number in ((0, 1 << 28, 4), (0, 1 << 28 | 1025, 4), (5, 5 << 28 | 262144, 9), (17, 0x70001001, 12), (2, 3 << 28, 6)):
@@ -68,6 +68,15 @@ def small_halls():
             yield divided(2 * lanes + 2, 0, turntable(lanes, length), balanced(lanes, list(range(3 * lanes))), lambda h: 2), None
 
 
+def levels():
+    """Leaves at different depths, all fifteen heights, and heights without workings."""
+    for sheet in (*uneven_halls(), *high_halls()):
+        yield sheet, None
+    for height in range(1, 16):
+        idle = 'ended rounds 0 leaves 0 inner %s updates 0\n0 0 -\n1 - -\n2 - -' % ' '.join('0' * height)
+        yield divided(3, 0, [(1, 2, 5)], chain(height), lambda h: 1), idle
+
+
 def full_size():
     chance = Chance(6)
     mixed = random_arcs(chance, 1024, 2048, list(range(1000)))
@@ -84,7 +93,7 @@ def full_size():
     yield divided(512, 511, each_way(4, 512), flat(2048), lambda h: 2), None
 
 
-FAMILIES = [marked, refused, sizes, small_halls, full_size]
+FAMILIES = [marked, refused, sizes, small_halls, levels, full_size]
 
 
 def vectors():
@@ -93,9 +102,17 @@ def vectors():
         yield bytes_in(digits), text.replace('|', '\n')
 
 
-def change_vectors():
-    for digits, text in change_fields('marks'):
+def stated_by(request):
+    for digits, text in change_fields(request, 'marks'):
         yield bytes_in(digits), text.replace('_', ' ').replace('|', '\n').rstrip('\n')
+
+
+def first_change_vectors():
+    return stated_by('2026-01')
+
+
+def second_change_vectors():
+    return stated_by('2026-02')
 
 
 def answered(family, most_each_way=MOST_EACH_WAY):
@@ -109,4 +126,5 @@ def kind(text):
 
 
 def lines():
-    return lines_of([vectors], [change_vectors], FAMILIES, answered, kind, str)
+    vectors_by_request = [vectors], [first_change_vectors], [second_change_vectors]
+    return lines_of(vectors_by_request, FAMILIES, answered, kind, str, listing_before)

@@ -2,13 +2,19 @@
 
 `Run` keeps a heap for each inner region, `PlainRun` looks through all children instead; the cases hold the two to each other. Distances
 are found a second way, by `distances`, and every ended table is held to them. The limit of arcs each way is the judge's alone.
+
+A run counts the workings of each region; the figures by height are added up where the table is made.
 """
 from heapq import heapify, heappop, heappush
 
 from paper import MOST_EACH_WAY, Lists, judge
 
 NONE = 2**28 - 1
-HEADER = 9
+MOST_HEIGHT = 15
+
+# The counts of a table: rounds, leaves, inner regions at each height, updates. A table begins with the status and two words for each count.
+COUNTS = 1 + 1 + MOST_HEIGHT + 1
+HEADER = 1 + 2 * COUNTS
 
 
 class Hall:
@@ -45,7 +51,8 @@ class Run:
         self.own_keys = {leaf: NONE for leaf in hall.arc_of}
         self.keys = [NONE] * len(hall.parents)
         self.heaps = [[] for _ in hall.parents]
-        self.rounds = self.leaves = self.inner = self.updates = 0
+        self.workings = [0] * len(hall.parents)
+        self.rounds = self.leaves = self.updates = 0
         for arc in hall.outgoing[hall.source]:
             self.update(arc, 0)
 
@@ -97,7 +104,7 @@ class Run:
         if region in self.own_keys:
             self.work_leaf(region)
             return
-        self.inner += 1
+        self.workings[region] += 1
         for _ in range(self.hall.spans[self.hall.heights[region] - 1]):
             key, child = self.first(region)
             if key == NONE:
@@ -112,13 +119,19 @@ class Run:
         self.rounds += 1
         self.work(0)
 
+    def inner(self, levels=None):
+        """How often inner regions were worked, for heights 1 to 15. Another number for each region can be given in place of its height."""
+        figures = [0] * MOST_HEIGHT
+        for region, level in enumerate(levels or self.hall.heights):
+            if region not in self.own_keys:
+                figures[level - 1] += self.workings[region]
+        return figures
+
+    def counts(self):
+        return [self.rounds, self.leaves] + self.inner() + [self.updates]
+
     def table(self):
-        words = [8 << 28 | self.ended()]
-        for count in (self.rounds, self.leaves, self.inner, self.updates):
-            words += [11 << 28 | count >> 28, 11 << 28 | count % 2**28]
-        for label, arc in zip(self.labels, self.feeding):
-            words += [9 << 28 | label, 10 << 28 | arc]
-        return words
+        return table_of(self.labels, self.feeding, self.ended(), [half for count in self.counts() for half in (count >> 28, count % 2**28)])
 
 
 class PlainRun(Run):
@@ -130,6 +143,20 @@ class PlainRun(Run):
 
     def write(self, item, key):
         self.keys[item] = key
+
+
+def table_of(labels, feeding, status=1, halves=(0,) * 2 * COUNTS):
+    """A table's words; of each count the high 28 bits and the low 28."""
+    words = [8 << 28 | status] + [11 << 28 | half for half in halves]
+    for label, arc in zip(labels, feeding):
+        words += [9 << 28 | label, 10 << 28 | arc]
+    return words
+
+
+def counts_of(table):
+    """The counts that a table gives."""
+    halves = [word % 2**28 for word in table[1:HEADER]]
+    return [high << 28 | low for high, low in zip(halves[::2], halves[1::2])]
 
 
 def tables(hall, limits=None, run=Run):
@@ -167,7 +194,8 @@ def printed(sheet, most_each_way=MOST_EACH_WAY):
         run.round()
     if not shortest(hall, run.labels, run.feeding):
         raise SystemExit('not shortest: %s' % sheet.hex()[:300])
-    lines = ['ended rounds %d leaves %d inner %d updates %d' % (run.rounds, run.leaves, run.inner, run.updates)]
+    figures = ' '.join(str(figure) for figure in run.inner()[:len(hall.spans)])
+    lines = ['ended rounds %d leaves %d inner %s updates %d' % (run.rounds, run.leaves, figures, run.updates)]
     for node, values in enumerate(zip(run.labels, run.feeding)):
         lines.append(' '.join([str(node)] + ['-' if value == NONE else str(value) for value in values]))
     return lines
@@ -225,7 +253,7 @@ def shortest(hall, labels, feeding):
 
 def wrong_word(hall, table):
     """Refusal 22."""
-    kinds = [8] + [11] * 8 + [9, 10] * hall.nodes
+    kinds = [8] + [11] * 2 * COUNTS + [9, 10] * hall.nodes
     feeding = [word % 2**28 for word in table[HEADER + 1::2]]
     return (
         [word >> 28 for word in table] != kinds or table[0] % 2**28 > 1 or any(len(hall.tails) <= arc < NONE for arc in feeding)

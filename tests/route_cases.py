@@ -1,14 +1,18 @@
 """The cases of the route reader: a sheet, a table's words, a node and the buffer's length, and the route, 'no route' or the refusal expected.
 
 What is expected comes from the route reader of tests/procedure.py. It has to agree with every line of tests/route_vectors.txt, with the
-limit of that time, and of tests/2026-01_vectors.txt, and with each answer that a case states; otherwise the script stops.
+limit of that time, of tests/2026-01_vectors.txt and of tests/2026-02_vectors.txt, where tests/before.py says how with the older ones, and
+with each answer that a case states; otherwise the script stops.
 """
+import sys
+
+from before import MORE, table_before, table_since
 from cases import bytes_in, case_of, change_fields, data, lines_of, stated_in, with_words, words_in
 from paper import MOST_EACH_WAY
-from procedure import HEADER, NONE, Hall, distances, route, tables
+from procedure import COUNTS, HEADER, NONE, Hall, distances, route, table_of, table_size, tables
 from sheets import (
-    FAULTS, HALL_A, WIDE, Chance, balanced, chain, changed, divided, each_way, flat, halving, ladder, one_deep, packed, random_arcs,
-    random_regions, sheet_of, single_children, turntable, with_faults,
+    FAULTS, HALL_A, WIDE, Chance, balanced, chain, changed, divided, each_way, flat, halving, high_halls, ladder, one_deep, packed,
+    random_arcs, random_regions, sheet_of, single_children, turntable, with_faults,
 )
 
 
@@ -16,13 +20,6 @@ from sheets import (
 
 def ended(sheet):
     return tables(Hall(sheet))[None]
-
-
-def table_of(labels, feeding, status=1, counts=(0,) * 8):
-    words = [8 << 28 | status] + [11 << 28 | count for count in counts]
-    for label, arc in zip(labels, feeding):
-        words += [9 << 28 | label, 10 << 28 | arc]
-    return words
 
 
 def other_tree(chance, sheet):
@@ -39,7 +36,8 @@ def other_tree(chance, sheet):
             arc = fresh[chance.below(len(fresh))]
             feeding[hall.heads[arc]] = arc
             reached.add(hall.heads[arc])
-    return table_of(labels, feeding, counts=[chance.below(2**28) for _ in range(8)])
+    wild = [chance.below(2**28) for _ in range(8)]
+    return table_of(labels, feeding, halves=[wild[at % 8] for at in range(2 * COUNTS)])
 
 
 def routes(sheet, table, nodes=None):
@@ -116,14 +114,41 @@ def good_wide_tables():
 
 
 def lengths_of_tables():
+    """Among the wrong ones the table with one inner count, one with a word for each count, and those with a height less or more."""
     for sheet in (A, sheet_of(1, 0, [1]), sheet_of(64, 63, [1])):
         table = ended(sheet)
-        for wrong in ([], table[:1], table[:HEADER], table[:-2], table[:-1], table + [0], table + table[-2:], table + table, table + [0] * 1000):
+        for wrong in (
+            [], table[:1], table[:HEADER], table[:-2], table[:-1], table + [0], table + table[-2:], table + table, table + [0] * 1000,
+            table_before(table), table[:1] + table[2:HEADER:2] + table[HEADER:], table[:5] + table[7:], table[:5] + [11 << 28] * 2 + table[5:],
+        ):
             yield (sheet, wrong, 0, 9), 'refused state 21'
         yield (sheet, table, 0, 9), None
     two = sheet_of(2, 0, [1], [(0, 1)], flat(1))
     yield (A, ended(two), 0, 9), 'refused state 21'
     yield (two, TABLE_A, 0, 9), 'refused state 21'
+
+
+def one_inner_count():
+    """Tables with one inner count that have the right length: with words added, and those of a hall with 14 nodes more."""
+    table = table_before(TABLE_A)
+    for more in ([0] * MORE, [11 << 28] * MORE, table[-2:] * (MORE // 2)):
+        yield (A, table + more, 3, 3), 'refused state 22'
+    for source in (0, 17):
+        more_nodes = sheet_of(18, source, [1], [(v, (v + 1) % 18) for v in range(18)], flat(18))
+        if len(table_before(ended(more_nodes))) != table_size(4):
+            sys.exit('%d words' % len(table_before(ended(more_nodes))))
+        yield (A, table_before(ended(more_nodes)), 3, 3), 'refused state 22'
+        yield (more_nodes, table_before(ended(more_nodes)), 3, 99), 'refused state 21'
+
+
+def counts():
+    """Counts of any payload are not examined: all at their highest, unused heights with figures, and counts of other runs."""
+    chance = Chance(20)
+    for halves in ([NONE] * 2 * COUNTS, [0] * 2 * COUNTS, *([chance.below(2**28) for _ in range(2 * COUNTS)] for _ in range(8))):
+        yield (A, TABLE_A[:1] + [11 << 28 | half for half in halves] + TABLE_A[HEADER:], 3, 3), ROUTE_A
+    for sheet in high_halls():
+        yield (A, TABLE_A[:1] + ended(sheet)[1:HEADER] + TABLE_A[HEADER:], 3, 3), ROUTE_A
+        yield (sheet, ended(sheet)[:1] + TABLE_A[1:HEADER] + ended(sheet)[HEADER:], Hall(sheet).source, 0), 'route 0'
 
 
 def kinds():
@@ -247,9 +272,12 @@ def put_at(at, payload):
 
 CASE_FAULTS = {
     'input 15': [lambda case: {'node': 8}, lambda case: {'node': 2**32 - 1}],
-    'state 21': [lambda case: {'table': case['table'] + [0]}, lambda case: {'table': case['table'][:-1]}],
+    'state 21': [
+        lambda case: {'table': case['table'] + [0]}, lambda case: {'table': case['table'][:-1]}, lambda case: {'table': table_before(case['table'])},
+    ],
     'state 22': [
         put_at(feeding_at(3), 6), lambda case: {'table': changed(case['table'], 4, 0)}, lambda case: {'table': changed(case['table'], label_at(7), 10 << 28)},
+        lambda case: {'table': changed(case['table'], HEADER - 1, 9 << 28)},
     ],
     'state 23': [put_at(0, 0)],
     'state 24': [put_at(label_at(6), 1), put_at(feeding_at(2), NONE), put_at(feeding_at(1), 0), put_at(feeding_at(0), 1)],
@@ -335,8 +363,8 @@ def full_size_wide():
 
 
 FAMILIES = [
-    marked, good_tables, good_wide_tables, lengths_of_tables, kinds, payloads, one_off, unreached, rings, parallel, turntables, pairs,
-    wide_pairs, middling, full_size, full_size_wide,
+    marked, good_tables, good_wide_tables, lengths_of_tables, one_inner_count, counts, kinds, payloads, one_off, unreached, rings, parallel,
+    turntables, pairs, wide_pairs, middling, full_size, full_size_wide,
 ]
 
 
@@ -344,12 +372,20 @@ def vectors():
     for line in data('route_vectors.txt'):
         sheet, words, node, room, answer, arcs = line.split()
         listed = [] if arcs == '-' else [int(arc) for arc in arcs.split(',')]
-        yield (bytes_in(sheet), words_in(words), int(node), int(room)), stated_in(answer, listed)
+        yield (bytes_in(sheet), table_since(words_in(words)), int(node), int(room)), stated_in(answer, listed)
 
 
-def change_vectors():
-    for sheet, words, node, room, answer, arcs in change_fields('route'):
-        yield (bytes_in(sheet), words_in(words), int(node), int(room)), stated_in(answer, words_in(arcs))
+def stated_by(request, table=lambda words: words):
+    for sheet, words, node, room, answer, arcs in change_fields(request, 'route'):
+        yield (bytes_in(sheet), table(words_in(words)), int(node), int(room)), stated_in(answer, words_in(arcs))
+
+
+def first_change_vectors():
+    return stated_by('2026-01', table_since)
+
+
+def second_change_vectors():
+    return stated_by('2026-02')
 
 
 def said(answer):
@@ -370,4 +406,4 @@ def kind(answer):
 
 
 def lines():
-    return lines_of([vectors], [change_vectors], FAMILIES, answered, kind)
+    return lines_of(([vectors], [first_change_vectors], [second_change_vectors]), FAMILIES, answered, kind)

@@ -1,20 +1,28 @@
 """The cases of a run: a sheet, a limit of rounds (None for none) and the table's length, and the answer and the table expected, or the refusal.
 
 What is expected comes from tests/procedure.py. It has to agree with every line of tests/limited_vectors.txt and tests/marks_vectors.txt,
-with the limit of that time, and of tests/2026-01_vectors.txt, and with each answer that a case states; every ended table has to hold the
-distances found a second way, and on small halls the run without heaps has to make the same tables. Otherwise the script stops.
+with the limit of that time, of tests/2026-01_vectors.txt and of tests/2026-02_vectors.txt, where tests/before.py says how with the older
+ones, and with each answer that a case states; every ended table has to hold the distances found a second way, and on small halls the run
+without heaps has to make the same tables. Otherwise the script stops.
 """
 import sys
 
+from before import MORE, answer_before, listing_before
 from cases import BASE_EACH_WAY, bytes_in, case_of, change_fields, data, lines_of, stated_in, with_words, words_in
 from paper import MOST_EACH_WAY, judge
-from procedure import HEADER, Hall, PlainRun, distances, printed, shortest, table_refusal, table_size, tables
+from procedure import (
+    COUNTS, HEADER, MOST_HEIGHT, NONE, Hall, PlainRun, Run, counts_of, distances, printed, shortest, table_of, table_refusal, table_size, tables,
+)
 from sheets import (
-    FAULTS, HALL_A, WIDE, Chance, alternate, balanced, chain, changed, divided, each_way, flat, halving, inner, ladder, leaf, many_chains,
-    one_deep, packed, random_arcs, random_regions, sheet_of, side_by_side, single_children, turntable, with_faults, woken,
+    FAULTS, HALL_A, WIDE, Chance, Parts, alternate, balanced, chain, changed, divided, each_way, flat, halving, high_halls, inner, ladder, leaf,
+    many_chains, one_deep, packed, random_arcs, random_regions, sheet_of, side_by_side, single_children, turntable, uneven_halls, with_faults,
+    woken,
 )
 
 MOST_LIMIT = 2**32 - 1
+
+# The length of the table of a sheet with faults, were it accepted.
+FAULTY = table_size(Parts().nodes)
 
 
 # A group of cases: a sheet with a list of limits and table lengths, and for each the answer stated, None where the procedure alone says it.
@@ -27,7 +35,7 @@ def right(sheet):
 
 
 def rounds_of(sheet):
-    return tables(Hall(sheet))[None][2] % 2**28
+    return counts_of(tables(Hall(sheet))[None])[0]
 
 
 def around_the_end(sheet):
@@ -37,24 +45,37 @@ def around_the_end(sheet):
     return sheet, [(limit, right(sheet), None) for limit in sorted(limits) if limit >= 0] + [(None, right(sheet), None)]
 
 
+def as_marked(answer, counts, labels, feeding):
+    """An answer with its table, from counts whose inner figures are those of the sheet's heights; the others are 0. All are below 2^28."""
+    *first, updates = counts
+    halves = [half for count in first + [0] * (COUNTS - len(counts)) + [updates] for half in (0, count)]
+    return with_words(answer, table_of(labels, feeding, answer == 'ended', halves))
+
+
 def marked():
-    a = packed(HALL_A)
-    yield a, [(None, 17, 'ended'), (1, 17, 'paused'), (0, 17, 'paused')]
+    a, one, good = packed(HALL_A), packed([0x10000001, 0x20000000, 0x30000001]), table_size(4)
+    unreached = [NONE] * 3
+    yield a, [(None, good, as_marked('ended', [3, 5, 3, 3, 13], [0, 3, 1, 8], [NONE, 2, 1, 3]))]
+    yield a, [(1, good, as_marked('paused', [1, 2, 1, 1, 8], [0, 4, NONE, 9], [NONE, 0, NONE, 3]))]
+    yield a, [(0, good, as_marked('paused', [0, 0, 0, 0, 6], [0] + unreached, [NONE] + unreached))]
     yield around_the_end(a)
-    yield packed([0x10000001, 0x20000000, 0x30000001]), [(limit, 11, 'ended') for limit in (0, 1, MOST_LIMIT, None)]
-    yield packed([0x10000001, 0x20000000]), [(None, 11, 'refused input 14')]
+    yield one, [(limit, table_size(1), as_marked('ended', [0, 0, 0, 0], [0], [NONE])) for limit in (0, 1, MOST_LIMIT, None)]
+    yield packed([0x10000001, 0x20000000]), [(None, table_size(1), 'refused input 14')]
     yield around_the_end(packed(changed(HALL_A, 0, 1 << 28 | 1024)))
     for at in (5, 7, 9, 11):
         yield around_the_end(packed(changed(HALL_A, at, 5 << 28 | 262143)))
-        yield packed(changed(HALL_A, at, 5 << 28 | 262144)), [(None, 17, 'refused input 9')]
+        yield packed(changed(HALL_A, at, 5 << 28 | 262144)), [(None, good, 'refused input 9')]
 
 
 def lengths_of_tables():
-    for sheet in (packed(HALL_A), sheet_of(1, 0, [1]), sheet_of(1024, 1023, [7], [(1023, 0, 5)], flat(1)), single(5)):
+    """Among the wrong ones the length with one inner count, with one word for each count, and with a height less or more."""
+    fourteen_more = sheet_of(18, 0, [1], [(0, 17, 5)], flat(1))
+    for sheet in (packed(HALL_A), fourteen_more, sheet_of(1, 0, [1]), sheet_of(1024, 1023, [7], [(1023, 0, 5)], flat(1)), single(5), single(15)):
         good = right(sheet)
-        wrong = [length for length in (0, 1, HEADER, good - HEADER, good - 2, good - 1, good + 1, good + 2, good + 1000, 4096) if length != good]
+        wrong = {0, 1, HEADER, good - HEADER, good - MORE, good - COUNTS, good + MORE, good + 1000, 4096} - {good}
+        near = [good + more for more in (-2, -1, 1, 2)]
         for limit in (0, 1, MOST_LIMIT, None):
-            yield sheet, [(limit, length, 'refused state 21') for length in wrong]
+            yield sheet, [(limit, length, 'refused state 21') for length in sorted(wrong) + near]
             yield sheet, [(limit, good, None)]
 
 
@@ -69,17 +90,18 @@ def refused():
     for number, changes in FAULTS.items():
         for at, change in enumerate(changes):
             sheet = with_faults(change)
-            lengths = (25, 24, 26, 0) if at == 0 else (25, 17)
+            lengths = (FAULTY, FAULTY - 1, FAULTY + 1, 0) if at == 0 else (FAULTY, FAULTY - MORE)
             yield sheet, [(limit, length, 'refused input %d' % number) for length in lengths for limit in (None, at)]
-    yield b'', [(None, 0, 'refused input 2'), (0, 9, 'refused input 2'), (5, 11, 'refused input 2')]
-    yield packed([0x10000000, 0x20000000]), [(None, 9, 'refused input 4')]
+    yield b'', [(None, 0, 'refused input 2'), (0, HEADER, 'refused input 2'), (5, table_size(1), 'refused input 2')]
+    yield packed([0x10000000, 0x20000000]), [(None, HEADER, 'refused input 4')]
 
 
 def wide():
     """Three and four arcs each way, with a table of the right length and of others."""
     for change in WIDE:
         yield around_the_end(with_faults(change))
-        yield with_faults(change), [(limit, length, 'refused state 21') for length in (24, 26, 17, 0) for limit in (None, 0, 1)]
+        wrong = (FAULTY - 1, FAULTY + 1, FAULTY - MORE, 0)
+        yield with_faults(change), [(limit, length, 'refused state 21') for length in wrong for limit in (None, 0, 1)]
 
 
 # Small halls.
@@ -212,7 +234,51 @@ def full_size_wide():
         yield sheet, [(limit, right(sheet), None)]
 
 
-FAMILIES = [marked, lengths_of_tables, refused, wide, small, middling, woken_again, full_size, full_size_wide]
+# Counts level by level.
+
+def to_the_end(sheet):
+    run = Run(Hall(sheet))
+    while not run.ended():
+        run.round()
+    return run
+
+
+def by_depth(hall):
+    """From the top down: region 0 has its height, and every other region one less than its parent."""
+    levels = [hall.heights[0]]
+    for parent in hall.parents[1:]:
+        levels.append(levels[parent] - 1)
+    return levels
+
+
+def by_child(hall, choose):
+    """One more than a child, which need not be the highest one."""
+    levels = [0] * len(hall.parents)
+    for region in reversed(range(len(levels))):
+        if region not in hall.arc_of:
+            levels[region] = 1 + choose([levels[child] for child in hall.children[region]])
+    return levels
+
+
+def uneven():
+    """Halls in which other figures come out from the top down, by the nearest leaf, by the first child and by the last."""
+    for sheet in uneven_halls():
+        run = to_the_end(sheet)
+        others = [by_depth(run.hall)] + [by_child(run.hall, choose) for choose in (min, lambda levels: levels[0], lambda levels: levels[-1])]
+        if run.inner() in [run.inner(levels) for levels in others]:
+            sys.exit('another level gives the same figures: %s' % sheet.hex()[:300])
+        yield around_the_end(sheet)
+
+
+def high():
+    """Halls of height 15 with all fifteen figures above 0, in some of them no two alike."""
+    found = [to_the_end(sheet).inner() for sheet in high_halls()]
+    if any(0 in figures for figures in found) or not any(len(set(figures)) == len(figures) for figures in found):
+        sys.exit('a height without workings, or two alike in each hall: %s' % found)
+    yield from (around_the_end(sheet) for sheet in high_halls())
+
+
+FAMILIES = [marked, lengths_of_tables, refused, wide, small, uneven, high, middling, woken_again, full_size, full_size_wide]
 
 
 # The vectors.
@@ -220,33 +286,47 @@ FAMILIES = [marked, lengths_of_tables, refused, wide, small, middling, woken_aga
 def limited_vectors():
     for line in data('limited_vectors.txt'):
         sheet, limit, length, answer, words = line.split()
-        yield bytes_in(sheet), [(int(limit), int(length), stated_in(answer, words_in(words)))]
+        yield bytes_in(sheet), [(int(limit), int(length) + MORE, stated_in(answer, words_in(words)))]
 
 
-def change_vectors():
-    """Where a limited run has ended, the run to the end has the same answer."""
-    for sheet, limit, length, answer, words in change_fields('run'):
+def stated_by(request, more):
+    """Where a limited run has ended, the run to the end has the same answer. Tables are longer by so many words."""
+    for sheet, limit, length, answer, words in change_fields(request, 'run'):
         for rounds in (int(limit), None) if answer == 'ended' else (int(limit),):
-            yield bytes_in(sheet), [(rounds, int(length), stated_in(answer, words_in(words)))]
+            yield bytes_in(sheet), [(rounds, int(length) + more, stated_in(answer, words_in(words)))]
+
+
+def first_change_vectors():
+    return stated_by('2026-01', MORE)
+
+
+def second_change_vectors():
+    return stated_by('2026-02', 0)
 
 
 def marks_vectors():
-    """The sheets of the vectors of `marks`, to their end, where what it prints is what the procedure says. 25 words for a refused one."""
+    """The sheets of the vectors of `marks`, to their end, where what it prints is what the procedure says."""
     for line in data('marks_vectors.txt'):
         digits, stated = line.split(' ', 1)
         sheet = bytes_in(digits)
-        found = '|'.join(printed(sheet, BASE_EACH_WAY))
+        found = listing_before('|'.join(printed(sheet, BASE_EACH_WAY)))
         if found != stated:
             sys.exit('marks prints %s: %s' % (found[:200], line[:200]))
-        lengths = ([25] if judge(sheet, BASE_EACH_WAY) else []) + ([] if judge(sheet) else [right(sheet)])
+        lengths = ([FAULTY] if judge(sheet, BASE_EACH_WAY) else []) + ([] if judge(sheet) else [right(sheet)])
         yield sheet, [(None, length, None) for length in lengths]
 
 
 # What is expected.
 
 def sound(hall, table):
-    """Whether a table can be one of a run: an ended one is shortest, and no label of a paused one is below the distance."""
+    """Whether a table can be one of a run: an ended one is shortest, no label of a paused one is below the distance, and a round works region 0.
+
+    Region 0 alone is as high as there are spans, and no region is higher.
+    """
     labels, feeding = ([word % 2**28 for word in table[HEADER + at::2]] for at in range(2))
+    rounds, _, *figures, _ = counts_of(table)
+    if figures[len(hall.spans) - 1:] != [rounds] + [0] * (MOST_HEIGHT - len(hall.spans)):
+        return False
     if table[0] % 2:
         return shortest(hall, labels, feeding)
     return all(label >= distance for label, distance in zip(labels, distances(hall)))
@@ -275,4 +355,5 @@ def answered(family, most_each_way=MOST_EACH_WAY):
 
 
 def lines():
-    return lines_of([limited_vectors, marks_vectors], [change_vectors], FAMILIES, answered)
+    vectors = [limited_vectors, marks_vectors], [first_change_vectors], [second_change_vectors]
+    return lines_of(vectors, FAMILIES, answered, before=answer_before)

@@ -273,6 +273,16 @@ def random_arcs(chance, nodes, count, lengths, ways=2):
     return [(tail, head, lengths[chance.below(len(lengths))]) for tail, head in random_ends(chance, nodes, count, ways)]
 
 
+def uneven(height):
+    """A chain of inner regions: beside the next one each has a leaf with a lower number, a region with a leaf alone, and a leaf at its end."""
+    regions, arcs, at = [], 0, 0
+    for _ in range(height - 1):
+        below = len(regions) + 2
+        regions += [leaf(at, arcs), inner(at), inner(at), leaf(below + 1, arcs + 1), leaf(at, arcs + 2)]
+        arcs, at = arcs + 3, below
+    return regions + [leaf(at, arcs)]
+
+
 def woken(levels, links, lanes=1):
     """Arcs and division in which the deepest region is woken 2^levels times.
 
@@ -290,3 +300,24 @@ def woken(levels, links, lanes=1):
     chained = [(tail, head, lane) for tail, head in zip(ends, ends[1:]) for lane in range(lanes, 0, -1)]
     deepest = [leaf(levels, 3 * j) for j in range(levels)] + [leaf(levels, 3 * levels + a) for a in range(links * lanes)]
     return first + links, arcs + chained, [inner(j) for j in range(levels)] + short + deepest
+
+
+def uneven_halls():
+    """Halls whose leaves hang at different depths."""
+    for height in (3, 4, 8, 14, 15):
+        arcs = 3 * height - 2
+        for span in (lambda h: 1, lambda h: 2, lambda h: 1 + h % 3, lambda h: 1_000_000):
+            yield divided((arcs + 1) // 2, height % 2, each_way(2, (arcs + 1) // 2)[:arcs], uneven(height), span)
+
+
+def high_halls():
+    """Halls of height 15 in which regions of every height are worked."""
+    arcs = each_way(2, 15)
+    for span in (lambda h: 1, lambda h: 1 + h % 2, lambda h: 3):
+        yield divided(15, 0, arcs, chain(15, 30), span)
+        yield divided(15, 1, arcs, ladder(15, 30), span)
+        yield divided(15, 2, arcs, side_by_side([1 + a % 15 for a in range(30)]), span)
+        yield divided(15, 3, arcs, side_by_side([15 - a // 2 for a in range(30)]), span)
+    for span in (lambda h: 1_000_000, lambda h: 16 - h):
+        nodes, ends, regions = woken(14, 3)
+        yield divided(nodes, 0, ends, regions, span)

@@ -1,8 +1,10 @@
 //! The independent program against the cases in `tests/*_vectors.txt`, and its distances against Dijkstra's.
 
 use bench::generate::halls::{self, WIDE};
+use bench::generate::tables::{before, since, MORE};
 use bench::generate::{random::Random, sheets};
 use bench::reference::judge::{accepted, accepted_within, Judged};
+use bench::reference::table::{self, HEADER, HEIGHTS};
 use bench::reference::{self, Answer, TOP};
 
 fn lines(name: &str) -> Vec<Vec<String>> {
@@ -33,86 +35,144 @@ fn answer(text: &str) -> Answer {
 
 type Judge = fn(&[u8]) -> Judged;
 
+/// By which judge a case holds, and the form of its tables: with one inner count, or level by level.
+#[derive(Clone, Copy)]
+struct Era {
+    judge: Judge,
+    one_inner: bool,
+}
+
+impl Era {
+    /// A table to be lent in today's form. One that is as long as it should be, or not, stays so.
+    fn lent(self, words: Vec<u32>) -> Vec<u32> {
+        if self.one_inner {
+            since(&words)
+        } else {
+            words
+        }
+    }
+
+    /// A length of today.
+    fn length(self, words: usize) -> usize {
+        if self.one_inner {
+            words + MORE
+        } else {
+            words
+        }
+    }
+
+    /// What a run has left, in the form of the case.
+    fn left(self, table: &[u32]) -> Vec<u32> {
+        if self.one_inner {
+            before(table)
+        } else {
+            table.to_vec()
+        }
+    }
+}
+
 /// The judge from before request 2026-01.
 fn two_each_way(bytes: &[u8]) -> Judged {
     accepted_within(2, bytes)
 }
 
 /// Cases made before request 2026-01 hold by the judge of that time, and by today's unless they were refused as 10.
-fn each_before_2026_01(name: &str, holds: impl Fn(Judge, &[String])) {
+fn each_before_2026_01(name: &str, holds: impl Fn(Era, &[String])) {
     for case in lines(name) {
-        holds(two_each_way, &case);
+        holds(Era { judge: two_each_way, one_inner: true }, &case);
         if !matches!(two_each_way(&bytes(&case[0])), Err(10)) {
-            holds(accepted, &case);
+            holds(Era { judge: accepted, one_inner: true }, &case);
         }
     }
 }
 
-/// The cases of a call among those of request 2026-01 hold by today's judge.
-fn each_of_2026_01(call: &str, holds: impl Fn(Judge, &[String])) {
-    let lines = lines("2026-01");
+/// The cases of a call among those of a request hold by today's judge.
+fn each_of_a_request(request: &str, era: Era, call: &str, holds: impl Fn(Era, &[String])) {
+    let lines = lines(request);
     let cases: Vec<_> = lines.iter().filter(|case| case[0] == call).collect();
     assert!(!cases.is_empty());
-    cases.iter().for_each(|case| holds(accepted, &case[1..]));
+    cases.iter().for_each(|case| holds(era, &case[1..]));
 }
 
-fn judge_holds(judge: Judge, case: &[String]) {
+fn each_of_the_requests(call: &str, holds: impl Fn(Era, &[String])) {
+    each_of_a_request("2026-01", Era { judge: accepted, one_inner: true }, call, &holds);
+    each_of_a_request("2026-02", Era { judge: accepted, one_inner: false }, call, &holds);
+}
+
+fn judge_holds(era: Era, case: &[String]) {
     let expected = match case[1].parse().unwrap() {
         0 => Answer::Accepted,
         number => Answer::Refused(number),
     };
-    assert_eq!(reference::judge_of(judge(&bytes(&case[0]))), expected, "{}", case[0]);
+    assert_eq!(reference::judge_of((era.judge)(&bytes(&case[0]))), expected, "{}", case[0]);
 }
 
 #[test]
 fn judge_agrees() {
     each_before_2026_01("judge", judge_holds);
-    each_of_2026_01("judge", judge_holds);
+    each_of_the_requests("judge", judge_holds);
+}
+
+/// What is printed after `inner`: the figures of the sheet's heights or, with one inner count, their sum. Region 0 alone is as high as there are spans,
+/// and a round works it once; above it all figures are 0.
+fn inner_of(table: &[u32], spans: usize, one_inner: bool) -> String {
+    let figures: Vec<u64> = (0..HEIGHTS).map(|at| table::count(table, 2 + at)).collect();
+    assert_eq!(figures[spans - 1], table::count(table, 0));
+    assert!(figures[spans..].iter().all(|figure| *figure == 0));
+    if one_inner {
+        return figures.iter().sum::<u64>().to_string();
+    }
+    figures[..spans].iter().map(u64::to_string).collect::<Vec<_>>().join(" ")
 }
 
 /// What `marks` prints, its lines joined by '|'.
-fn printed(judged: Judged) -> String {
-    let mut table = match &judged {
-        Ok(accepted) => vec![0; 9 + 2 * accepted.sheet.nodes()],
+fn printed(era: Era, sheet: &[u8]) -> String {
+    let judged = (era.judge)(sheet);
+    let (mut table, spans) = match &judged {
+        Ok(accepted) => (vec![0; table::length(accepted.sheet.nodes())], accepted.sheet.spans().len()),
         Err(number) => return format!("refused {number}"),
     };
     assert_eq!(reference::run_of(judged, None, &mut table), Answer::Ended);
-    let count = |at: usize| ((table[at] & TOP) as u64) << 28 | (table[at + 1] & TOP) as u64;
     let shown = |word: u32| if word & TOP == TOP { "-".to_string() } else { (word & TOP).to_string() };
-    let first = format!("ended rounds {} leaves {} inner {} updates {}", count(1), count(3), count(5), count(7));
-    let nodes = table[9..].chunks(2).enumerate().map(|(node, pair)| format!("{node} {} {}", shown(pair[0]), shown(pair[1])));
+    let [rounds, leaves, updates] = [0, 1, 2 + HEIGHTS].map(|at| table::count(&table, at));
+    let first = format!("ended rounds {rounds} leaves {leaves} inner {} updates {updates}", inner_of(&table, spans, era.one_inner));
+    let nodes = table[HEADER..].chunks(2).enumerate().map(|(node, pair)| format!("{node} {} {}", shown(pair[0]), shown(pair[1])));
     std::iter::once(first).chain(nodes).collect::<Vec<_>>().join("|")
 }
 
 /// A line has blanks, or '_' for them and a last '|'.
 #[test]
 fn run_agrees() {
-    let holds = |judge: Judge, case: &[String]| {
+    let holds = |era: Era, case: &[String]| {
         let expected = case[1..].join(" ").replace('_', " ");
-        assert_eq!(printed(judge(&bytes(&case[0]))), expected.trim_end_matches('|'), "{}", case[0]);
+        assert_eq!(printed(era, &bytes(&case[0])), expected.trim_end_matches('|'), "{}", case[0]);
     };
     each_before_2026_01("marks", holds);
-    each_of_2026_01("marks", holds);
+    each_of_the_requests("marks", holds);
 }
 
-fn limited_run_holds(judge: Judge, case: &[String]) {
-    let before = vec![0xdead_beef; case[2].parse().unwrap()];
-    let mut table = before.clone();
-    let answered = reference::run_of(judge(&bytes(&case[0])), Some(case[1].parse().unwrap()), &mut table);
+fn limited_run_holds(era: Era, case: &[String]) {
+    let lent = vec![0xdead_beef; era.length(case[2].parse().unwrap())];
+    let mut table = lent.clone();
+    let answered = reference::run_of((era.judge)(&bytes(&case[0])), Some(case[1].parse().unwrap()), &mut table);
     assert_eq!(answered, answer(&case[3]), "{}", case[0]);
-    assert_eq!(table, if case[4] == "-" { before } else { words(&case[4]) }, "{}", case[0]);
+    match case[4].as_str() {
+        "-" => assert_eq!(table, lent, "{}", case[0]),
+        expected => assert_eq!(era.left(&table), words(expected), "{}", case[0]),
+    }
 }
 
 #[test]
 fn limited_run_agrees() {
     each_before_2026_01("limited", limited_run_holds);
-    each_of_2026_01("run", limited_run_holds);
+    each_of_the_requests("run", limited_run_holds);
 }
 
-fn route_holds(judge: Judge, case: &[String], arcs: &[u32]) {
+fn route_holds(era: Era, case: &[String], arcs: &[u32]) {
     let before = vec![0xdead_beef; case[3].parse().unwrap()];
     let mut buffer = before.clone();
-    let answered = reference::route_of(judge(&bytes(&case[0])), &words(&case[1]), case[2].parse().unwrap(), &mut buffer);
+    let table = era.lent(words(&case[1]));
+    let answered = reference::route_of((era.judge)(&bytes(&case[0])), &table, case[2].parse().unwrap(), &mut buffer);
     assert_eq!(answered, answer(&case[4]), "{}", case[0]);
     assert_eq!(buffer[..arcs.len()], *arcs, "{}", case[0]);
     assert_eq!(buffer[arcs.len()..], before[arcs.len()..], "{}", case[0]);
@@ -122,8 +182,8 @@ fn route_holds(judge: Judge, case: &[String], arcs: &[u32]) {
 #[test]
 fn route_agrees() {
     let numbers = |text: &str| text.split(',').filter(|arc| *arc != "-").map(|arc| arc.parse().unwrap()).collect::<Vec<u32>>();
-    each_before_2026_01("route", |judge, case| route_holds(judge, case, &numbers(&case[5])));
-    each_of_2026_01("route", |judge, case| route_holds(judge, case, &words(&case[5])));
+    each_before_2026_01("route", |era, case| route_holds(era, case, &numbers(&case[5])));
+    each_of_the_requests("route", |era, case| route_holds(era, case, &words(&case[5])));
 }
 
 #[test]
@@ -132,10 +192,11 @@ fn distances_are_those_of_dijkstra() {
         let mut random = Random::of_case(1, case);
         let words = if case < 30 { sheets::full(&mut random) } else { sheets::any(&mut random) };
         let sheet = sheets::bytes(&words);
-        let mut tables = [vec![0; 9 + 2 * (words[0] & TOP) as usize], vec![0; 9 + 2 * (words[0] & TOP) as usize]];
+        let length = table::length((words[0] & TOP) as usize);
+        let mut tables = [vec![0; length], vec![0; length]];
         assert_eq!(reference::run(&sheet, &mut tables[0]), Answer::Ended);
         assert_eq!(reference::run_dijkstra(&sheet, &mut tables[1]), Answer::Ended);
-        let labels = |table: &[u32]| table[9..].iter().step_by(2).copied().collect::<Vec<_>>();
+        let labels = |table: &[u32]| table[HEADER..].iter().step_by(2).copied().collect::<Vec<_>>();
         assert_eq!(labels(&tables[0]), labels(&tables[1]));
     }
 }

@@ -13,6 +13,11 @@ pub const MOST_LENGTH: u32 = 262_143;
 pub const MOST_ARCS_EACH_WAY: usize = 4;
 pub const MOST_REGION_WORDS: usize = 4_094;
 
+/// The counts of a table: rounds, leaves worked, inner regions worked at each of the heights 1 to `MOST_SPANS`, updates. Before the words of its nodes a
+/// table has the status and two words for each count.
+pub const COUNTS: usize = 3 + MOST_SPANS;
+pub const HEADER_WORDS: usize = 1 + 2 * COUNTS;
+
 /// The longest table, and room for every route, in words.
 pub const MOST_TABLE_WORDS: usize = table_words(MOST_NODES);
 pub const MOST_ROUTE_WORDS: usize = MOST_NODES - 1;
@@ -22,7 +27,25 @@ pub const NONE: u32 = 268_435_455;
 
 /// How many words a table has, for a sheet of so many nodes.
 pub const fn table_words(nodes: usize) -> usize {
-    9 + 2 * nodes
+    HEADER_WORDS + 2 * nodes
+}
+
+/// The counts that a table gives, which has `HEADER_WORDS` words at least. `inner` has a figure for each height from 1 on; it is 0 at a height that the sheet
+/// has no span for.
+#[derive(Clone, Copy, Debug, PartialEq, Eq)]
+pub struct Counts {
+    pub rounds: u64,
+    pub leaves: u64,
+    pub inner: [u64; MOST_SPANS],
+    pub updates: u64,
+}
+
+impl Counts {
+    pub fn of(table: &[u32]) -> Counts {
+        let payload = |at: usize| u64::from(table[at] & NONE);
+        let count = |at: usize| payload(1 + 2 * at) << 28 | payload(2 + 2 * at);
+        Counts { rounds: count(0), leaves: count(1), inner: std::array::from_fn(|at| count(2 + at)), updates: count(COUNTS - 1) }
+    }
 }
 
 /// What a call answers.

@@ -1,5 +1,6 @@
 //! The four calls through the wrapper: the paper's cases on hall A, lengths at the edge, and the samples, whose listings come from another program.
-use pigrozk::{judge, route, run, run_limited, table_words, Answer, MOST_ARCS_EACH_WAY, MOST_TABLE_WORDS, NONE};
+use pigrozk::{judge, route, run, run_limited, table_words, Answer, Counts};
+use pigrozk::{COUNTS, HEADER_WORDS, MOST_ARCS_EACH_WAY, MOST_SPANS, MOST_TABLE_WORDS, NONE};
 use std::fmt::Write;
 use std::path::{Path, PathBuf};
 
@@ -30,12 +31,15 @@ fn payload(word: u32) -> u32 {
     word & NONE
 }
 
-/// What the paper prints of an ended table.
-fn listing(table: &[u32]) -> String {
-    let count = |i: usize| (u64::from(payload(table[1 + 2 * i])) << 28) + u64::from(payload(table[2 + 2 * i]));
+/// What is printed of an ended table, with an inner figure for each span of the sheet. The figures of other heights are 0.
+fn listing(sheet: &[u8], table: &[u32]) -> String {
+    let spans = sheet.chunks(4).filter(|word| word[0] >> 4 == 3).count();
     let shown = |word: u32| if payload(word) == NONE { "-".to_string() } else { payload(word).to_string() };
-    let mut text = format!("ended rounds {} leaves {} inner {} updates {}\n", count(0), count(1), count(2), count(3));
-    for (node, words) in table[9..].chunks(2).enumerate() {
+    let counts = Counts::of(table);
+    assert!(counts.inner[spans..].iter().all(|figure| *figure == 0));
+    let inner = counts.inner[..spans].iter().map(u64::to_string).collect::<Vec<_>>().join(" ");
+    let mut text = format!("ended rounds {} leaves {} inner {inner} updates {}\n", counts.rounds, counts.leaves, counts.updates);
+    for (node, words) in table[HEADER_WORDS..].chunks(2).enumerate() {
         writeln!(text, "{node} {} {}", shown(words[0]), shown(words[1])).expect("written");
     }
     text
@@ -53,7 +57,7 @@ fn samples_as_listed() {
             let mut table = vec![PATTERN; table_words(nodes)];
             let printed = match run(&sheet, &mut table) {
                 Answer::Refused(number) => format!("refused {number}\n"),
-                Answer::Ended => listing(&table),
+                Answer::Ended => listing(&sheet, &table),
                 other => panic!("{other:?}"),
             };
             assert_eq!(printed, expected, "{}", path.display());
@@ -86,22 +90,43 @@ fn arcs_each_way() {
     assert_eq!(judge(&joined(MOST_ARCS_EACH_WAY as u32 + 1)), Answer::Refused(10));
 }
 
+/// The words before those of the nodes, for counts below 2^28 and a sheet of two heights.
+fn header(status: u32, rounds: u32, leaves: u32, inner: [u32; 2], updates: u32) -> Vec<u32> {
+    let mut words = vec![11 << 28; HEADER_WORDS];
+    words[0] = 8 << 28 | status;
+    for (at, count) in [(0, rounds), (1, leaves), (2, inner[0]), (3, inner[1]), (COUNTS - 1, updates)] {
+        words[2 + 2 * at] |= count;
+    }
+    words
+}
+
 #[test]
 fn rounds() {
     let sheet = sample("hall-a");
     let mut table = ended(&sheet, 4);
     assert_eq!(run_limited(&sheet, 0, &mut table), Answer::Paused);
-    assert_eq!(table[..9].iter().map(|word| payload(*word)).collect::<Vec<_>>(), [0, 0, 0, 0, 0, 0, 0, 0, 6]);
+    assert_eq!(table[..HEADER_WORDS], header(0, 0, 0, [0, 0], 6));
     assert_eq!(run_limited(&sheet, 1, &mut table), Answer::Paused);
-    assert_eq!(table[..9].iter().map(|word| payload(*word)).collect::<Vec<_>>(), [0, 0, 1, 0, 2, 0, 2, 0, 8]);
+    assert_eq!(table[..HEADER_WORDS], header(0, 1, 2, [1, 1], 8));
     assert_eq!(run_limited(&sheet, u32::MAX, &mut table), Answer::Ended);
+    assert_eq!(table[..HEADER_WORDS], header(1, 3, 5, [3, 3], 13));
     assert_eq!(table, ended(&sheet, 4));
 }
 
 #[test]
+fn counts_of_a_table() {
+    let inner: [u64; MOST_SPANS] = std::array::from_fn(|at| (at as u64 + 3) << 28 | 7 + at as u64);
+    let halves = [[1, 2], [0, 4]].into_iter().chain(inner.map(|figure| [(figure >> 28) as u32, figure as u32 & NONE])).chain([[NONE, NONE]]);
+    let table: Vec<u32> = std::iter::once(8 << 28).chain(halves.flatten().map(|half| 11 << 28 | half)).collect();
+    assert_eq!((table.len(), table_words(0)), (37, 37));
+    assert_eq!(Counts::of(&table), Counts { rounds: (1 << 28) + 2, leaves: 4, inner, updates: (1 << 56) - 1 });
+}
+
+/// One word less and one more than is right, and the 9 + 2n words of a table with one inner count.
+#[test]
 fn tables_of_other_lengths() {
     let sheet = sample("hall-a");
-    for words in [0, 16, 18, MOST_TABLE_WORDS] {
+    for words in [0, 17, table_words(4) - 1, table_words(4) + 1, MOST_TABLE_WORDS] {
         let mut table = vec![PATTERN; words];
         assert_eq!(run(&sheet, &mut table), Answer::Refused(21));
         assert_eq!(run_limited(&sheet, 1, &mut table), Answer::Refused(21));
@@ -121,7 +146,7 @@ fn routes() {
     assert_eq!(buffer, [PATTERN; 5]);
     assert_eq!(route(&sheet, &table, 3, &mut buffer), Answer::Route(3));
     assert_eq!(buffer, [1, 2, 3, PATTERN, PATTERN]);
-    table[15] += 1;
+    table[HEADER_WORDS + 2 * 3] += 1;
     assert_eq!(route(&sheet, &table, 3, &mut buffer), Answer::Refused(24));
     table[0] -= 1;
     assert_eq!(route(&sheet, &table, 3, &mut buffer), Answer::Refused(23));
@@ -132,6 +157,6 @@ fn no_route() {
     let sheet = sample("unreached");
     let nodes = u32::from_be_bytes([0, sheet[1], sheet[2], sheet[3]]) as usize;
     let table = ended(&sheet, nodes);
-    let unreached = (0..nodes).find(|node| payload(table[9 + 2 * node]) == NONE).expect("an unreached node");
+    let unreached = (0..nodes).find(|node| payload(table[HEADER_WORDS + 2 * node]) == NONE).expect("an unreached node");
     assert_eq!(route(&sheet, &table, unreached as u32, &mut []), Answer::NoRoute);
 }

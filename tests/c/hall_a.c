@@ -7,13 +7,20 @@
 static const uint32_t words[18] = {0x10000004, 0x20000000, 0x30000002, 0x30000001, 0x40000001, 0x50000004, 0x40000002, 0x50000001, 0x40000801,
                                    0x50000002, 0x40000403, 0x50000005, 0x60000000, 0x60000000, 0x70000800, 0x70000803, 0x70001001, 0x70001002};
 
-/* As the paper prints them: ended; counts 3, 5, 6, 13; distances 0, 3, 1, 8; feeding arcs none, 2, 1, 3. */
-static const uint32_t ended[17] = {0x80000001, 0xb0000000, 0xb0000003, 0xb0000000, 0xb0000005, 0xb0000000, 0xb0000006, 0xb0000000, 0xb000000d,
-                                   0x90000000, 0xafffffff, 0x90000003, 0xa0000002, 0x90000001, 0xa0000001, 0x90000008, 0xa0000003};
+enum { WORDS = 45, WORDS_WITH_ONE_INNER_COUNT = 17 };
 
-/* After one round: paused; counts 1, 2, 2, 8; labels 0, 4, unreached, 9. */
-static const uint32_t paused[17] = {0x80000000, 0xb0000000, 0xb0000001, 0xb0000000, 0xb0000002, 0xb0000000, 0xb0000002, 0xb0000000, 0xb0000008,
-                                    0x90000000, 0xafffffff, 0x90000004, 0xa0000000, 0x9fffffff, 0xafffffff, 0x90000009, 0xa0000003};
+/* The words of a count below 2^28, and of the inner counts of heights 3 to 15, which hall A has not. */
+#define COUNT(n) 0xb0000000, 0xb0000000 + (n)
+#define FIVE_UNUSED COUNT(0), COUNT(0), COUNT(0), COUNT(0), COUNT(0)
+#define UNUSED_HEIGHTS FIVE_UNUSED, FIVE_UNUSED, COUNT(0), COUNT(0), COUNT(0)
+
+/* As the paper prints them: ended; rounds 3, leaves 5, inner 3 3, updates 13; distances 0, 3, 1, 8; feeding arcs none, 2, 1, 3. */
+static const uint32_t ended[WORDS] = {0x80000001, COUNT(3), COUNT(5), COUNT(3), COUNT(3), UNUSED_HEIGHTS, COUNT(13),
+                                      0x90000000, 0xafffffff, 0x90000003, 0xa0000002, 0x90000001, 0xa0000001, 0x90000008, 0xa0000003};
+
+/* After one round: paused; rounds 1, leaves 2, inner 1 1, updates 8; labels 0, 4, unreached, 9. */
+static const uint32_t paused[WORDS] = {0x80000000, COUNT(1), COUNT(2), COUNT(1), COUNT(1), UNUSED_HEIGHTS, COUNT(8),
+                                       0x90000000, 0xafffffff, 0x90000004, 0xa0000000, 0x9fffffff, 0xafffffff, 0x90000009, 0xa0000003};
 
 static int failures = 0;
 
@@ -68,34 +75,52 @@ static void counting(void) {
     expect("one more is refused as 10", judged_joined(PIGROZK_MOST_ARCS_EACH_WAY + 1) == 10);
 }
 
+static void refusing(const uint8_t *sheet, uint32_t *table) {
+    fill(table, WORDS + 1);
+    expect("a table one word too long is refused as 21", pigrozk_run(sheet, 72, table, WORDS + 1) == 21);
+    expect("one with one inner count is refused as 21", pigrozk_run(sheet, 72, table, WORDS_WITH_ONE_INNER_COUNT) == 21);
+    expect("a limited run refuses one word too few", pigrozk_run_limited(sheet, 72, 1, table, WORDS - 1) == 21);
+    expect("a refused run of a cut sheet", pigrozk_run(sheet, 70, table, WORDS) == 1);
+    expect("a refusal changes no word", filled(table, WORDS + 1));
+}
+
 static void running(const uint8_t *sheet, uint32_t *table) {
-    fill(table, 18);
-    expect("a table of 18 words is refused as 21", pigrozk_run(sheet, 72, table, 18) == 21);
-    expect("a limited run refuses it too", pigrozk_run_limited(sheet, 72, 1, table, 16) == 21);
-    expect("a refused run of a cut sheet", pigrozk_run(sheet, 70, table, 17) == 1);
-    expect("a refusal changes no word", filled(table, 18));
-    expect("one round is answered 'paused'", pigrozk_run_limited(sheet, 72, 1, table, 17) == PIGROZK_PAUSED);
+    expect("one round is answered 'paused'", pigrozk_run_limited(sheet, 72, 1, table, WORDS) == PIGROZK_PAUSED);
     expect("the table after one round", memcmp(table, paused, sizeof paused) == 0);
-    expect("three rounds are answered 'ended'", pigrozk_run_limited(sheet, 72, 3, table, 17) == PIGROZK_ENDED);
+    expect("three rounds are answered 'ended'", pigrozk_run_limited(sheet, 72, 3, table, WORDS) == PIGROZK_ENDED);
     expect("the table after three rounds", memcmp(table, ended, sizeof ended) == 0);
-    fill(table, 18);
+    fill(table, WORDS + 1);
     expect("a run is answered 'ended'", pigrozk_run(sheet, 72, table, PIGROZK_TABLE_WORDS(4)) == PIGROZK_ENDED);
     expect("the table of a run", memcmp(table, ended, sizeof ended) == 0);
-    expect("no word behind the table is written", table[17] == 0x5eed0000u + 17);
+    expect("no word behind the table is written", table[WORDS] == 0x5eed0000u + WORDS);
+}
+
+/* What the header names, held to the table of a run. */
+static void named_places(const uint32_t *table) {
+    expect("18 counts, 37 words before the nodes", PIGROZK_COUNTS == 18 && PIGROZK_HEADER_WORDS == 37);
+    expect("37 + 2n words, at most 2,085", PIGROZK_TABLE_WORDS(4) == WORDS && PIGROZK_MOST_TABLE_WORDS == 2085);
+    expect("rounds and leaves", PIGROZK_COUNT(table, PIGROZK_ROUNDS) == 3 && PIGROZK_COUNT(table, PIGROZK_LEAVES) == 5);
+    for (int height = 1; height <= PIGROZK_MOST_SPANS; height++)
+        expect("inner regions by height", PIGROZK_COUNT(table, PIGROZK_INNER(height)) == (height <= 2 ? 3 : 0));
+    expect("updates", PIGROZK_COUNT(table, PIGROZK_UPDATES) == 13);
+    expect("node 3's distance and feeding arc", table[PIGROZK_DISTANCE_AT(3)] == 0x90000008 && table[PIGROZK_FEEDING_ARC_AT(3)] == 0xa0000003);
 }
 
 static void reading(const uint8_t *sheet, const uint32_t *table) {
-    uint32_t buffer[5], wrong[17];
+    uint32_t buffer[5], wrong[WORDS];
     fill(buffer, 5);
     memcpy(wrong, table, sizeof wrong);
-    wrong[15] = 0x90000009;
-    expect("two words are refused as 25", pigrozk_route(sheet, 72, table, 17, 3, buffer, 2) == 25);
-    expect("node 4 is refused as 15", pigrozk_route(sheet, 72, table, 17, 4, buffer, 5) == 15);
-    expect("a paused table is refused as 23", pigrozk_route(sheet, 72, paused, 17, 3, buffer, 5) == 23);
-    expect("node 3 at 9 is refused as 24", pigrozk_route(sheet, 72, wrong, 17, 3, buffer, 5) == 24);
-    expect("the source has the empty route", pigrozk_route(sheet, 72, table, 17, 0, buffer, 0) == PIGROZK_ROUTE);
-    expect("neither changes a word", filled(buffer, 5));
-    uint32_t code = pigrozk_route(sheet, 72, table, 17, 3, buffer, 5);
+    wrong[PIGROZK_DISTANCE_AT(3)] = 0x90000009;
+    expect("two words are refused as 25", pigrozk_route(sheet, 72, table, WORDS, 3, buffer, 2) == 25);
+    expect("node 4 is refused as 15", pigrozk_route(sheet, 72, table, WORDS, 4, buffer, 5) == 15);
+    expect("one word too few is refused as 21", pigrozk_route(sheet, 72, table, WORDS - 1, 3, buffer, 5) == 21);
+    expect("a paused table is refused as 23", pigrozk_route(sheet, 72, paused, WORDS, 3, buffer, 5) == 23);
+    expect("node 3 at 9 is refused as 24", pigrozk_route(sheet, 72, wrong, WORDS, 3, buffer, 5) == 24);
+    wrong[PIGROZK_HEADER_WORDS - 1] = 0x9000000d;
+    expect("a count of kind 9 is refused as 22", pigrozk_route(sheet, 72, wrong, WORDS, 3, buffer, 5) == 22);
+    expect("the source has the empty route", pigrozk_route(sheet, 72, table, WORDS, 0, buffer, 0) == PIGROZK_ROUTE);
+    expect("none of these changes a word", filled(buffer, 5));
+    uint32_t code = pigrozk_route(sheet, 72, table, WORDS, 3, buffer, 5);
     expect("the route to node 3 has three arcs", PIGROZK_IS_ROUTE(code) && PIGROZK_ROUTE_ARCS(code) == 3);
     expect("they are 1, 2 and 3", buffer[0] == 1 && buffer[1] == 2 && buffer[2] == 3);
     expect("the rest of the buffer stays", buffer[3] == 0x5eed0003u && buffer[4] == 0x5eed0004u);
@@ -103,11 +128,13 @@ static void reading(const uint8_t *sheet, const uint32_t *table) {
 
 int main(void) {
     uint8_t sheet[72];
-    uint32_t table[18];
+    uint32_t table[WORDS + 1];
     to_bytes(sheet, words, 18);
     judging(sheet);
     counting();
+    refusing(sheet, table);
     running(sheet, table);
+    named_places(table);
     reading(sheet, table);
     puts(failures ? "C: failed" : "C: passed");
     return failures != 0;

@@ -6,6 +6,7 @@
 use bench::generate::divisions::{Nesting, NESTINGS};
 use bench::generate::halls::{Shape, NARROW, SHAPES, WIDE};
 use bench::generate::sheets::{self, Spans, SPANS};
+use bench::reference::table;
 use bench::{proved, reference};
 use std::hint::black_box;
 use std::time::{Duration, Instant};
@@ -37,7 +38,7 @@ fn least(time: &mut f64, call: impl FnOnce() -> u32, expected: u32) {
 }
 
 fn measured(sheet: &[u8], nodes: usize) -> Times {
-    let mut table = vec![0; 9 + 2 * nodes];
+    let mut table = vec![0; table::length(nodes)];
     let most = f64::INFINITY;
     let mut times = Times { leaves: 0, proved_run: most, plain_run: most, dijkstra: most, proved_judge: most, plain_judge: most };
     let start = Instant::now();
@@ -51,7 +52,7 @@ fn measured(sheet: &[u8], nodes: usize) -> Times {
         least(&mut times.proved_judge, || proved::judge(sheet), 256);
         repetitions += 1;
     }
-    times.leaves = ((table[3] & reference::TOP) as u64) << 28 | (table[4] & reference::TOP) as u64;
+    times.leaves = table::count(&table, 1);
     times
 }
 

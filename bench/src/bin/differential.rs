@@ -1,13 +1,14 @@
 //! The four proved calls against the independent program, on generated sheets: `differential [CASES] [SEED]`.
 //!
 //! Compared are the answers, every word of the tables and buffers lent and of the words around them, and that a refusal changed nothing. Ends with 1
-//! at the first difference, or if a refusal number, an answer or a number of arcs one way was never seen.
+//! at the first difference, or if a refusal number, an answer or a number of arcs one way was never seen, or no inner region of some height was worked.
 
 use bench::generate::random::Random;
 use bench::generate::{damage, sheets, tables};
 use bench::proved;
 use bench::reference::judge::{accepted, Judged, MOST_EACH_WAY};
 use bench::reference::sheet::{words, Sheet};
+use bench::reference::table::{self, HEIGHTS};
 use bench::reference::{self, Answer};
 use std::collections::{BTreeMap, BTreeSet};
 use std::fmt::Write;
@@ -24,13 +25,14 @@ struct Difference(String);
 type Outcome = Result<(), Difference>;
 
 /// How often each call gave each answer: the number of a route stands for routes of any length. How many sheets there were of each sort, and by the
-/// most arcs that a node has one way, how many accepted ones and how many refused as 10.
+/// most arcs that a node has one way, how many accepted ones and how many refused as 10. How many finished tables have a figure above 0 at each height.
 #[derive(Default)]
 struct Tally {
     answers: BTreeMap<(&'static str, u32), u64>,
     sheets: BTreeMap<&'static str, u64>,
     accepted: BTreeMap<usize, u64>,
     crowded: BTreeMap<usize, u64>,
+    worked: [u64; HEIGHTS],
 }
 
 impl Tally {
@@ -47,6 +49,12 @@ impl Tally {
         *sheets.entry(most.min(MOST_EACH_WAY + 2)).or_default() += 1;
     }
 
+    fn count_heights(&mut self, finished: &[u32]) {
+        for (at, tables) in self.worked.iter_mut().enumerate() {
+            *tables += (table::count(finished, 2 + at) > 0) as u64;
+        }
+    }
+
     fn print(&self) {
         for (kind, count) in &self.sheets {
             println!("sheets {kind}: {count}");
@@ -55,6 +63,7 @@ impl Tally {
             let parts: Vec<String> = sheets.iter().map(|(most, count)| format!("{} {count}", ways(*most))).collect();
             println!("{judged}, by the most arcs that a node has one way: {}", parts.join(", "));
         }
+        println!("finished tables with inner regions worked at heights 1 to {HEIGHTS}: {}", self.worked.map(|tables| tables.to_string()).join(", "));
         for call in ["judge", "run", "run_limited", "route"] {
             let answers = self.answers.iter().filter(|((of, _), _)| *of == call);
             let parts: Vec<String> = answers.map(|((_, code), count)| format!("{} {count}", named(*code))).collect();
@@ -63,13 +72,14 @@ impl Tally {
         println!("calls compared: {}", self.answers.values().sum::<u64>());
     }
 
-    /// The numbers, answers and numbers of arcs one way that were never seen.
+    /// The numbers, answers, numbers of arcs one way and worked heights that were never seen.
     fn unseen(&self) -> Vec<String> {
         let wanted = (1..=15).chain(21..=25).chain(256..=259).chain([65_536]);
         let answers = wanted.filter(|code| !self.answers.keys().any(|(_, seen)| seen == code)).map(named);
         let seen: BTreeSet<_> = self.accepted.keys().chain(self.crowded.keys()).collect();
         let arcs = (0..=MOST_EACH_WAY + 2).filter(|most| !seen.contains(most)).map(|most| ways(most) + " arcs one way");
-        answers.chain(arcs).collect()
+        let heights = (0..HEIGHTS).filter(|at| self.worked[*at] == 0).map(|at| format!("workings at height {}", at + 1));
+        answers.chain(arcs).chain(heights).collect()
     }
 }
 
@@ -174,10 +184,11 @@ impl Trial<'_> {
     }
 
     fn accepted(&mut self, sheet: &Sheet) -> Outcome {
-        let length = 9 + 2 * sheet.nodes();
+        let length = table::length(sheet.nodes());
         let finished = self.run(length)?;
+        self.tally.count_heights(&finished);
         if self.random.once_in(4) {
-            let wrong = self.wrong_length(length);
+            let wrong = tables::wrong_length(length, self.random);
             self.run(wrong)?;
             self.run_limited(1, wrong)?;
         }
@@ -197,7 +208,8 @@ impl Trial<'_> {
         Ok(())
     }
 
-    /// Routes out of the finished table, out of damaged ones, out of one of another length and out of that of a hall that differs in a length.
+    /// Routes out of the finished table, out of damaged ones, out of one of another length, out of one with one inner count and out of that of a hall that
+    /// differs in a length.
     fn routes(&mut self, sheet: &Sheet, finished: &[u32]) -> Outcome {
         for _ in 0..3 {
             self.route_and_near(sheet, finished)?;
@@ -208,9 +220,12 @@ impl Trial<'_> {
             self.route_and_near(sheet, &table)?;
         }
         if self.random.once_in(4) {
-            let wrong = self.wrong_length(finished.len());
-            let table: Vec<u32> = finished.iter().chain(finished).chain(&[0, 0]).copied().take(wrong).collect();
+            let wrong = tables::wrong_length(finished.len(), self.random);
+            let table: Vec<u32> = finished.iter().chain(finished).copied().take(wrong).collect();
             self.route_and_near(sheet, &table)?;
+        }
+        if self.random.once_in(8) {
+            self.route_and_near(sheet, &tables::before(finished))?;
         }
         if sheet.arc_count() > 0 && self.random.once_in(2) {
             let other = self.other_table(sheet, finished.len());
@@ -278,11 +293,6 @@ impl Trial<'_> {
         let few = self.random.below(30) as u32;
         let any = self.random.word();
         self.random.pick(&[few, few, any])
-    }
-
-    fn wrong_length(&mut self, length: usize) -> usize {
-        let any = self.random.below(length);
-        self.random.pick(&[0, any, length - 1, length - 2, length + 1, length + 2])
     }
 
     fn node(&mut self, sheet: &Sheet) -> u32 {

@@ -5,6 +5,7 @@
 use bench::generate::divisions::NESTINGS;
 use bench::generate::halls::SHAPES;
 use bench::generate::sheets::{self, SPANS};
+use bench::reference::table;
 use bench::{proved, reference};
 use std::fmt::Debug;
 use std::hint::black_box;
@@ -28,7 +29,7 @@ fn main() {
     let shape = named(&SHAPES, arguments.get(1));
     let sheet = sheets::regular(shape, named(&NESTINGS, arguments.get(2)), named(&SPANS, arguments.get(3)), shape.full_nodes());
     let times = arguments.get(4).map_or(1, |times| times.parse().unwrap_or_else(|_| usage()));
-    let mut table = vec![0; 9 + 2 * shape.full_nodes()];
+    let mut table = vec![0; table::length(shape.full_nodes())];
     for _ in 0..times {
         let sheet = black_box(&sheet);
         let answer = match call {

@@ -44,7 +44,7 @@ pub fn distances(sheet: &Sheet) -> Distances {
 
 pub fn run(sheet: &Sheet, table: &mut [u32]) -> Answer {
     let found = distances(sheet);
-    write_header(table, true, &Counts { rounds: 0, leaves: 0, inner: 0, updates: 0 });
+    write_header(table, true, &Counts::default());
     for (node, (label, feed)) in found.labels.iter().zip(&found.feeds).enumerate() {
         write_node(table, node, *label, *feed);
     }

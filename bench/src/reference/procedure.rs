@@ -23,14 +23,20 @@ fn region(item: u64) -> usize {
     item as u16 as usize
 }
 
-/// What is known of a region: where it stands in its parent's tree, where its own tree begins, and its span, or its arc for a leaf.
+/// What is known of a region: where it stands in its parent's tree, where its own tree begins, its height, and its span, or its arc for a leaf.
 #[derive(Clone, Copy)]
 struct Region {
     parent: u16,
     place: u16,
     tree: u16,
-    leaf: bool,
+    height: u8,
     span_or_arc: u32,
+}
+
+impl Region {
+    fn is_leaf(&self) -> bool {
+        self.height == 0
+    }
 }
 
 /// A node's label and feeding arc, and the leaves of its outgoing arcs, 0 for none.
@@ -86,12 +92,13 @@ fn regions(accepted: &Accepted) -> Vec<Region> {
     let spans = accepted.sheet.spans();
     let (trees, mut free) = trees_and_children(words);
     let mut regions = Vec::with_capacity(words.len() + 1);
-    regions.push(Region { parent: 0, place: 0, tree: 0, leaf: false, span_or_arc: payload(spans[spans.len() - 1]) });
+    let height = spans.len() as u8;
+    regions.push(Region { parent: 0, place: 0, tree: 0, height, span_or_arc: payload(spans[spans.len() - 1]) });
     for (at, word) in words.iter().enumerate() {
         let parent = parent(*word);
-        let leaf = is_leaf(*word);
-        let span_or_arc = if leaf { leaf_arc(*word) as u32 } else { payload(spans[accepted.heights[at + 1] as usize - 1]) };
-        regions.push(Region { parent: parent as u16, place: free[parent], tree: trees[at + 1], leaf, span_or_arc });
+        let height = accepted.heights[at + 1] as u8;
+        let span_or_arc = if is_leaf(*word) { leaf_arc(*word) as u32 } else { payload(spans[height as usize - 1]) };
+        regions.push(Region { parent: parent as u16, place: free[parent], tree: trees[at + 1], height, span_or_arc });
         free[parent] += 1;
     }
     regions
@@ -104,7 +111,7 @@ impl Run {
         let trees = vec![NONE; 2 * regions.len()];
         let arcs: Vec<Arc> = sheet.arcs().collect();
         let mut leaves = vec![0u16; arcs.len()];
-        for (number, row) in regions.iter().enumerate().filter(|(_, row)| row.leaf) {
+        for (number, row) in regions.iter().enumerate().filter(|(_, row)| row.is_leaf()) {
             leaves[row.span_or_arc as usize] = number as u16;
         }
         let mut nodes = vec![Node { label: TOP, feed: TOP, leaves: [0; MOST_EACH_WAY] }; sheet.nodes()];
@@ -113,7 +120,7 @@ impl Run {
             nodes[arc.tail].leaves[taken[arc.tail] as usize] = *leaf;
             taken[arc.tail] += 1;
         }
-        Run { regions, trees, arcs, nodes, counts: Counts { rounds: 0, leaves: 0, inner: 0, updates: 0 } }
+        Run { regions, trees, arcs, nodes, counts: Counts::default() }
     }
 
     fn start(&mut self, source: usize) {
@@ -172,16 +179,17 @@ impl Run {
     }
 
     fn process(&mut self, inner: usize) {
-        self.counts.inner += 1;
-        let tree = self.regions[inner].tree as usize;
-        for _ in 0..self.regions[inner].span_or_arc {
+        let worked = self.regions[inner];
+        self.counts.inner[worked.height as usize - 1] += 1;
+        let tree = worked.tree as usize;
+        for _ in 0..worked.span_or_arc {
             let first = self.trees[tree + 1];
             if first >= NONE {
                 return;
             }
             let child = region(first);
             let row = self.regions[child];
-            let after = if row.leaf {
+            let after = if row.is_leaf() {
                 self.process_leaf(row.span_or_arc as usize);
                 NONE
             } else {

@@ -2,14 +2,15 @@
 
 use super::dijkstra::distances;
 use super::sheet::{kind, payload, Arc, Sheet};
-use super::{table, TOP};
+use super::table::{feed_at, label_at, length, HEADER};
+use super::TOP;
 
 /// The arcs from the source to a node, nothing for an unreached node, or a refusal. The buffer is left to the caller.
 pub fn arcs(sheet: &Sheet, table: &[u32], node: u32) -> Result<Option<Vec<u32>>, u32> {
     if node as usize >= sheet.nodes() {
         return Err(15);
     }
-    if table.len() != table::length(sheet.nodes()) {
+    if table.len() != length(sheet.nodes()) {
         return Err(21);
     }
     if wrong_form(sheet, table) {
@@ -18,8 +19,8 @@ pub fn arcs(sheet: &Sheet, table: &[u32], node: u32) -> Result<Option<Vec<u32>>,
     if payload(table[0]) == 0 {
         return Err(23);
     }
-    let labels: Vec<u32> = table[9..].iter().step_by(2).map(|word| payload(*word)).collect();
-    let feeds: Vec<u32> = table[10..].iter().step_by(2).map(|word| payload(*word)).collect();
+    let labels: Vec<u32> = (0..sheet.nodes()).map(|node| payload(table[label_at(node)])).collect();
+    let feeds: Vec<u32> = (0..sheet.nodes()).map(|node| payload(table[feed_at(node)])).collect();
     let arcs: Vec<Arc> = sheet.arcs().collect();
     if labels != distances(sheet).labels || !(0..sheet.nodes()).all(|node| fed_well(sheet, &arcs, &labels, &feeds, node)) {
         return Err(24);
@@ -31,17 +32,12 @@ pub fn arcs(sheet: &Sheet, table: &[u32], node: u32) -> Result<Option<Vec<u32>>,
 }
 
 fn wrong_form(sheet: &Sheet, table: &[u32]) -> bool {
-    let wrong_kind = table.iter().enumerate().any(|(at, word)| {
-        kind(*word)
-            != match at {
-                0 => 8,
-                1..=8 => 11,
-                _ => 10 - at as u32 % 2,
-            }
-    });
-    wrong_kind
-        || payload(table[0]) > 1
-        || table[10..].iter().step_by(2).any(|word| payload(*word) != TOP && payload(*word) as usize >= sheet.arc_count())
+    let (header, nodes) = table.split_at(HEADER);
+    kind(header[0]) != 8
+        || header[1..].iter().any(|word| kind(*word) != 11)
+        || nodes.chunks_exact(2).any(|pair| kind(pair[0]) != 9 || kind(pair[1]) != 10)
+        || payload(header[0]) > 1
+        || nodes.iter().skip(1).step_by(2).any(|word| payload(*word) != TOP && payload(*word) as usize >= sheet.arc_count())
 }
 
 /// The source and unreached nodes have no feeding arc; the feeding arcs of any other node, followed back, are a route to it as long as its label.

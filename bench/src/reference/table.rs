@@ -2,27 +2,55 @@
 
 use super::TOP;
 
+/// The most heights, and the numbers of counts and of the words before those of the nodes: the status and two words for each count.
+pub const HEIGHTS: usize = 15;
+pub const COUNTS: usize = 3 + HEIGHTS;
+pub const HEADER: usize = 1 + 2 * COUNTS;
+
+/// `inner` has a figure for each height from 1 on.
+#[derive(Default)]
 pub struct Counts {
     pub rounds: u64,
     pub leaves: u64,
-    pub inner: u64,
+    pub inner: [u64; HEIGHTS],
     pub updates: u64,
 }
 
-pub fn length(nodes: usize) -> usize {
-    9 + 2 * nodes
+impl Counts {
+    fn in_order(&self) -> impl Iterator<Item = u64> + '_ {
+        [self.rounds, self.leaves].into_iter().chain(self.inner).chain([self.updates])
+    }
 }
 
-/// Writes the status and the four counts, high 28 bits before low 28.
+pub fn length(nodes: usize) -> usize {
+    HEADER + 2 * nodes
+}
+
+/// Where a node's label stands.
+pub fn label_at(node: usize) -> usize {
+    HEADER + 2 * node
+}
+
+/// Where a node's feeding arc stands.
+pub fn feed_at(node: usize) -> usize {
+    HEADER + 2 * node + 1
+}
+
+/// A count that a table gives, by its place among the counts.
+pub fn count(table: &[u32], at: usize) -> u64 {
+    ((table[1 + 2 * at] & TOP) as u64) << 28 | (table[2 + 2 * at] & TOP) as u64
+}
+
+/// Writes the status and the counts, high 28 bits before low 28.
 pub fn write_header(table: &mut [u32], ended: bool, counts: &Counts) {
     table[0] = 8 << 28 | ended as u32;
-    for (at, count) in [counts.rounds, counts.leaves, counts.inner, counts.updates].into_iter().enumerate() {
+    for (at, count) in counts.in_order().enumerate() {
         table[1 + 2 * at] = 11 << 28 | (count >> 28) as u32 & TOP;
         table[2 + 2 * at] = 11 << 28 | count as u32 & TOP;
     }
 }
 
 pub fn write_node(table: &mut [u32], node: usize, label: u32, feed: u32) {
-    table[9 + 2 * node] = 9 << 28 | label;
-    table[10 + 2 * node] = 10 << 28 | feed;
+    table[label_at(node)] = 9 << 28 | label;
+    table[feed_at(node)] = 10 << 28 | feed;
 }

@@ -11,7 +11,7 @@ use Rattle.answer.specs.Answer.{Refusal, state, Answer, ended, paused, refused,
 use Rattle.answer.proofs.Lowest.{lowest-append, lowest-clear, lowest-stop}
 use Rattle.judgement.specs.Judgement.{refusals, judgement, Accepted}
 use Rattle.calls.specs.Tables.{tableLength, wrongLength, statusSays, statusIn}
-use Rattle.calls.specs.Runs.{stateAfter, endedAfter, runAnswer, runTable, tableAfter}
+use Rattle.calls.specs.Runs.{endedAfter, runAnswer, runTable, tableAfter}
 use Rattle.calls.proofs.Reading.{status-in}
 
 -- a table that is not of the wrong length has its own
@@ -30,7 +30,7 @@ status-says false = refl
 
 pub table-says : (b : List ℕ) (k : ℕ) → statusSays (statusIn (runTable b k)) ≡ (if endedAfter b k then ended else paused)
 unfolding runTable
-table-says b k = ap statusSays (status-in (endedAfter b k) (stateAfter b k) (nodeCount b)) ∙ status-says (endedAfter b k)
+table-says b k = ap statusSays (status-in (endedAfter b k) _ _ _ (nodeCount b)) ∙ status-says (endedAfter b k)
 
 module _ (b : List ℕ) (k : ℕ) (table : List ℕ) where
   -- the refusals of the sheet are looked at before the table

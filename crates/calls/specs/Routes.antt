@@ -27,7 +27,7 @@ module _ (table : List ℕ) where
   abbrev pub wrongKind : ℕ → ℕ → Bool
   wrongKind i kind = not (eqb (kindIn table i) kind)
 
-  -- "eight words of kind 11"
+  -- words of kind 11, two for each count
   abbrev pub wrongCount : ℕ → Bool
   wrongCount i = wrongKind (1 + i) 11
 

@@ -1,19 +1,20 @@
 -- What a run of a sheet answers, what it leaves in the table, and what holds of every table that it leaves. Definitions.
-use Prim.Native.Nat.{ℕ, _^_, _≤_, _<_}
+use Prim.Native.Nat.{ℕ, _+_, _^_, _≤_, _<_}
 use mathlib.Core.Bool.{Bool}
 use mathlib.Core.Path.{_≡_}
 use mathlib.Core.Logic.{_⊎_}
 use mathlib.Core.List.{List, [], _∷_}
 use Rattle.indices.specs.Columns.{at}
 use Rattle.indices.specs.Steps.{if_then_else_}
-use Rattle.sheet.specs.Sections.{nodeCount}
+use Rattle.sheet.specs.Limits.{mostSpans}
+use Rattle.sheet.specs.Sections.{nodeCount, spanCount}
 use Rattle.sheet.specs.Words.{top}
 use Rattle.answer.specs.Answer.{state, Answer, _when_, isRefused}
 use Rattle.judgement.specs.Judgement.{refusals}
 use Rattle.procedure.specs.OfSheet.{graphOf, divisionOf, spansOf}
 use Rattle.procedure.specs.State.{State, counts}
 use Rattle.procedure.specs.Procedure.{ended as hasEnded, after}
-use Rattle.procedure.specs.Table.{largestLabel, tableOf, countsLength}
+use Rattle.procedure.specs.Table.{largestLabel, tableOf, innerPlace, countsLength}
 use Rattle.procedure.specs.Routes.{Shortest}
 use Rattle.calls.specs.Calls.{Call, callAnswer, lentAfter}
 use Rattle.calls.specs.Tables.{wrongLength, statusSays, statusIn, countIn, labelIn, labelsIn, predecessorsIn}
@@ -54,6 +55,8 @@ pub record Delivered (b : List ℕ) (k : ℕ) (table : List ℕ) : Type 0 where
   pub labels : labelsIn (nodeCount b) table ≡ stateAfter b k .labels
   pub predecessors : predecessorsIn (nodeCount b) table ≡ stateAfter b k .predecessors
   pub small : (i : ℕ) → i < countsLength → at (counts (stateAfter b k)) i < 2 ^ 56
+  -- 2026-02: "zero where unused": the count of each height above the number of spans, which is region 0's height
+  pub unused : (i : ℕ) → spanCount b ≤ i → i < mostSpans → countIn table (innerPlace + i) ≡ 0
   -- "The largest label is 1,023 × 262,143", but for 'unreached'
   pub bounded : (v : ℕ) → v < nodeCount b → (labelIn table v ≡ top) ⊎ (labelIn table v ≤ largestLabel)
   pub shortest : statusIn table ≡ 1 → Shortest (graphOf b) (labelsIn (nodeCount b) table) (predecessorsIn (nodeCount b) table)

@@ -11,11 +11,11 @@ use Rattle.sheet.specs.Sections.{nodeCount}
 use Rattle.answer.specs.Answer.{Answer, ended, paused}
 use Rattle.procedure.specs.Table.{headerLength}
 
--- "exactly 9 + 2n"
+-- "A table is then 37 + 2n words, which is what 21 checks."
 abbrev pub tableLength : ℕ → ℕ
 tableLength nodes = headerLength + 2 * nodes
 
--- "21. Table not 9 + 2n words."
+-- 21: the table has another length
 unfoldable pub wrongLength : List ℕ → List ℕ → Bool
 wrongLength b table = not (eqb (length table) (tableLength (nodeCount b)))
 
@@ -34,7 +34,7 @@ module _ (table : List ℕ) where
   abbrev pub statusIn : ℕ
   statusIn = payloadIn 0
 
-  -- "eight words of kind 11: the four counts in the order above, high 28 bits before low 28": count i
+  -- words of kind 11, the counts "in the order above, high 28 bits before low 28": count i
   abbrev pub countIn : ℕ → ℕ
   countIn i = payloadIn (1 + 2 * i) * payloads + payloadIn (2 + 2 * i)
 

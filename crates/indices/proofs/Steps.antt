@@ -31,6 +31,12 @@ pub if-cong {ℓ} : {A : Type ℓ} (b : Bool) (x x′ y : A) → (T b → x ≡ 
 if-cong true x x′ y e = e tt
 if-cong false x x′ y e = refl
 
+-- a choice, under a map
+pub if-maps {ℓ κ} : {A : Type ℓ} {B : Type κ} (h : A → B) (b : Bool) (x : A) (x′ : B) (y : A) → (T b → x′ ≡ h x)
+    → (if b then x′ else h y) ≡ h (if b then x else y)
+if-maps h true x x′ y e = e tt
+if-maps h false x x′ y e = refl
+
 pub T-or : (b : Bool) → T b ⊎ T (not b)
 T-or true = inl tt
 T-or false = inr tt
@@ -105,6 +111,16 @@ module _ {ℓ κ} {S : Type ℓ} where
   times-rise P m test f keep rise (suc n) s p =
       if-elim (λ (r : S). T (test r) → m s + suc n ≤ m r) (test s)
       (λ go t. omega (arith, rise s go p, times-rise P m test f keep rise n (f s) (keep s go p) t)) (λ stop t. absurd (T-not (test s) stop t))
+
+  -- A map h under which the test and, where it holds, the step commute: so do the steps up to n times. P says of which states this is so.
+  pub times-maps : (P : S → Type κ) (h : S → S) (test : S → Bool) (f f′ : S → S) → ((s : S) → test (h s) ≡ test s)
+      → ((s : S) → T (test s) → P s → P (f s)) → ((s : S) → T (test s) → P s → f′ (h s) ≡ h (f s)) → (n : ℕ) (s : S) → P s
+      → times n test f′ (h s) ≡ h (times n test f s)
+  unfolding times
+  times-maps P h test f f′ same keep step zero s p = refl
+  times-maps P h test f f′ same keep step (suc n) s p =
+      rw (same s)
+      (if-maps h (test s) _ _ s (λ t. ap (times n test f′) (step s t p) ∙ times-maps P h test f f′ same keep step n (f s) (keep s t p)))
 
 module _ {ℓ} {S : Type ℓ} where
   pub upTo-cong : (f g : ℕ → S → S) (s : S) (n : ℕ) → ((i : ℕ) (t : S) → i < n → f i t ≡ g i t) → upTo n f s ≡ upTo n g s

@@ -27,3 +27,8 @@ lead p (suc n) = if p 0 then suc (lead (λ k. p (suc k)) n) else 0
 unfoldable pub most : (ℕ → ℕ) → ℕ → ℕ
 most f zero = 0
 most f (suc n) = max (most f n) (f n)
+
+-- f 0 + f 1 + .. + f (n - 1)
+unfoldable pub total : (ℕ → ℕ) → ℕ → ℕ
+total f zero = 0
+total f (suc n) = total f n + f n

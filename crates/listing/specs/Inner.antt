@@ -5,7 +5,7 @@ use mathlib.Core.List.{List}
 use lib.ListN.{length}
 use lib.Seq.{sets}
 use Rattle.calls.specs.Tables.{tableLength}
-use Rattle.sheet.specs.Limits.{mostNodes}
+use Rattle.sheet.specs.Limits.{mostNodes, mostSpans}
 use Rattle.listing.specs.Listing.{mostListing}
 
 -- a text has room in a buffer from a place on
@@ -17,8 +17,9 @@ pub record Wrote (before : List ℕ) (from : ℕ) (text after : List ℕ) (next 
   pub bytes : after ≡ sets before from text
   pub place : next ≡ from + length text
 
--- a table of so many nodes, and room for its listing
-pub record ListingLent (table : List ℕ) (nodes : ℕ) (out : List ℕ) : Type 0 where
+-- a table of a sheet of so many spans and nodes, and room for its listing
+pub record ListingLent (table : List ℕ) (spans nodes : ℕ) (out : List ℕ) : Type 0 where
   pub sized : length table ≡ tableLength nodes
-  pub few : nodes ≤ mostNodes
+  pub few-spans : spans ≤ mostSpans
+  pub few-nodes : nodes ≤ mostNodes
   pub room : mostListing ≤ length out

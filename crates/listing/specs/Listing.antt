@@ -3,9 +3,10 @@ use Prim.Native.Nat.{ℕ, zero, suc, _+_, _*_}
 use Prim.Native.String.{String}
 use mathlib.Core.List.{List, [], _++_}
 use lib.Dec.{eqb}
-use Rattle.sheet.specs.Limits.{mostNodes}
+use Rattle.sheet.specs.Limits.{mostNodes, mostSpans}
 use Rattle.indices.specs.Steps.{if_then_else_}
 use Rattle.sheet.specs.Words.{top}
+use Rattle.procedure.specs.Table.{innerPlace, updatesPlace}
 use Rattle.calls.specs.Tables.{statusIn, countIn, labelIn, predecessorIn}
 use Rattle.listing.specs.Text.{ascii, decimal}
 
@@ -26,10 +27,18 @@ module _ (table : List ℕ) where
   unfoldable pub counted : String → ℕ → List ℕ
   counted name i = ascii name ++ decimal (countIn table i)
 
-  -- "First line: status and counts."
-  unfoldable pub statusLine : List ℕ
-  statusLine =
-      status ++ counted " rounds " 0 ++ counted " leaves " 1 ++ counted " inner " 2 ++ counted " updates " 3 ++ ascii "\n"
+  -- the counts of the inner regions of the first so many heights, from height 1 up
+  unfoldable pub levels : ℕ → List ℕ
+  levels zero = []
+  levels (suc i) = levels i ++ counted " " (innerPlace + i)
+
+  -- "The listing prints after `inner` one figure for each span in the sheet"
+  unfoldable pub inner : ℕ → List ℕ
+  inner spans = ascii " inner" ++ levels spans
+
+  -- "First line: status and counts.", of a sheet of so many spans
+  unfoldable pub statusLine : ℕ → List ℕ
+  statusLine spans = status ++ counted " rounds " 0 ++ counted " leaves " 1 ++ inner spans ++ counted " updates " updatesPlace ++ ascii "\n"
 
   -- "Then per node: node, distance, feeding arc"
   unfoldable pub nodeLine : ℕ → List ℕ
@@ -40,13 +49,13 @@ module _ (table : List ℕ) where
   nodeLines zero = []
   nodeLines (suc v) = nodeLines v ++ nodeLine v
 
--- the listing of a table of n nodes
-unfoldable pub listingOf : List ℕ → ℕ → List ℕ
-listingOf table n = statusLine table ++ nodeLines table n
+-- the listing of a table of a sheet of so many spans and n nodes
+unfoldable pub listingOf : List ℕ → ℕ → ℕ → List ℕ
+listingOf table spans n = statusLine table spans ++ nodeLines table n
 
 -- No first line has more bytes, and no line of a node,
 abbrev pub mostStatusLine : ℕ
-mostStatusLine = 107
+mostStatusLine = 89 + 18 * mostSpans
 
 abbrev pub mostNodeLine : ℕ
 mostNodeLine = 25

@@ -4,7 +4,7 @@ use mathlib.Core.Path.{_≡_}
 use mathlib.Core.List.{List, _++_}
 use lib.ListN.{length, drop}
 use Rattle.indices.specs.Steps.{if_then_else_}
-use Rattle.sheet.specs.Sections.{nodeCount}
+use Rattle.sheet.specs.Sections.{nodeCount, spanCount}
 use Rattle.answer.specs.Answer.{numberOf, Answer, accepted, ended, paused, route, noRoute, refused, isRefused}
 use Rattle.judgement.specs.Judgement.{judgement}
 use Rattle.procedure.specs.Procedure.{enoughRounds}
@@ -27,7 +27,7 @@ endTable b = runTable b enoughRounds
 
 -- what is printed of a sheet that is judged so
 abbrev pub printedBy : Answer → List ℕ → List ℕ
-printedBy judged b = textOf judged (listingOf (endTable b) (nodeCount b))
+printedBy judged b = textOf judged (listingOf (endTable b) (spanCount b) (nodeCount b))
 
 -- "reads a sheet on standard input, runs it to its end and prints"
 unfoldable pub printed : List ℕ → List ℕ

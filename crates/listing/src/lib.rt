@@ -11,14 +11,14 @@ ghost use Rattle.listing.specs.Listing.{listingOf, refusedLine};
 ghost use Rattle.listing.specs.Printed.{Filled};
 
 // No listing has more bytes, as specs/Listing.antt says.
-pub const MOST_LISTING: usize = 107 + 25 * sheet::MOST_NODES as usize;
+pub const MOST_LISTING: usize = 89 + 18 * sheet::MOST_SPANS + 25 * sheet::MOST_NODES as usize;
 
-// Writes the listing of a table of so many nodes to the front of the buffer, and returns how many bytes it has.
-pub fn write_listing(table: &[u32], nodes: usize, out: &mut [u8]) -> usize
-    requires { ⌜ ListingLent (now table) nodes (now out) ⌝ }
-    ensures { λ r. ⌜ Filled (now (out .entry)) (listingOf (now (table .entry)) nodes) (now (out .exit)) r ⌝ }
+// Writes the listing of a table of a sheet of so many spans and nodes to the front of the buffer, and returns how many bytes it has.
+pub fn write_listing(table: &[u32], spans: usize, nodes: usize, out: &mut [u8]) -> usize
+    requires { ⌜ ListingLent (now table) spans nodes (now out) ⌝ }
+    ensures { λ r. ⌜ Filled (now (out .entry)) (listingOf (now (table .entry)) spans nodes) (now (out .exit)) r ⌝ }
 {
-    let next = crate::status_line::put_status_line(table, out, 0);
+    let next = crate::status_line::put_status_line(table, spans, out, 0);
     crate::node_lines::put_node_lines(table, nodes, out, next)
 }
 

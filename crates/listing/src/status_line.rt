@@ -2,11 +2,14 @@
 ghost use mathlib.Core.List.{_++_};
 ghost use Prim.Native.Nat.{_+_, _≤_, _<_};
 ghost use lib.ListN.{length};
-ghost use Rattle.calls.specs.Tables.{countIn};
+ghost use Rattle.sheet.specs.Limits.{mostSpans};
 ghost use Rattle.procedure.specs.Table.{countsLength, headerLength};
+ghost use Rattle.calls.specs.Tables.{countIn};
 ghost use Rattle.listing.specs.Text.{decimal};
-ghost use Rattle.listing.specs.Listing.{status, statusLine};
+ghost use Rattle.listing.specs.Listing.{status, levels, inner, statusLine};
 ghost use Rattle.listing.specs.Inner.{Room, Wrote};
+use run_counts::array::INNER;
+use run_counts::array::UPDATES;
 
 // A count after its name.
 fn put_count(table: &[u32], i: usize, name: &[u8], out: &mut [u8], from: usize) -> usize
@@ -27,14 +30,37 @@ fn put_status(table: &[u32], out: &mut [u8], from: usize) -> usize
     crate::text::put_text(b"paused", out, from)
 }
 
-pub fn put_status_line(table: &[u32], out: &mut [u8], from: usize) -> usize
-    requires { ⌜ (headerLength ≤ length (now table)) × Room (now out) from (statusLine (now table)) ⌝ }
-    ensures { λ r. ⌜ Wrote (now (out .entry)) from (statusLine (now (table .entry))) (now (out .exit)) r ⌝ }
+// The counts of the inner regions of the first so many heights, from height 1 up.
+fn put_levels(table: &[u32], spans: usize, out: &mut [u8], from: usize) -> usize
+    requires { ⌜ (headerLength ≤ length (now table)) × (spans ≤ mostSpans) × Room (now out) from (levels (now table) spans) ⌝ }
+    ensures { λ r. ⌜ Wrote (now (out .entry)) from (levels (now (table .entry)) spans) (now (out .exit)) r ⌝ }
+{
+    let mut next = from;
+    let mut i = 0;
+    while i < spans {
+        next = put_count(table, INNER + i, b" ", out, next);
+        i += 1;
+    }
+    next
+}
+
+// The word `inner`, and then those counts.
+fn put_inner(table: &[u32], spans: usize, out: &mut [u8], from: usize) -> usize
+    requires { ⌜ (headerLength ≤ length (now table)) × (spans ≤ mostSpans) × Room (now out) from (inner (now table) spans) ⌝ }
+    ensures { λ r. ⌜ Wrote (now (out .entry)) from (inner (now (table .entry)) spans) (now (out .exit)) r ⌝ }
+{
+    let next = crate::text::put_text(b" inner", out, from);
+    put_levels(table, spans, out, next)
+}
+
+pub fn put_status_line(table: &[u32], spans: usize, out: &mut [u8], from: usize) -> usize
+    requires { ⌜ (headerLength ≤ length (now table)) × (spans ≤ mostSpans) × Room (now out) from (statusLine (now table) spans) ⌝ }
+    ensures { λ r. ⌜ Wrote (now (out .entry)) from (statusLine (now (table .entry)) spans) (now (out .exit)) r ⌝ }
 {
     let rounds = put_status(table, out, from);
     let leaves = put_count(table, 0, b" rounds ", out, rounds);
     let inner = put_count(table, 1, b" leaves ", out, leaves);
-    let updates = put_count(table, 2, b" inner ", out, inner);
-    let end = put_count(table, 3, b" updates ", out, updates);
+    let updates = put_inner(table, spans, out, inner);
+    let end = put_count(table, UPDATES, b" updates ", out, updates);
     crate::text::put_byte(b'\n', out, end)
 }

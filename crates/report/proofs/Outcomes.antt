@@ -3,7 +3,7 @@ use Prim.Native.Nat.{ℕ}
 use mathlib.Core.Path.{_≡_, sym, ap, _∙_}
 use mathlib.Core.List.{List, _++_}
 use lib.ListN.{length, drop}
-use Rattle.sheet.specs.Sections.{nodeCount}
+use Rattle.sheet.specs.Sections.{nodeCount, spanCount}
 use Rattle.answer.specs.Answer.{numberOf, Refusal, refused}
 use Rattle.judgement.specs.Judgement.{judgement, Accepted}
 use Rattle.procedure.specs.Procedure.{enoughRounds}
@@ -21,10 +21,10 @@ module _ (b : List ℕ) {table out outAfter : List ℕ} {n : ℕ} where
   reported-refusal r e line = record { text = rw e line; words = rw e }
 
   -- of an accepted sheet the listing of its table, which stands at the front of the words lent for it
-  pub reported-listing : {nodes : ℕ} {words : List ℕ} → Accepted b → nodes ≡ nodeCount b → words ≡ endTable b
-      → Filled out (listingOf (endTable b) nodes) outAfter n → Reported b table out (words ++ drop (tableLength nodes) table) outAfter n
+  pub reported-listing : {spans nodes : ℕ} {words : List ℕ} → Accepted b → spans ≡ spanCount b → nodes ≡ nodeCount b → words ≡ endTable b
+      → Filled out (listingOf (endTable b) spans nodes) outAfter n → Reported b table out (words ++ drop (tableLength nodes) table) outAfter n
   unfolding printed wordsAfter
-  reported-listing ok same made lines = record { text = rw (ok, ← same) lines; words = rw (ok, same, made) }
+  reported-listing ok spanned same made lines = record { text = rw (ok, ← spanned, ← same) lines; words = rw (ok, same, made) }
 
 -- what a run of an accepted sheet leaves in a table of its size
 pub run-leaves : (b table : List ℕ) {nodes : ℕ} {after : List ℕ} → Accepted b → nodes ≡ nodeCount b → length table ≡ tableLength nodes

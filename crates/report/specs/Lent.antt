@@ -7,7 +7,7 @@ use Rattle.judgement.specs.Judgement.{Accepted}
 use Rattle.listing.specs.Inner.{ListingLent}
 
 -- its node count, and what the listing asks
-pub record TableLent (b : List ℕ) (nodes : ℕ) (table out : List ℕ) : Type 0 where
+pub record TableLent (b : List ℕ) (spans nodes : ℕ) (table out : List ℕ) : Type 0 where
   pub accepted : Accepted b
   pub counted : nodes ≡ nodeCount b
-  pub lent : ListingLent table nodes out
+  pub lent : ListingLent table spans nodes out

@@ -18,22 +18,30 @@ use table::words::HEADER;
 pub const MOST_TABLE: usize = HEADER + 2 * MOST_NODES as usize;
 
 // Runs an accepted sheet to its end in a table of its size, and writes the listing.
-fn report_table(sheet: &[u8], nodes: usize, table: &mut [u32], out: &mut [u8]) -> usize
-    requires { ⌜ TableLent (now sheet) nodes (now table) (now out) ⌝ }
+fn report_table(
+    sheet: &[u8],
+    spans: usize,
+    nodes: usize,
+    table: &mut [u32],
+    out: &mut [u8],
+) -> usize
+    requires { ⌜ TableLent (now sheet) spans nodes (now table) (now out) ⌝ }
     ensures { λ r. ⌜ (now (table .exit) ≡ endTable (now (sheet .entry)))
-        × Filled (now (out .entry)) (listingOf (endTable (now (sheet .entry))) nodes) (now (out .exit)) r ⌝ }
+        × Filled (now (out .entry)) (listingOf (endTable (now (sheet .entry))) spans nodes) (now (out .exit)) r ⌝ }
 {
     run::run(sheet, table);
-    listing::write_listing(table, nodes, out)
+    listing::write_listing(table, spans, nodes, out)
 }
 
 fn report_accepted(sheet: &[u8], table: &mut [u32], out: &mut [u8]) -> usize
     requires { ⌜ Accepted (now sheet) × (tableLength mostNodes ≤ length (now table)) × (mostListing ≤ length (now out)) ⌝ }
     ensures { λ r. ⌜ Reported (now (sheet .entry)) (now (table .entry)) (now (out .entry)) (now (table .exit)) (now (out .exit)) r ⌝ }
 {
+    let sections = sheet::scan::find_sections(sheet);
     let nodes = sheet::node_count(sheet) as usize;
     report_table(
         sheet,
+        sections.spans,
         nodes,
         &mut table[..table::length::table_length(nodes)],
         out,

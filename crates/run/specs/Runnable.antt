@@ -7,7 +7,7 @@ use Rattle.sheet.specs.Limits.{mostNodes}
 use Rattle.sheet.specs.Sections.{nodeCount}
 use Rattle.judgement.specs.Judgement.{Accepted}
 use Rattle.calls.specs.Tables.{tableLength}
-use Rattle.run_counts.specs.declared.Counts.{Counts}
+use Rattle.run_counts.specs.Figures.{Figures, countsOf}
 use Rattle.run_arrays.specs.Sections.{labelSection, predecessorSection}
 use Rattle.table.specs.Writable.{Writable}
 use Rattle.run_layout.specs.declared.sizes.Sizes.{Sizes}
@@ -22,6 +22,6 @@ pub record Runnable (b : List ℕ) (sizes : Sizes) (fixed weights table : List �
   pub laid : Laid b fixed weights
 
 -- the first n labels and predecessors of the state, with the counts, fit a table of so many words
-pub record NodesFit (c : Counts) (state : List ℕ) (n words : ℕ) : Type 0 where
+pub record NodesFit (c : Figures) (state : List ℕ) (n words : ℕ) : Type 0 where
   pub few : n ≤ mostNodes
-  pub writable : Writable c (take n (labelSection state)) (take n (predecessorSection state)) words
+  pub writable : Writable (countsOf c) (take n (labelSection state)) (take n (predecessorSection state)) words

@@ -2,22 +2,28 @@
 ghost use mathlib.Core.Path.{_≡_};
 ghost use lib.ListN.{length, take};
 ghost use Rattle.procedure.specs.Table.{tableOf};
+ghost use Rattle.run_counts.specs.Figures.{figuresIn, countsOf};
 ghost use Rattle.run_arrays.specs.Sections.{labelSection, predecessorSection};
-ghost use Rattle.table.specs.Writable.{countsOf};
 ghost use Rattle.run.specs.Runnable.{NodesFit, Runnable};
 ghost use Rattle.run.specs.Outcome.{Outcome};
 use run_arrays::arrays::FIXED;
 use run_arrays::arrays::PLACES;
 use run_arrays::arrays::STATE;
 use run_arrays::arrays::WEIGHTS;
-use run_counts::Counts;
+use run_counts::array::COUNTS;
 use run_layout::sizes::Sizes;
 use sheet::NONE;
 
-// Writes the table of the first n labels and predecessors.
-fn write_nodes(state: &[u32; STATE], n: usize, counts: Counts, ended: bool, table: &mut [u32])
-    requires { ⌜ NodesFit counts (now state) n (length (now table)) ⌝ }
-    ensures { λ _. ⌜ now (table .exit) ≡ tableOf ended (countsOf counts) (take n (labelSection (now (state .entry))))
+// Writes the table of the counts and of the first n labels and predecessors.
+fn write_nodes(
+    state: &[u32; STATE],
+    n: usize,
+    counts: &[u64; COUNTS],
+    ended: bool,
+    table: &mut [u32],
+)
+    requires { ⌜ NodesFit (figuresIn (now counts)) (now state) n (length (now table)) ⌝ }
+    ensures { λ _. ⌜ now (table .exit) ≡ tableOf ended (countsOf (figuresIn (now (counts .entry)))) (take n (labelSection (now (state .entry))))
         (take n (predecessorSection (now (state .entry)))) (length (take n (labelSection (now (state .entry))))) ⌝ }
 {
     table::write_table(
@@ -43,11 +49,19 @@ pub fn run_laid(
 {
     let mut state = [NONE; STATE];
     let mut winners = [0u64; PLACES];
+    let mut counts = [0u64; COUNTS];
     let source = run_layout::source_of(s);
     let regions = sizes.regions as u16;
-    let c = run_engine::rounds::start(fixed, &mut state, &mut winners, source, regions);
-    let counts = run_engine::rounds::run_rounds(fixed, weights, &mut state, &mut winners, limit, c);
+    run_engine::rounds::start(
+        fixed,
+        &mut state,
+        &mut winners,
+        source,
+        regions,
+        &mut counts,
+    );
+    run_engine::rounds::run_rounds(fixed, weights, &mut state, &mut winners, limit, &mut counts);
     let ended = run_engine::rounds::has_ended(fixed, &winners);
-    write_nodes(&state, sizes.nodes, counts, ended, table);
+    write_nodes(&state, sizes.nodes, &counts, ended, table);
     ended
 }

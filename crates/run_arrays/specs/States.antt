@@ -14,7 +14,7 @@ use Rattle.procedure.specs.Queues.{update, updateArc, updateOutgoing}
 use Rattle.procedure.specs.Procedure.{processLeaf, process, ended, round}
 use Rattle.theory_shortest.specs.WellFormed.{GraphOk, DivisionOk}
 use Rattle.theory.specs.Counts.{Small}
-use Rattle.run_counts.specs.declared.Counts.{Counts}
+use Rattle.run_counts.specs.Figures.{Figures}
 use Rattle.run_arrays.specs.Sections.{
   stateLength,
   regionArcSection,
@@ -84,7 +84,7 @@ pub record Keyed (g : Graph) (d : Division) (fixed : List ℕ) (r : ℕ) : Type 
 
 -- The four arrays and the counts represent the state s of a well-formed graph, division and spans: labels and predecessors are the fronts of their
 -- sections, an entry for each node.
-pub record Represents (g : Graph) (d : Division) (spans : List ℕ) (s : State) (fixed weights state winners : List ℕ) (c : Counts) : Type 0 where
+pub record Represents (g : Graph) (d : Division) (spans : List ℕ) (s : State) (fixed weights state winners : List ℕ) (c : Figures) : Type 0 where
   pub fixed-ok : FixedOk g d spans fixed weights
   pub labels : take (g .nodes) (labelSection state) ≡ s .labels
   pub predecessors : take (g .nodes) (predecessorSection state) ≡ s .predecessors
@@ -146,7 +146,7 @@ module _ (fixed state winners : List ℕ) where
 
 module _ (fixed weights state winners : List ℕ) where
   -- `process_leaf`
-  pub record SomeLeaf (r : ℕ) (c : Counts) : Type 0 where
+  pub record SomeLeaf (r : ℕ) (c : Figures) : Type 0 where
     pub graph : Graph
     pub division : Division
     pub spans : List ℕ
@@ -156,7 +156,7 @@ module _ (fixed weights state winners : List ℕ) where
     pub leaf : isLeaf division r ≡ true
 
   -- `process_region`
-  pub record SomeRegion (r : ℕ) (c : Counts) : Type 0 where
+  pub record SomeRegion (r : ℕ) (c : Figures) : Type 0 where
     pub graph : Graph
     pub division : Division
     pub spans : List ℕ
@@ -165,12 +165,12 @@ module _ (fixed weights state winners : List ℕ) where
     pub workable : Workable division r (process graph division spans r current)
 
   -- `process_inner`
-  pub record SomeInner (r : ℕ) (c : Counts) : Type 0 where
+  pub record SomeInner (r : ℕ) (c : Figures) : Type 0 where
     pub region : SomeRegion r c
     pub inner : isLeaf (region .division) r ≡ false
 
   -- `run_rounds`: the counts at the end fit
-  pub record SomeRounds (limit : ℕ) (c : Counts) : Type 0 where
+  pub record SomeRounds (limit : ℕ) (c : Figures) : Type 0 where
     pub graph : Graph
     pub division : Division
     pub spans : List ℕ

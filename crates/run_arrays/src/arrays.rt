@@ -123,13 +123,20 @@ fn height_of(weights: &[u32; WEIGHTS], r: Region) -> u32
     weights[i]
 }
 
+// The place of region r, which is inner, among heights 1, 2, 3 and so on.
+pub fn level_of(weights: &[u32; WEIGHTS], r: Region) -> usize
+    requires { ⌜ HasSpan (heightSection (now weights)) (r .0) ⌝ }
+    ensures { λ l. ⌜ l ≡ at (heightSection (now (weights .entry))) (r .0) - 1 ⌝ }
+{
+    height_of(weights, r) as usize - 1
+}
+
 // The span of region r, which is inner: that of its height.
 pub fn span_of(weights: &[u32; WEIGHTS], r: Region) -> u32
     requires { ⌜ HasSpan (heightSection (now weights)) (r .0) ⌝ }
     ensures { λ n. ⌜ n ≡ at (spanSection (now (weights .entry))) (at (heightSection (now (weights .entry))) (r .0) - 1) ⌝ }
 {
-    let height = height_of(weights, r) as usize;
-    weights[SPANS + (height - 1)]
+    weights[SPANS + level_of(weights, r)]
 }
 
 pub fn length_of(weights: &[u32; WEIGHTS], a: Arc) -> u32

@@ -7,12 +7,13 @@ ghost use Rattle.procedure.specs.Graph.{Graph};
 ghost use Rattle.procedure.specs.Division.{Division, isLeaf};
 ghost use Rattle.procedure.specs.State.{State};
 ghost use Rattle.procedure.specs.Procedure.{processLeaf};
+ghost use Rattle.run_counts.specs.Figures.{figuresIn};
 ghost use Rattle.run_arrays.specs.States.{Represents, Workable, SomeLeaf};
 use run_arrays::arrays::FIXED;
 use run_arrays::arrays::PLACES;
 use run_arrays::arrays::STATE;
 use run_arrays::arrays::WEIGHTS;
-use run_counts::Counts;
+use run_counts::array::COUNTS;
 use sheet::NONE;
 use sheet::Region;
 
@@ -29,13 +30,14 @@ pub fn process_leaf(
     state: &mut [u32; STATE],
     winners: &mut [u64; PLACES],
     r: Region,
-    c: Counts,
-) -> Counts
-    requires { ⌜ SomeLeaf (now fixed) (now weights) (now state) (now winners) (r .0) c ⌝ }
-    ensures { λ n. ⌜ ((g : Graph) (d : Division) (spans : List ℕ) (s : State)
-        → Represents g d spans s (now (fixed .entry)) (now (weights .entry)) (now (state .entry)) (now (winners .entry)) c
+    counts: &mut [u64; COUNTS],
+)
+    requires { ⌜ SomeLeaf (now fixed) (now weights) (now state) (now winners) (r .0) (figuresIn (now counts)) ⌝ }
+    ensures { λ _. ⌜ ((g : Graph) (d : Division) (spans : List ℕ) (s : State)
+        → Represents g d spans s (now (fixed .entry)) (now (weights .entry)) (now (state .entry)) (now (winners .entry)) (figuresIn (now (counts .entry)))
         → Workable d (r .0) (processLeaf g d (r .0) s) → isLeaf d (r .0) ≡ true
-        → Represents g d spans (processLeaf g d (r .0) s) (now (fixed .entry)) (now (weights .entry)) (now (state .exit)) (now (winners .exit)) n) ⌝ }
+        → Represents g d spans (processLeaf g d (r .0) s) (now (fixed .entry)) (now (weights .entry)) (now (state .exit)) (now (winners .exit))
+        (figuresIn (now (counts .exit)))) ⌝ }
 {
     let a = run_arrays::arrays::arc_of(fixed, r);
     let tail = run_arrays::arrays::tail_of(fixed, a);
@@ -44,11 +46,13 @@ pub fn process_leaf(
         + wide(run_arrays::arrays::length_of(weights, a));
     if wide(run_arrays::arrays::label_of(state, head)) <= sum {
         run_arrays::arrays::set_own_key(state, a, NONE);
-        return run_counts::count_leaf(c, c.updates);
+        run_counts::array::count_leaf(counts, run_counts::array::updates_of(counts));
+        return;
     }
     let key = sum as u32;
     run_arrays::arrays::lower_label(state, head, key, a);
-    let n = crate::updates::update_outgoing(fixed, state, winners, head, key, c.updates);
+    let old = run_counts::array::updates_of(counts);
+    let n = crate::updates::update_outgoing(fixed, state, winners, head, key, old);
     run_arrays::arrays::set_own_key(state, a, NONE);
-    run_counts::count_leaf(c, n)
+    run_counts::array::count_leaf(counts, n);
 }

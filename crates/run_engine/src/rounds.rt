@@ -8,18 +8,19 @@ ghost use Rattle.procedure.specs.Division.{Division, isLeaf};
 ghost use Rattle.procedure.specs.State.{State};
 ghost use Rattle.procedure.specs.Procedure.{ended, start};
 ghost use Rattle.theory.specs.Counts.{Small};
+ghost use Rattle.run_counts.specs.Figures.{figuresIn};
 ghost use Rattle.run_arrays.specs.Trees.{QueuesOk, SomeQueue};
 ghost use Rattle.run_arrays.specs.States.{Represents, moreRounds, Blank, SomeBlank, SomeRounds};
 use run_arrays::arrays::FIXED;
 use run_arrays::arrays::PLACES;
 use run_arrays::arrays::STATE;
 use run_arrays::arrays::WEIGHTS;
-use run_counts::Counts;
+use run_counts::array::COUNTS;
 use sheet::NONE;
 use sheet::Node;
 use sheet::Region;
 
-// The state before the first round, in an array of the state that is filled with NONE; winners may hold anything. There are `count` regions.
+// The state before the first round, in an array of the state that is filled with NONE; winners and counts may hold anything. There are `count` regions.
 // Weights are not read.
 pub fn start(
     fixed: &[u16; FIXED],
@@ -27,20 +28,16 @@ pub fn start(
     winners: &mut [u64; PLACES],
     source: Node,
     count: u16,
-) -> Counts
+    counts: &mut [u64; COUNTS],
+)
     requires { ⌜ SomeBlank (now fixed) (now state) (source .0) count ⌝ }
-    ensures { λ n. ⌜ ((g : Graph) (d : Division) (spans weights : List ℕ) → Blank g d spans (now (fixed .entry)) weights (source .0) count
-        → Represents g d spans (start g d spans) (now (fixed .entry)) weights (now (state .exit)) (now (winners .exit)) n) ⌝ }
+    ensures { λ _. ⌜ ((g : Graph) (d : Division) (spans weights : List ℕ) → Blank g d spans (now (fixed .entry)) weights (source .0) count
+        → Represents g d spans (start g d spans) (now (fixed .entry)) weights (now (state .exit)) (now (winners .exit)) (figuresIn (now (counts .exit)))) ⌝ }
 {
     run_queue::building::clear(fixed, winners, count);
     run_arrays::arrays::set_label(state, source, 0);
     let n = crate::updates::update_outgoing(fixed, state, winners, source, 0, 0);
-    Counts {
-        rounds: 0,
-        leaves: 0,
-        inner: 0,
-        updates: n,
-    }
+    run_counts::array::start(counts, n);
 }
 
 // Whether the run has ended.
@@ -59,29 +56,22 @@ pub fn run_rounds(
     state: &mut [u32; STATE],
     winners: &mut [u64; PLACES],
     limit: u64,
-    c: Counts,
-) -> Counts
-    requires { ⌜ SomeRounds (now fixed) (now weights) (now state) (now winners) limit c ⌝ }
-    ensures { λ n. ⌜ ((g : Graph) (d : Division) (spans : List ℕ) (s : State)
-        → Represents g d spans s (now (fixed .entry)) (now (weights .entry)) (now (state .entry)) (now (winners .entry)) c
+    counts: &mut [u64; COUNTS],
+)
+    requires { ⌜ SomeRounds (now fixed) (now weights) (now state) (now winners) limit (figuresIn (now counts)) ⌝ }
+    ensures { λ _. ⌜ ((g : Graph) (d : Division) (spans : List ℕ) (s : State)
+        → Represents g d spans s (now (fixed .entry)) (now (weights .entry)) (now (state .entry)) (now (winners .entry)) (figuresIn (now (counts .entry)))
         → Small (moreRounds g d spans limit s)
-        → Represents g d spans (moreRounds g d spans limit s) (now (fixed .entry)) (now (weights .entry)) (now (state .exit)) (now (winners .exit)) n) ⌝ }
+        → Represents g d spans (moreRounds g d spans limit s) (now (fixed .entry)) (now (weights .entry)) (now (state .exit)) (now (winners .exit))
+        (figuresIn (now (counts .exit)))) ⌝ }
 {
     let mut left = limit;
-    let mut n = c;
     while 0 < left {
         if has_ended(fixed, winners) {
-            return n;
+            return;
         }
-        n = crate::region::process_inner(
-            fixed,
-            weights,
-            state,
-            winners,
-            Region(0),
-            run_counts::count_round(n),
-        );
+        run_counts::array::count_round(counts);
+        crate::region::process_inner(fixed, weights, state, winners, Region(0), counts);
         left -= 1;
     }
-    n
 }

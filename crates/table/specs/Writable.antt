@@ -6,10 +6,8 @@ use mathlib.Core.List.{List}
 use lib.ListN.{length}
 use Rattle.indices.specs.Columns.{at}
 use Rattle.sheet.specs.Words.{payloads}
-use Rattle.run_counts.specs.declared.Counts.{Counts}
 use Rattle.calls.specs.Tables.{tableLength}
 use Rattle.table.specs.Countable.{Countable}
-pub use Rattle.table.specs.Countable.{countsOf}
 
 -- a label and a predecessor for each node, in a table of so many words
 pub record Listed (labels predecessors : List ℕ) (words : ℕ) : Type 0 where
@@ -18,6 +16,6 @@ pub record Listed (labels predecessors : List ℕ) (words : ℕ) : Type 0 where
   pub label : (v : ℕ) → v < length labels → at labels v < payloads
   pub predecessor : (v : ℕ) → v < length labels → at predecessors v < payloads
 
-pub record Writable (c : Counts) (labels predecessors : List ℕ) (words : ℕ) : Type 0 where
-  pub counts : Countable c
+pub record Writable (cs labels predecessors : List ℕ) (words : ℕ) : Type 0 where
+  pub counts : Countable cs
   pub nodes : Listed labels predecessors words

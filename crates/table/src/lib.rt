@@ -8,10 +8,8 @@ ghost use mathlib.Core.Path.{_≡_};
 ghost use lib.ListN.{length};
 ghost use lib.Seq.{sets};
 ghost use Rattle.procedure.specs.Table.{nodeWords, tableOf, headerLength};
-ghost use Rattle.table.specs.Countable.{countsOf};
 ghost use Rattle.table.specs.Writable.{Listed, Writable};
 use crate::words::HEADER;
-use run_counts::Counts;
 
 // Writes the label and the predecessor of each node, after the header.
 fn write_nodes(table: &mut [u32], labels: &[u32], predecessors: &[u32])
@@ -32,12 +30,12 @@ fn write_nodes(table: &mut [u32], labels: &[u32], predecessors: &[u32])
 pub fn write_table(
     labels: &[u32],
     predecessors: &[u32],
-    counts: Counts,
+    counts: &[u64],
     ended: bool,
     table: &mut [u32],
 )
-    requires { ⌜ Writable counts (now labels) (now predecessors) (length (now table)) ⌝ }
-    ensures { λ _. ⌜ now (table .exit) ≡ tableOf ended (countsOf counts) (now (labels .entry)) (now (predecessors .entry))
+    requires { ⌜ Writable (now counts) (now labels) (now predecessors) (length (now table)) ⌝ }
+    ensures { λ _. ⌜ now (table .exit) ≡ tableOf ended (now (counts .entry)) (now (labels .entry)) (now (predecessors .entry))
         (length (now (labels .entry))) ⌝ }
 {
     crate::header::write_header(table, ended, counts);

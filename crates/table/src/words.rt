@@ -9,10 +9,8 @@ ghost use Rattle.sheet.specs.Words.{payloads};
 use sheet::COUNT_BASE;
 use sheet::PAYLOADS;
 
-// How many counts a table has, how many words they take, and how many words stand before those of the nodes: these, and the status.
-pub const COUNTS: usize = 4;
-
-pub const COUNT_WORDS: usize = 2 * COUNTS;
+// How many words the counts take, and how many stand before those of the nodes: these, and the status.
+pub const COUNT_WORDS: usize = 2 * run_counts::array::COUNTS;
 
 pub const HEADER: usize = 1 + COUNT_WORDS;
 

@@ -13,7 +13,8 @@ use Rattle.sheet.specs.Sections.{nodeCount, arcCount}
 use Rattle.judgement.specs.Judgement.{Accepted}
 use Rattle.procedure.specs.Graph.{arcs}
 use Rattle.procedure.specs.OfSheet.{graphOf}
-use Rattle.procedure.specs.Table.{headerLength}
+use Rattle.procedure.specs.State.{counts}
+use Rattle.procedure.specs.Table.{headerLength, countsLength}
 use Rattle.procedure.proofs.OfSheet.{graph-nodes, graph-arcs}
 use Rattle.theory.proofs.Final.{predecessor-fits}
 use Rattle.theory.proofs.Distances.{ended-shortest}
@@ -22,27 +23,30 @@ use Rattle.calls.specs.Runs.{stateAfter, endedAfter, runTable}
 use Rattle.calls.specs.Routes.{nodeOutside, wrongNode, malformed, isPaused, notShortest, tableRefusals, foundRoute, routeAnswer}
 use Rattle.calls.proofs.Reading.{table-long, status-kind, count-kind, label-in, predecessor-in}
 use Rattle.calls.proofs.Routes.{shortest-agrees, after-sheet}
-use Rattle.theory_calls.proofs.Delivered.{well, label-small, predecessor-small, counts-small, table-status, table-labels, table-predecessors}
+use Rattle.theory_calls.proofs.Delivered.{well, label-small, predecessor-small, counts-all, counts-small, table-status, table-labels, table-predecessors}
 
 -- EVERY TABLE of a run
 module _ (b : List ℕ) (ok : Accepted b) (k : ℕ) where
   -- each word has the kind of its place
   label-right : (v : ℕ) → v < nodeCount b → kindIn (runTable b k) (headerLength + 2 * v) ≡ 9
   unfolding runTable
-  label-right v l = label-in (endedAfter b k) (stateAfter b k) (nodeCount b) v l (label-small b ok k v l) .0
+  label-right v l = label-in (endedAfter b k) _ (stateAfter b k .labels) _ (nodeCount b) (counts-all b ok k) v l (label-small b ok k v l) .0
 
   predecessor-right : (v : ℕ) → v < nodeCount b
       → (kindIn (runTable b k) (headerLength + 2 * v + 1) ≡ 10) × (predecessorIn (runTable b k) v ≡ at (stateAfter b k .predecessors) v)
   unfolding runTable
-  predecessor-right v l = predecessor-in (endedAfter b k) (stateAfter b k) (nodeCount b) v l (predecessor-small b ok k v l)
+  predecessor-right v l =
+      predecessor-in (endedAfter b k) _ _ (stateAfter b k .predecessors) (nodeCount b) (counts-all b ok k) v l (predecessor-small b ok k v l)
 
-  count-right : (i : ℕ) → i < 8 → kindIn (runTable b k) (1 + i) ≡ 11
+  count-right : (i : ℕ) → i < 2 * countsLength → kindIn (runTable b k) (1 + i) ≡ 11
   unfolding runTable
-  count-right = count-kind (endedAfter b k) (stateAfter b k) (nodeCount b) (counts-small b ok k)
+  count-right i l =
+      count-kind (endedAfter b k) (counts (stateAfter b k)) _ _ (nodeCount b) (λ j lj. counts-small b ok k j (rw (counts-all b ok k) at lj)) i
+      (rw (counts-all b ok k) l)
 
   first-right : kindIn (runTable b k) 0 ≡ 8
   unfolding runTable
-  first-right = status-kind (endedAfter b k) (stateAfter b k) (nodeCount b)
+  first-right = status-kind (endedAfter b k) _ _ _ (nodeCount b)
 
   -- each predecessor is an arc of the sheet, or none
   arc-or-none : (v : ℕ) → v < nodeCount b → ltb (predecessorIn (runTable b k) v) (arcCount b) || eqb (predecessorIn (runTable b k) v) top ≡ true
@@ -61,7 +65,7 @@ module _ (b : List ℕ) (ok : Accepted b) (k : ℕ) where
 
   right-length : wrongLength b (runTable b k) ≡ false
   unfolding wrongLength runTable
-  right-length = right-kind _ _ (table-long (endedAfter b k) (stateAfter b k) (nodeCount b))
+  right-length = right-kind _ _ (table-long (endedAfter b k) _ _ _ (nodeCount b) (counts-all b ok k))
 
   -- A TABLE left as ended
   module _ (over : endedAfter b k ≡ true) where
@@ -71,7 +75,7 @@ module _ (b : List ℕ) (ok : Accepted b) (k : ℕ) where
     right-form : malformed b (runTable b k) ≡ false
     unfolding malformed
     right-form =
-        neither _ _ (neither _ _ (right-kind _ 8 first-right) (any-false _ 8 (λ i l. right-kind _ 11 (count-right i l))))
+        neither _ _ (neither _ _ (right-kind _ 8 first-right) (any-false _ (2 * countsLength) (λ i l. right-kind _ 11 (count-right i l))))
         (neither (ltb 1 (statusIn (runTable b k))) _ (rw status-one) (any-false _ (nodeCount b) node-right))
 
     not-paused : isPaused (runTable b k) ≡ false

@@ -6,3 +6,4 @@ pub mod Finished
 pub mod Correct
 pub mod Marked
 pub mod AsBefore
+pub mod AddsUp

@@ -21,7 +21,24 @@ use Rattle.judgement.specs.Judgement.{formRefusals, countRefusals, arcRefusals,
 use Rattle.procedure.specs.Division.{leafOf}
 use Rattle.procedure.specs.OfSheet.{graphOf, divisionOf, spansOf}
 use Rattle.procedure.specs.Queues.{before, choose, minItemBelow, minItem, minKey, write, updateFor, update, updateArc, updateOutgoing}
-use Rattle.procedure.specs.Procedure.{relax, clearKey, processLeaf, rewriteKey, countInner, countRound, processChild, alive, ended as hasEnded, enoughRounds, processFor, process, start, round, after}
+use Rattle.procedure.specs.Procedure.{
+  relax,
+  clearKey,
+  processLeaf,
+  rewriteKey,
+  countAt,
+  countInner,
+  countRound,
+  processChild,
+  alive,
+  ended as hasEnded,
+  enoughRounds,
+  start,
+  processForBy,
+  processBy,
+  roundBy,
+  afterBy,
+}
 use Rattle.procedure.specs.Table.{nodeWords, tableOf}
 use Rattle.procedure.specs.Routes.{followed}
 use Rattle.theory_shortest.specs.TableTest.{leadsBack, sourceTest, unfedTest, fedTest, relaxedTest, ledTest, settled?}
@@ -29,7 +46,7 @@ use Rattle.calls.specs.Tables.{tableLength, wrongLength, labelsIn, predecessors
 use Rattle.calls.specs.Runs.{runAnswer, runTable, tableAfter}
 use Rattle.calls.specs.Routes.{nodeOutside, wrongNode, isPaused, malformed, notShortest, tableRefusals, routeTo, foundRoute, routeAnswer, leftBy, bufferAfter}
 use Rattle.listing.specs.Text.{ascii, lastDigits, decimal}
-use Rattle.listing.specs.Listing.{cell, spaced, status, counted, statusLine, nodeLine, nodeLines, listingOf, refusedLine}
+use Rattle.listing.specs.Listing.{cell, spaced, status, counted, levels, inner, statusLine, nodeLine, nodeLines, listingOf, refusedLine}
 use Rattle.listing.specs.Printed.{printed}
 
 -- a call as a case names it: to judge a sheet, given by its words; to run it for at most so many rounds, with a table lent; to read the route to a node
@@ -77,11 +94,18 @@ spanless = 0x10000001 ∷ 0x20000000 ∷ []
 abbrev blank : ℕ → List ℕ
 blank n = replicate (tableLength n) 0
 
+-- The status word, and the words of the counts where no region is higher than 2: rounds, leaves, inner regions at heights 1 and 2 and at the thirteen
+-- above, updates. Every high half is 0.
+abbrev header : ℕ → ℕ → ℕ → ℕ → ℕ → ℕ → List ℕ
+header status rounds leaves first second updates =
+    status ∷ 0xb0000000 ∷ rounds ∷ 0xb0000000 ∷ leaves ∷ 0xb0000000 ∷ first ∷ 0xb0000000 ∷ second ∷ replicate 26 0xb0000000
+    ++ (0xb0000000 ∷ updates ∷ [])
+
 -- A's finished table, node 3 labelled as said
 abbrev finishedA : ℕ → List ℕ
 finishedA label =
-    0x80000001 ∷ 0xb0000000 ∷ 0xb0000003 ∷ 0xb0000000 ∷ 0xb0000005 ∷ 0xb0000000 ∷ 0xb0000006 ∷ 0xb0000000 ∷ 0xb000000d
-    ∷ 0x90000000 ∷ 0xafffffff ∷ 0x90000003 ∷ 0xa0000002 ∷ 0x90000001 ∷ 0xa0000001 ∷ label ∷ 0xa0000003 ∷ []
+    header 0x80000001 0xb0000003 0xb0000005 0xb0000003 0xb0000003 0xb000000d
+    ++ (0x90000000 ∷ 0xafffffff ∷ 0x90000003 ∷ 0xa0000002 ∷ 0x90000001 ∷ 0xa0000001 ∷ label ∷ 0xa0000003 ∷ [])
 
 -- nodes 1 and 2 joined by zero arcs both ways; and each fed from the other, at 7
 abbrev cutOff : List ℕ
@@ -90,38 +114,38 @@ cutOff =
 
 abbrev ring : List ℕ
 ring =
-    0x80000001 ∷ 0xb0000000 ∷ 0xb0000000 ∷ 0xb0000000 ∷ 0xb0000000 ∷ 0xb0000000 ∷ 0xb0000000 ∷ 0xb0000000 ∷ 0xb0000000
-    ∷ 0x90000000 ∷ 0xafffffff ∷ 0x90000007 ∷ 0xa0000001 ∷ 0x90000007 ∷ 0xa0000000 ∷ []
+    header 0x80000001 0xb0000000 0xb0000000 0xb0000000 0xb0000000 0xb0000000
+    ++ (0x90000000 ∷ 0xafffffff ∷ 0x90000007 ∷ 0xa0000001 ∷ 0x90000007 ∷ 0xa0000000 ∷ [])
 
 abbrev rows : List Row
 rows =
     -- hall A, and the one-node hall
     judge hallA is accepted
     ∷ judge oneNode is accepted
-    -- "A to its end, as printed."
+    -- "A to its end, as printed.", and 2026-02: "hall A shows `inner 3 3`"
     ∷ run hallA enoughRounds (blank 4) is ended leaving finishedA 0x90000008
     ∷ print hallA is accepted leaving (
-    ascii "ended rounds 3 leaves 5 inner 6 updates 13\n"
+    ascii "ended rounds 3 leaves 5 inner 3 3 updates 13\n"
     ++ ascii "0 0 -\n"
     ++ ascii "1 3 2\n"
     ++ ascii "2 1 1\n"
     ++ ascii "3 8 3\n"
     )
-    -- "A, k = 1: paused; counts 1, 2, 2, 8; labels 0, 4, unreached, 9."
+    -- "A, k = 1: paused; counts 1, 2, 2, 8; labels 0, 4, unreached, 9.": one inner region at each of the two heights
     ∷ run hallA 1 (blank 4) is paused leaving (
-    0x80000000 ∷ 0xb0000000 ∷ 0xb0000001 ∷ 0xb0000000 ∷ 0xb0000002 ∷ 0xb0000000 ∷ 0xb0000002 ∷ 0xb0000000 ∷ 0xb0000008
-    ∷ 0x90000000 ∷ 0xafffffff ∷ 0x90000004 ∷ 0xa0000000 ∷ 0x9fffffff ∷ 0xafffffff ∷ 0x90000009 ∷ 0xa0000003 ∷ []
+    header 0x80000000 0xb0000001 0xb0000002 0xb0000001 0xb0000001 0xb0000008
+    ++ (0x90000000 ∷ 0xafffffff ∷ 0x90000004 ∷ 0xa0000000 ∷ 0x9fffffff ∷ 0xafffffff ∷ 0x90000009 ∷ 0xa0000003 ∷ [])
     )
     -- "A, k = 0: paused; counts 0, 0, 0, 6; only node 0 labelled."
     ∷ run hallA 0 (blank 4) is paused leaving (
-    0x80000000 ∷ 0xb0000000 ∷ 0xb0000000 ∷ 0xb0000000 ∷ 0xb0000000 ∷ 0xb0000000 ∷ 0xb0000000 ∷ 0xb0000000 ∷ 0xb0000006
-    ∷ 0x90000000 ∷ 0xafffffff ∷ 0x9fffffff ∷ 0xafffffff ∷ 0x9fffffff ∷ 0xafffffff ∷ 0x9fffffff ∷ 0xafffffff ∷ []
+    header 0x80000000 0xb0000000 0xb0000000 0xb0000000 0xb0000000 0xb0000006
+    ++ (0x90000000 ∷ 0xafffffff ∷ 0x9fffffff ∷ 0xafffffff ∷ 0x9fffffff ∷ 0xafffffff ∷ 0x9fffffff ∷ 0xafffffff ∷ [])
     )
     -- "`10000001 20000000 30000001`: ended, all counts 0."
     ∷ run oneNode enoughRounds (blank 1) is ended leaving (
-    0x80000001 ∷ 0xb0000000 ∷ 0xb0000000 ∷ 0xb0000000 ∷ 0xb0000000 ∷ 0xb0000000 ∷ 0xb0000000 ∷ 0xb0000000 ∷ 0xb0000000
-    ∷ 0x90000000 ∷ 0xafffffff ∷ []
+    header 0x80000001 0xb0000000 0xb0000000 0xb0000000 0xb0000000 0xb0000000 ++ (0x90000000 ∷ 0xafffffff ∷ [])
     )
+    ∷ print oneNode is accepted leaving (ascii "ended rounds 0 leaves 0 inner 0 updates 0\n" ++ ascii "0 0 -\n")
     -- "Without its third word: 14."
     ∷ judge spanless is refused (input 14)
     ∷ run spanless enoughRounds (replicate (tableLength 1) 7) is refused (input 14) leaving replicate (tableLength 1) 7
@@ -148,7 +172,7 @@ rows =
     ∷ judge (0x10000001 ∷ 0x20000000 ∷ 0x30000000 ∷ []) is refused (input 6)
     -- 2026-01: "From now on a node may have up to four each way, and five is still 10."
     ∷ print turntable is accepted leaving (
-    ascii "ended rounds 3 leaves 12 inner 6 updates 53\n"
+    ascii "ended rounds 3 leaves 12 inner 3 3 updates 53\n"
     ++ ascii "0 0 -\n"
     ++ ascii "1 200 0\n"
     ++ ascii "2 300 1\n"
@@ -162,6 +186,13 @@ rows =
     )
     ∷ print fiveIn is refused (input 10) leaving ascii "refused 10\n"
     ∷ print fiveOut is refused (input 10) leaving ascii "refused 10\n"
+    -- 2026-02: "A table is then 37 + 2n words, which is what 21 checks.": one of the old length, one of the new
+    ∷ run oneNode 0 (replicate 11 7) is refused (state 21) leaving replicate 11 7
+    ∷ run oneNode 0 (replicate 38 7) is refused (state 21) leaving replicate 38 7
+    ∷ run oneNode 0 (replicate 39 7) is ended leaving (
+    header 0x80000001 0xb0000000 0xb0000000 0xb0000000 0xb0000000 0xb0000000 ++ (0x90000000 ∷ 0xafffffff ∷ [])
+    )
+    ∷ readRoute oneNode (replicate 11 7) 0 (7 ∷ []) is refused (state 21) leaving (7 ∷ [])
     ∷ []
 
 pub marked : map (λ row. outcome (row .task)) rows ≡ map (λ row. row .expected) rows
@@ -169,8 +200,8 @@ unfolding any count lead most upTo times column word kind payload top spansFrom 
     parentWord arcWord judgement refusalsUnder formRefusals countRefusals arcRefusals divisionRefusals wrongSize outOfOrder bitSet nodesOutside sourceOutside
     spansOutside tooMany endsOutside lengthsOutside crowdedNodes tooManyAtNode wrongParents wrongLeaves childlessRegions spansDiffer leafOf graphOf
     divisionOf spansOf before choose minItemBelow minItem minKey write updateFor update updateArc updateOutgoing relax clearKey processLeaf rewriteKey
-    countInner countRound processChild alive hasEnded processFor process start round after nodeWords tableOf wrongLength runAnswer runTable
+    countAt countInner countRound processChild alive hasEnded start processForBy processBy roundBy afterBy nodeWords tableOf wrongLength runAnswer runTable
     tableAfter all labelsIn predecessorsIn followed leadsBack sourceTest unfedTest fedTest relaxedTest ledTest settled? nodeOutside wrongNode isPaused
     malformed notShortest tableRefusals routeTo foundRoute routeAnswer leftBy bufferAfter
-    lastDigits decimal cell spaced status counted statusLine nodeLine nodeLines listingOf refusedLine printed
+    lastDigits decimal cell spaced status counted levels inner statusLine nodeLine nodeLines listingOf refusedLine printed
 marked = refl

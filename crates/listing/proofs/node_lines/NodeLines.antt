@@ -40,7 +40,3 @@ module _ (table : List ℕ) {before after : List ℕ} {at next : ℕ} {v nodes :
   pub line-room : v < nodes → nodes ≤ 1024 → at + 25 * nodes ≤ length before → Room after next (nodeLine table v)
   line-room inside small fits =
       record { fits = omega (arith, length-wrote w, node-lines-within table v (omega arith), node-line-within table v (omega arith)) }
-
-  -- after the last node all lines are written
-  pub all-lines : v ≤ nodes → nodes ≤ v → Wrote before at (nodeLines table nodes) after next
-  all-lines low high = let e : v ≡ nodes = omega arith in rw e at w

@@ -45,6 +45,11 @@ byte-room room = omega arith
 pub wrote-none : {buffer : List ℕ} {at next : ℕ} → next ≡ at → Wrote buffer at [] buffer next
 wrote-none e = record { bytes = refl; place = omega arith }
 
+-- the whole of a text that is written part by part
+pub wrote-all : {before after : List ℕ} {at next i n : ℕ} (text : ℕ → List ℕ) → Wrote before at (text i) after next → i ≤ n → n ≤ i
+    → Wrote before at (text n) after next
+wrote-all {i = i} {n = n} text w low high = let e : i ≡ n = omega arith in rw e at w
+
 one-more : (text : List ℕ) (i : ℕ) → i < length text → take i text ++ (getD text i 0 ∷ []) ≡ take (i + 1) text
 one-more text i inside = sym (take-suc text i 0 inside) ∙ ap (λ (k : ℕ). take k text) (sym (add-one i))
 

@@ -9,8 +9,8 @@ use Rattle.listing.proofs.write_listing.Statement.{statement}
 use Rattle.listing.proofs.write_listing.Tie as tie
 
 -- the whole listing has room
-room : (c : tie.Start) → Room (c .args .out .now) 0 (listingOf (c .args .table .now) (c .args .nodes))
-room c = listing-room _ (c .pre .room) _ (c .pre .few)
+room : (c : tie.Start) → Room (c .args .out .now) 0 (listingOf (c .args .table .now) (c .args .spans) (c .args .nodes))
+room c = listing-room _ (c .pre .few-spans) (c .pre .room) _ (c .pre .few-nodes)
 
 pub write-listing-spec : {M : Type 1} → statement M
 unfolding listingOf

@@ -1,7 +1,7 @@
 -- From what is laid out to the table: the rounds leave the state after so many of them, whose counts, labels and predecessors fit the table.
 use Prim.Native.Nat.{ℕ}
 use mathlib.Core.Bool.{Bool}
-use mathlib.Core.Path.{_≡_, sym, ap, _∙_}
+use mathlib.Core.Path.{_≡_, sym, ap, subst, _∙_}
 use mathlib.Core.List.{List}
 use native.Mathlib.Omega.{arith}
 use lib.ListN.{length, take}
@@ -15,21 +15,21 @@ use Rattle.procedure.specs.Procedure.{ended}
 use Rattle.procedure.specs.Table.{tableOf}
 use Rattle.calls.specs.Tables.{tableLength}
 use Rattle.calls.specs.Runs.{stateAfter, runTable}
-use Rattle.theory_calls.proofs.Delivered.{labels-all, predecessors-all, label-small, predecessor-small, counts-small}
-use Rattle.run_counts.specs.declared.Counts.{Counts}
+use Rattle.theory_calls.proofs.Delivered.{labels-all, predecessors-all, label-small, predecessor-small, counts-all, counts-small}
+use Rattle.run_counts.specs.Figures.{Figures, countsOf}
 use Rattle.run_arrays.specs.Sections.{labelSection, predecessorSection}
 use Rattle.run_arrays.specs.States.{Represents}
-use Rattle.table.specs.Writable.{countsOf}
+use Rattle.table.specs.Countable.{Countable}
 use Rattle.run.specs.Outcome.{Outcome}
 use Rattle.run.specs.Runnable.{NodesFit}
 
 -- the arrays represent the state after at most k rounds of the accepted sheet b, which has n nodes
-pub record Ran (b : List ℕ) (k : ℕ) (fixed weights state winners : List ℕ) (c : Counts) (n : ℕ) : Type 0 where
+pub record Ran (b : List ℕ) (k : ℕ) (fixed weights state winners : List ℕ) (c : Figures) (n : ℕ) : Type 0 where
   pub accepted : Accepted b
   pub nodes : n ≡ nodeCount b
   pub represents : Represents (graphOf b) (divisionOf b) (spansOf b) (stateAfter b k) fixed weights state winners c
 
-module _ {b : List ℕ} {k : ℕ} {fixed weights state winners : List ℕ} {c : Counts} {n : ℕ} (R : Ran b k fixed weights state winners c n) where
+module _ {b : List ℕ} {k : ℕ} {fixed weights state winners : List ℕ} {c : Figures} {n : ℕ} (R : Ran b k fixed weights state winners c n) where
   abbrev S : Represents (graphOf b) (divisionOf b) (spansOf b) (stateAfter b k) fixed weights state winners c
   S = R .represents
 
@@ -56,12 +56,7 @@ module _ {b : List ℕ} {k : ℕ} {fixed weights state winners : List ℕ} {c : 
   nodes-fit room = record {
     few = omega (arith, R .nodes, few-nodes b (R .accepted));
     writable = record {
-      counts = record {
-        rounds = rw (S .rounds) (counts-small b (R .accepted) k 0 (omega arith));
-        leaves = rw (S .leaves) (counts-small b (R .accepted) k 1 (omega arith));
-        inner = rw (S .inner) (counts-small b (R .accepted) k 2 (omega arith));
-        updates = rw (S .queues .keys .counted) (counts-small b (R .accepted) k 3 (omega arith));
-      };
+      counts = subst Countable (sym same-counts) (record { all = counts-all b (R .accepted) k; small = counts-small b (R .accepted) k });
       nodes = record {
         room = rw (labelled, R .nodes) room;
         fed = fed ∙ sym labelled;

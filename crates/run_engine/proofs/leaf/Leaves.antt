@@ -16,8 +16,7 @@ use Rattle.procedure.specs.Queues.{updateOutgoing}
 use Rattle.procedure.specs.Procedure.{relax, clearKey, processLeaf}
 use Rattle.theory.proofs.Process.{sumBy, lowered, relax-falls, relax-stays}
 use Rattle.theory.proofs.Grows.{relax-grows}
-use Rattle.run_counts.specs.Counted.{leafCounted}
-use Rattle.run_counts.specs.declared.Counts.{Counts}
+use Rattle.run_counts.specs.Figures.{Figures, leafMore}
 use Rattle.run_arrays.specs.Rows.{rowTail, rowHead}
 use Rattle.run_arrays.specs.Sections.{mostRegions, regionArcSection, arcRowSection, labelSection, predecessorSection, LabelLowered, OwnStored}
 use Rattle.run_arrays.specs.States.{HoldsQueues, UpdatingOutgoing, LeavesQueues, Represents, Workable}
@@ -39,12 +38,12 @@ unfolding processLeaf clearKey
 leaf-cleared g d r s = refl
 
 -- every region has its entries in the arrays
-pub region-fits : {g : Graph} {d : Division} {spans : List ℕ} {s : State} {fixed weights state winners : List ℕ} {c : Counts}
+pub region-fits : {g : Graph} {d : Division} {spans : List ℕ} {s : State} {fixed weights state winners : List ℕ} {c : Figures}
     → Represents g d spans s fixed weights state winners c → {r : ℕ} {defined : State} → Workable d r defined → r < mostRegions
 region-fits R W = omega (arith, W .in-range, R .fixed-ok .ok .division .few-regions)
 
 -- the leaf r, whose arc is a
-module _ {g : Graph} {d : Division} {spans : List ℕ} {s : State} {fixed weights state winners : List ℕ} {c : Counts} {r : ℕ}
+module _ {g : Graph} {d : Division} {spans : List ℕ} {s : State} {fixed weights state winners : List ℕ} {c : Figures} {r : ℕ}
     (R : Represents g d spans s fixed weights state winners c) (W : Workable d r (processLeaf g d r s)) (leaf : isLeaf d r ≡ true) where
   pub leaf-count-fits : c .leaves + 1 < 18446744073709551616
   leaf-count-fits =
@@ -82,7 +81,7 @@ module _ {g : Graph} {d : Division} {spans : List ℕ} {s : State} {fixed weight
       leaf-head-in = omega (arith, head-in, R .fixed-ok .ok .graph .few-nodes)
 
 -- Arc a of the leaf r leads from u to v; x is the label of u, y the arc's length, and z the label of v.
-pub record Weighed (g : Graph) (d : Division) (spans : List ℕ) (s : State) (fixed weights state winners : List ℕ) (c : Counts) (r a u v x y z : ℕ)
+pub record Weighed (g : Graph) (d : Division) (spans : List ℕ) (s : State) (fixed weights state winners : List ℕ) (c : Figures) (r a u v x y z : ℕ)
     : Type 0 where
   pub represents : Represents g d spans s fixed weights state winners c
   pub workable : Workable d r (processLeaf g d r s)
@@ -94,7 +93,7 @@ pub record Weighed (g : Graph) (d : Division) (spans : List ℕ) (s : State) (fi
   pub arc-length : y ≡ at weights a
   pub head-label : z ≡ at (labelSection state) v
 
-module _ {g : Graph} {d : Division} {spans : List ℕ} {s : State} {fixed weights state winners : List ℕ} {c : Counts} {r a u v x y z : ℕ}
+module _ {g : Graph} {d : Division} {spans : List ℕ} {s : State} {fixed weights state winners : List ℕ} {c : Figures} {r a u v x y z : ℕ}
     (w : Weighed g d spans s fixed weights state winners c r a u v x y z) where
   abbrev R : Represents g d spans s fixed weights state winners c
   R = w .represents
@@ -129,14 +128,14 @@ module _ {g : Graph} {d : Division} {spans : List ℕ} {s : State} {fixed weight
   is-label = w .head-label ∙ label-in v in-nodes ∙ ap (label s) is-head-of
 
   -- where the sum is not below the head's label, the leaf's key alone changes
-  pub leaf-stays : z ≤ x + y → {state′ : List ℕ} → OwnStored a top state state′ → {n : Counts} → n ≡ leafCounted c (c .updates)
-      → Represents g d spans (processLeaf g d r s) fixed weights state′ winners n
-  leaf-stays l K counted =
+  pub leaf-stays : z ≤ x + y → {state′ : List ℕ} → OwnStored a top state state′ → {updates : ℕ} → updates ≡ c .updates
+      → {n : Figures} → n ≡ leafMore c updates → Represents g d spans (processLeaf g d r s) fixed weights state′ winners n
+  leaf-stays l K same counted =
       let stays : processLeaf g d r s ≡ cleared a s =
       leaf-cleared g d r s
       ∙ ap (cleared (arcOf d r)) (relax-stays g d (arcOf d r) s (omega (arith, is-sum, is-label)))
       ∙ ap (λ (b : ℕ). cleared b s) (sym is-arc-of) in
-      rw (stays, counted)
+      rw (stays, counted, same)
       (record {
         fixed-ok = R .fixed-ok;
         labels = ap (take (g .nodes)) (K .nodes .labels) ∙ R .labels;
@@ -177,13 +176,17 @@ module _ {g : Graph} {d : Division} {spans : List ℕ} {s : State} {fixed weight
 
     -- the label is lowered
     module _ {state₁ : List ℕ} (L : LabelLowered v (x + y) a state state₁) where
-      pub lowered-held : HoldsQueues g d (s .queues) fixed state₁ winners (c .updates)
-      lowered-held = record { own = ap (take (arcs g)) (L .own) ∙ R .queues .own; owned = R .queues .owned; keys = R .queues .keys }
+      pub lowered-held : {updates : ℕ} → updates ≡ c .updates → HoldsQueues g d (s .queues) fixed state₁ winners updates
+      lowered-held same = record {
+        own = ap (take (arcs g)) (L .own) ∙ R .queues .own;
+        owned = R .queues .owned;
+        keys = record { valid = R .queues .keys .valid; counted = same ∙ R .queues .keys .counted };
+      }
 
       -- the arcs are updated, and the leaf's key is none
       pub leaf-falls : {state₂ state₃ winners′ : List ℕ} {updates : ℕ}
           → LeavesQueues g d (updateOutgoing d (g .tails) v (x + y) (s .queues)) fixed state₁ state₂ winners′ updates → OwnStored a top state₂ state₃
-          → {n : Counts} → n ≡ leafCounted c updates → Represents g d spans (processLeaf g d r s) fixed weights state₃ winners′ n
+          → {n : Figures} → n ≡ leafMore c updates → Represents g d spans (processLeaf g d r s) fixed weights state₃ winners′ n
       leaf-falls Q K counted =
           rw (← is-fallen, counted)
           (record {

@@ -5,7 +5,7 @@ use mathlib.Core.List.{List}
 use native.Mathlib.Omega.{arith}
 use lib.ListN.{length, set, take, replicate, length-replicate}
 use lib.Seq.{take-set-lt}
-use Rattle.sheet.specs.Limits.{mostNodes}
+use Rattle.sheet.specs.Limits.{mostNodes, mostSpans}
 use Rattle.sheet.specs.Words.{top}
 use Rattle.procedure.specs.Graph.{Graph, arcs}
 use Rattle.procedure.specs.Division.{Division, regions}
@@ -14,6 +14,7 @@ use Rattle.procedure.specs.Queues.{updateOutgoing}
 use Rattle.procedure.specs.Procedure.{start}
 use Rattle.theory.specs.Counts.{Small}
 use Rattle.theory.proofs.Final.{few-each-way, no-rounds, after-small}
+use Rattle.run_counts.specs.Figures.{Figures, started}
 use Rattle.run_arrays.specs.Sections.{stateLength, mostPlaces, labelSection, LabelStored}
 use Rattle.run_arrays.specs.Trees.{LaidOut, QueuesOk}
 use Rattle.run_arrays.specs.States.{HoldsQueues, UpdatingOutgoing, LeavesQueues, Represents, Blank}
@@ -30,7 +31,7 @@ startWith g source q = record {
   queues = q;
   rounds = 0;
   leaves = 0;
-  inner = 0;
+  inner = replicate mostSpans 0;
 }
 
 start-by-updates : (g : Graph) (d : Division) (spans : List ℕ)
@@ -73,12 +74,12 @@ module _ {g : Graph} {d : Division} {spans fixed weights : List ℕ} {source cou
       keys = record { valid = valid; counted = refl };
     }
 
-    -- the source's arcs are updated
-    pub started : {state winners : List ℕ} {n : ℕ}
+    -- the source's arcs are updated, and c is the counts then
+    pub begun : {state winners : List ℕ} {n : ℕ}
         → LeavesQueues g d (updateOutgoing d (g .tails) source 0 (noKeys g d)) fixed labelled state winners n
-        → Represents g d spans (start g d spans) fixed weights state winners (record { rounds = 0; leaves = 0; inner = 0; updates = n })
-    started Q =
-        rw (← is-start)
+        → {c : Figures} → c ≡ started n → Represents g d spans (start g d spans) fixed weights state winners c
+    begun Q counted =
+        rw (← is-start, counted)
         (record {
           fixed-ok = B .fixed-ok;
           labels =

@@ -12,12 +12,11 @@ use Rattle.procedure.specs.Graph.{Graph}
 use Rattle.procedure.specs.Division.{Division}
 use Rattle.procedure.specs.State.{State}
 use Rattle.procedure.specs.Queues.{minKey}
-use Rattle.procedure.specs.Procedure.{countRound, ended, process, round}
+use Rattle.procedure.specs.Procedure.{countRound, ended, process, round, roundBy}
 use Rattle.theory.specs.Counts.{Small}
 use Rattle.theory.proofs.Process.{key-running, none-ended}
 use Rattle.theory.proofs.Grows.{grows-small, process-grows, rounds-grow}
-use Rattle.run_counts.specs.Counted.{roundCounted}
-use Rattle.run_counts.specs.declared.Counts.{Counts}
+use Rattle.run_counts.specs.Figures.{Figures, roundMore}
 use Rattle.run_arrays.specs.States.{Represents, Workable, moreRounds}
 use Rattle.run_engine.proofs.region.Loops.{Looping, loop-off, loop-on}
 
@@ -29,14 +28,14 @@ ended-by-key g d s k e =
 
 -- one round
 by-process : (g : Graph) (d : Division) (spans : List ℕ) (s : State) → process g d spans 0 (countRound g d s) ≡ round g d spans s
-unfolding round
+unfolding roundBy
 by-process g d spans s = refl
 
 round-counted : (g : Graph) (d : Division) (s : State) → countRound g d s .rounds ≡ suc (s .rounds)
 unfolding countRound
 round-counted g d s = refl
 
-module _ {g : Graph} {d : Division} {spans : List ℕ} {s : State} {fixed weights state winners : List ℕ} {c : Counts}
+module _ {g : Graph} {d : Division} {spans : List ℕ} {s : State} {fixed weights state winners : List ℕ} {c : Figures}
     (R : Represents g d spans s fixed weights state winners c) (W : Workable d 0 (round g d spans s)) where
   pub round-count-fits : c .rounds + 1 < 18446744073709551616
   round-count-fits =
@@ -45,7 +44,7 @@ module _ {g : Graph} {d : Division} {spans : List ℕ} {s : State} {fixed weight
       omega (arith, R .rounds, more .rounds, round-counted g d s, all, W .small .rounds)
 
   -- n is the counts with the round counted
-  pub round-begun : {n : Counts} → n ≡ roundCounted c → Represents g d spans (countRound g d s) fixed weights state winners n
+  pub round-begun : {n : Figures} → n ≡ roundMore c → Represents g d spans (countRound g d s) fixed weights state winners n
   unfolding countRound
   round-begun counted = rw counted (record {
     fixed-ok = R .fixed-ok;
@@ -64,25 +63,25 @@ module _ {g : Graph} {d : Division} {spans : List ℕ} {s : State} {fixed weight
 abbrev pub running : Graph → Division → State → Bool
 running g d s = not (ended g d s)
 
-pub rounds-first : {g : Graph} {d : Division} {spans : List ℕ} {s : State} {fixed weights state winners : List ℕ} {c : Counts} {limit : ℕ}
+pub rounds-first : {g : Graph} {d : Division} {spans : List ℕ} {s : State} {fixed weights state winners : List ℕ} {c : Figures} {limit : ℕ}
     → Represents g d spans s fixed weights state winners c
     → Looping g d spans fixed weights (running g d) (round g d spans) limit s limit s state winners c
 rounds-first R = record { represents = R; sofar = refl }
 
 pub rounds-ended : {g : Graph} {d : Division} {spans fixed weights : List ℕ} {limit : ℕ} {s₀ : State} {left : ℕ} {s : State} {state winners : List ℕ}
-    {c : Counts} → Looping g d spans fixed weights (running g d) (round g d spans) limit s₀ left s state winners c → ended g d s ≡ true
+    {c : Figures} → Looping g d spans fixed weights (running g d) (round g d spans) limit s₀ left s state winners c → ended g d s ≡ true
     → Represents g d spans (moreRounds g d spans limit s₀) fixed weights state winners c
 rounds-ended L e = loop-off L (ap not e)
 
 -- the run goes on, and a round is left to make
-pub record Going (g : Graph) (d : Division) (spans fixed weights : List ℕ) (limit : ℕ) (s₀ : State) (left : ℕ) (s : State) (state winners : List ℕ) (c : Counts)
-    : Type 0 where
+pub record Going (g : Graph) (d : Division) (spans fixed weights : List ℕ) (limit : ℕ) (s₀ : State) (left : ℕ) (s : State) (state winners : List ℕ)
+    (c : Figures) : Type 0 where
   pub small : Small (moreRounds g d spans limit s₀)
   pub loop : Looping g d spans fixed weights (running g d) (round g d spans) limit s₀ left s state winners c
   pub positive : 0 < left
   pub running : ended g d s ≡ false
 
-module _ {g : Graph} {d : Division} {spans fixed weights : List ℕ} {limit : ℕ} {s₀ : State} {left : ℕ} {s : State} {state winners : List ℕ} {c : Counts}
+module _ {g : Graph} {d : Division} {spans fixed weights : List ℕ} {limit : ℕ} {s₀ : State} {left : ℕ} {s : State} {state winners : List ℕ} {c : Figures}
     (G : Going g d spans fixed weights limit s₀ left s state winners c) where
   onward-rounds : moreRounds g d spans (left - 1) (round g d spans s) ≡ moreRounds g d spans limit s₀
   onward-rounds = loop-on (G .loop) (G .positive) (ap not (G .running))
@@ -96,7 +95,7 @@ module _ {g : Graph} {d : Division} {spans fixed weights : List ℕ} {limit : �
         small = grows-small (rounds-grow g d ok spans (left - 1) (round g d spans s)) (rw onward-rounds (G .small));
       }
 
-  pub rounds-step : {state′ winners′ : List ℕ} {c′ : Counts}
+  pub rounds-step : {state′ winners′ : List ℕ} {c′ : Figures}
       → Represents g d spans (process g d spans 0 (countRound g d s)) fixed weights state′ winners′ c′
       → Looping g d spans fixed weights (running g d) (round g d spans) limit s₀ (left - 1) (round g d spans s) state′ winners′ c′
   rounds-step done = record { represents = rw (by-process g d spans s) at done; sofar = onward-rounds }

@@ -2,12 +2,14 @@
 use borrow.Author.Needs.{needs}
 use Prim.Native.Nat.{_-_}
 use lib.ListN.{length}
-use Rattle.table.proofs.Writing.{Writing, writing-start, writing-step, writing-length, writing-end, node-places}
+use Rattle.procedure.specs.Table.{nodeWords, headerLength}
+use Rattle.calls.proofs.Reading.{no-node-words}
+use Rattle.table.proofs.Writing.{Writing, writing-start, writing-length, writing-end, node-places, one-node-more}
 use Rattle.table.proofs.write_nodes.Statement.{statement}
 use Rattle.table.proofs.write_nodes.Tie as tie
 
 abbrev Inv-loop : tie.InvT-loop
-Inv-loop table₀ labels predecessors v₀ table v = Writing labels predecessors table₀ table v
+Inv-loop table₀ labels predecessors v₀ table v = Writing headerLength (length labels) (nodeWords labels predecessors) table₀ table v
 
 abbrev μ-loop : tie.MeasureT-loop
 μ-loop table₀ labels predecessors v₀ table v = length labels - v
@@ -19,7 +21,7 @@ abbrev In-loop : Type 0
 In-loop = tie.In-loop Inv-loop μ-loop
 
 loop-again : tie.Need-loop-again Inv-loop μ-loop
-loop-again c = let turn : In-loop = search needs in writing-step (turn .before .loop .inv) (turn .loop-test .taken) (cc)
+loop-again c = let turn : In-loop = search needs in one-node-more _ _ (turn .before .loop .inv) (turn .loop-test .taken) (cc)
 
 pub write-nodes-spec : {M : Type 1} → statement M
 write-nodes-spec =
@@ -27,7 +29,7 @@ write-nodes-spec =
     (tie.spec
     Inv-loop
     μ-loop
-    (λ c. writing-start)
+    (λ c. writing-start (no-node-words _ _))
     (λ c. search needs)
     (λ c. search needs)
     (λ c κs. let start : Start = search needs in start .pre .label _ (search needs))

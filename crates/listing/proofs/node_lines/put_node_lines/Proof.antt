@@ -3,8 +3,8 @@ use borrow.Author.Needs.{needs}
 use Prim.Native.Nat.{_-_, _≤_}
 use Rattle.listing.specs.Inner.{Wrote}
 use Rattle.listing.specs.Listing.{nodeLines}
-use Rattle.listing.proofs.text.Writing.{length-wrote, wrote-then}
-use Rattle.listing.proofs.node_lines.NodeLines.{line-room, line-more, all-lines}
+use Rattle.listing.proofs.text.Writing.{length-wrote, wrote-then, wrote-all}
+use Rattle.listing.proofs.node_lines.NodeLines.{line-room, line-more}
 use Rattle.listing.proofs.node_lines.put_node_lines.Statement.{statement}
 use Rattle.listing.proofs.node_lines.put_node_lines.Tie as tie
 
@@ -21,4 +21,4 @@ put-node-lines-spec =
     (λ c. search needs)
     (λ c. (search needs, rw line-more (search (needs, wrote-then))))
     (λ c. search (needs, length-wrote))
-    (λ c. search (needs, all-lines)))
+    (λ c. wrote-all (nodeLines _) (c .before .loop .inv .1) (c .before .loop .inv .0) (c .loop-test .left)))

@@ -5,6 +5,7 @@ use Rattle.sheet.specs.Words.{top}
 use Rattle.procedure.specs.OfSheet.{graphOf, divisionOf, spansOf}
 use Rattle.procedure.specs.Procedure.{start}
 use Rattle.procedure.proofs.OfSheet.{division-regions}
+use Rattle.run_counts.specs.Figures.{figuresIn}
 use Rattle.run_arrays.specs.States.{Represents, Blank}
 use Rattle.run_engine.proofs.rounds.Runs.{after-start, started-small}
 use Rattle.run.proofs.laid.Stages.{Ran, nodes-fit, outcome}
@@ -45,7 +46,7 @@ start-requires c κs =
 -- THE START leaves the state after no rounds
 started : (c : tie.After-start) → let a = entry (sourced c) .args in let b = a .s .now in let left = c .start .last .1 in
     Represents (graphOf b) (divisionOf b) (spansOf b) (start (graphOf b) (divisionOf b) (spansOf b)) (a .fixed .now) (a .weights .now)
-    (left .0) (left .1 .0) (c .start .result)
+    (left .0) (left .1 .0) (figuresIn (left .1 .1 .1 .1 .0))
 started c = c .start .ensures _ _ _ _ (blank (sourced c))
 
 rounds-requires : tie.Need-run-rounds-requires
@@ -56,7 +57,7 @@ rounds-requires c κs =
 
 -- THE ROUNDS leave the state that the run defines
 ran : (c : tie.After-run-rounds) → let a = outset c .args in let left = c .run-rounds .last .1 .1 in
-    Ran (a .s .now) (a .limit) (a .fixed .now) (a .weights .now) (left .0) (left .1 .0) (c .run-rounds .result) (a .sizes .nodes)
+    Ran (a .s .now) (a .limit) (a .fixed .now) (a .weights .now) (left .0) (left .1 .0) (figuresIn (left .1 .1 .1 .0)) (a .sizes .nodes)
 ran c =
     let R = started (begun c) in
     let start = outset c in

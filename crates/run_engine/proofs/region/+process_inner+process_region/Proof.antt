@@ -8,14 +8,16 @@ use mathlib.Core.Bool.{false}
 use mathlib.Core.Path.{_≡_}
 use mathlib.Core.List.{List}
 use native.Mathlib.Omega.{arith}
+use Rattle.indices.specs.Columns.{at}
 use Rattle.sheet.specs.Words.{top}
 use Rattle.procedure.specs.Graph.{Graph}
 use Rattle.procedure.specs.Division.{Division, isLeaf}
 use Rattle.procedure.specs.State.{State}
 use Rattle.procedure.specs.Procedure.{countInner, alive, process}
-use Rattle.run_arrays.specs.Trees.{SomeQueue}
-use Rattle.indices.specs.Columns.{at}
+use Rattle.run_counts.specs.Figures.{figuresIn}
 use Rattle.run_arrays.specs.Sections.{heightSection}
+use Rattle.run_arrays.specs.Trees.{SomeQueue}
+use Rattle.run_arrays.specs.Fixed.{HasSpan}
 use Rattle.run_arrays.specs.States.{Represents, Workable}
 use Rattle.run_engine.proofs.leaf.Leaves.{region-fits}
 use Rattle.run_engine.proofs.region.Loops.{
@@ -49,9 +51,10 @@ use Rattle.run_engine.proofs.region.process_region.Reads as process-reg
 use Rattle.run_engine.proofs.region.process_region.Kinds as region-kinds
 use Rattle.run_engine.proofs.region.+process_inner+process_region.Lts-process_region as region-lts
 use Rattle.run_arrays.proofs.arrays.arc_of.Reads as arc-of
-use Rattle.run_counts.proofs.count_inner.Reads as count-inner
+use Rattle.run_counts.proofs.array.count_inner.Reads as count-inner
 use Rattle.run_engine.proofs.region.key_of.Reads as key-of
 use Rattle.run_engine.proofs.leaf.process_leaf.Reads as process-leaf
+use Rattle.run_arrays.proofs.arrays.level_of.Reads as level-of
 use Rattle.run_arrays.proofs.arrays.span_of.Reads as span-of
 use Rattle.run_queue.proofs.min_item.Reads as min-item
 use Rattle.run_queue.proofs.min_key.Reads as min-key
@@ -60,29 +63,31 @@ use Rattle.run_engine.proofs.region.+process_inner+process_region.{stat
 use Rattle.run_engine.proofs.region.+process_inner+process_region.Tie.{close}
 
 -- THE MEASURES, of the region's height among the weights
-abbrev μ-inner : Measures 4 inner-kinds.ps ℕ
+abbrev μ-inner : Measures 5 inner-kinds.ps ℕ
 μ-inner κs a = at (heightSection (a .1 .0 .now)) (a .1 .1 .1 .1 .0 .0) * 2
 
-abbrev μ-region : Measures 4 region-kinds.ps ℕ
+abbrev μ-region : Measures 5 region-kinds.ps ℕ
 μ-region κs a = at (heightSection (a .1 .0 .now)) (a .1 .1 .1 .1 .0 .0) * 2 + 1
 
 -- what is asked at measure t, and of the calls below it
-abbrev inner-at : ℕ → In 4 inner-kinds.ps
-inner-at t = and 4 inner-kinds.ps (is 4 inner-kinds.ps μ-inner t) process-inner.Pre
+abbrev inner-at : ℕ → In 5 inner-kinds.ps
+inner-at t = and 5 inner-kinds.ps (is 5 inner-kinds.ps μ-inner t) process-inner.Pre
 
-abbrev inner-below : ℕ → In 4 inner-kinds.ps
-inner-below t = and 4 inner-kinds.ps (falls 4 inner-kinds.ps _<_ μ-inner t) process-inner.Pre
+abbrev inner-below : ℕ → In 5 inner-kinds.ps
+inner-below t = and 5 inner-kinds.ps (falls 5 inner-kinds.ps _<_ μ-inner t) process-inner.Pre
 
-abbrev region-at : ℕ → In 4 region-kinds.ps
-region-at t = and 4 region-kinds.ps (is 4 region-kinds.ps μ-region t) process-region.Pre
+abbrev region-at : ℕ → In 5 region-kinds.ps
+region-at t = and 5 region-kinds.ps (is 5 region-kinds.ps μ-region t) process-region.Pre
 
-abbrev region-below : ℕ → In 4 region-kinds.ps
-region-below t = and 4 region-kinds.ps (falls 4 region-kinds.ps _<_ μ-region t) process-region.Pre
+abbrev region-below : ℕ → In 5 region-kinds.ps
+region-below t = and 5 region-kinds.ps (falls 5 region-kinds.ps _<_ μ-region t) process-region.Pre
 
 abbrev inner-heard : ℕ → inner-lts.Claims
 inner-heard t = (
   span-of.Asked,
   span-of.Learnt,
+  level-of.Asked,
+  level-of.Learnt,
   count-inner.Asked,
   count-inner.Learnt,
   min-key.Asked,
@@ -101,23 +106,29 @@ abbrev region-heard : ℕ → region-lts.Claims
 region-heard t = (arc-of.Asked, arc-of.Learnt, inner-below t, process-inner.Post, process-leaf.Asked, process-leaf.Learnt)
 
 abbrev Inv-loop : inner-lts.InvT-loop
-Inv-loop fixed weights state₀ winners₀ r left₀ n₀ state winners left n =
-    (g : Graph) (d : Division) (spans : List ℕ) (s₀ : State) → Framed g d spans fixed weights (r .0) left₀ s₀ state₀ winners₀ n₀
-    → ((s : State) × Looping g d spans fixed weights (alive g d (r .0)) (turn g d spans (r .0)) left₀ s₀ left s state winners n)
+Inv-loop fixed weights state₀ winners₀ r counts₀ left₀ state winners counts left =
+    (g : Graph) (d : Division) (spans : List ℕ) (s₀ : State) → Framed g d spans fixed weights (r .0) left₀ s₀ state₀ winners₀ (figuresIn counts₀)
+    → ((s : State) × Looping g d spans fixed weights (alive g d (r .0)) (turn g d spans (r .0)) left₀ s₀ left s state winners (figuresIn counts))
 
 abbrev μ-loop : inner-lts.MeasureT-loop
-μ-loop fixed weights state₀ winners₀ r left₀ n₀ state winners left n = left
+μ-loop fixed weights state₀ winners₀ r counts₀ left₀ state winners counts left = left
 
 -- `process_inner`
 module _ (t : ℕ) where
   -- a place or a need of it, at measure t
-  abbrev here : (inner-lts.Claims → In 4 inner-kinds.ps → Out 4 inner-kinds.ps inner-kinds.r → inner-lts.InvT-loop → inner-lts.MeasureT-loop → Type 0)
+  abbrev here : (inner-lts.Claims → In 5 inner-kinds.ps → Out 5 inner-kinds.ps inner-kinds.r → inner-lts.InvT-loop → inner-lts.MeasureT-loop → Type 0)
       → Type 0
   here P = P (inner-heard t) (inner-at t) process-inner.Post Inv-loop μ-loop
 
-  -- THE PLACES: the entry, the region counted, the loop, its smallest key read, the child found, worked, and its key read
+  -- THE PLACES: the entry, the span read, the level read, the region counted, the loop, its smallest key read, the child found, worked, and its key read
   abbrev Start : Type 0
   Start = here inner-lts.Start
+
+  abbrev Spanned : Type 0
+  Spanned = here inner-lts.After-span-of
+
+  abbrev Levelled : Type 0
+  Levelled = here inner-lts.After-level-of
 
   abbrev Begun : Type 0
   Begun = here inner-lts.After-count-inner
@@ -140,20 +151,37 @@ module _ (t : ℕ) where
   abbrev entry : Begun → Start
   entry c = search needs
 
+  abbrev spanned : Begun → Spanned
+  spanned c = search needs
+
+  abbrev levelled : Begun → Levelled
+  levelled c = search needs
+
   abbrev looped : Found → At-loop
   looped c = search needs
 
-  -- THE REGION IS COUNTED, and its span known
+  -- SPAN AND LEVEL are read
+  has-span : (c : Start) → HasSpan (heightSection (c .args .weights .now)) (c .args .r .0)
+  has-span c = let pre = c .pre .1 in span-asks (pre .region .represents) (pre .region .workable) (pre .inner)
+
+  -- THE REGION IS COUNTED
+  count-inner-requires : here inner-lts.Need-count-inner-requires
+  count-inner-requires c κs =
+      let start : Start = search needs in
+      let pre = start .pre .1 in
+      inner-count-fits (pre .region .represents) (pre .region .workable) (pre .inner) (c .level-of .ensures)
+
   opened : (c : Begun) {g : Graph} {d : Division} {spans : List ℕ} {s : State} → let a = entry c .args in
-      Represents g d spans s (a .fixed .now) (a .weights .now) (a .state .now) (a .winners .now) (a .c) → Workable d (a .r .0) (process g d spans (a .r .0) s)
-      → isLeaf d (a .r .0) ≡ false
-      → Opened g d spans s (a .fixed .now) (a .weights .now) (a .state .now) (a .winners .now) (a .c) (a .r .0) (c .before .span-of .result)
-      (c .count-inner .result)
+      Represents g d spans s (a .fixed .now) (a .weights .now) (a .state .now) (a .winners .now) (figuresIn (a .counts .now))
+      → Workable d (a .r .0) (process g d spans (a .r .0) s) → isLeaf d (a .r .0) ≡ false
+      → Opened g d spans s (a .fixed .now) (a .weights .now) (a .state .now) (a .winners .now) (figuresIn (a .counts .now)) (a .r .0)
+      (spanned c .span-of .result) (levelled c .level-of .result) (figuresIn (c .count-inner .last .0))
   opened c R W inner = record {
     represents = R;
     workable = W;
     inner = inner;
-    span = c .before .span-of .ensures;
+    span = spanned c .span-of .ensures;
+    found = levelled c .level-of .ensures;
     counted = c .count-inner .ensures;
   }
 
@@ -161,10 +189,11 @@ module _ (t : ℕ) where
   abbrev Frame : Begun → Graph → Division → List ℕ → State → Type 0
   Frame c g d spans s₀ =
       let a = entry c .args in
-      Framed g d spans (a .fixed .now) (a .weights .now) (a .r .0) (c .before .span-of .result) s₀ (a .state .now) (a .winners .now) (c .count-inner .result)
+      Framed g d spans (a .fixed .now) (a .weights .now) (a .r .0) (spanned c .span-of .result) s₀ (a .state .now) (a .winners .now)
+      (figuresIn (c .count-inner .last .0))
 
-  frame : (c : Begun) → let asks = entry c .pre .1 .region in
-      Frame c (asks .graph) (asks .division) (asks .spans) (countInner (asks .graph) (asks .division) (asks .current))
+  frame : (c : Begun) → let a = entry c .args in let asks = entry c .pre .1 .region in
+      Frame c (asks .graph) (asks .division) (asks .spans) (countInner (asks .graph) (asks .division) (a .r .0) (asks .current))
   frame c = let pre = entry c .pre .1 in framed (opened c (pre .region .represents) (pre .region .workable) (pre .inner))
 
   -- the queues are valid in every turn
@@ -184,8 +213,8 @@ module _ (t : ℕ) where
       let loop = looped c .loop in
       let begun = looped c .before in
       let a = entry begun .args in
-      Turning g d spans (a .fixed .now) (a .weights .now) (a .r .0) (begun .before .span-of .result) s₀ (a .state .now) (a .winners .now)
-      (begun .count-inner .result) (loop .left) s (loop .state) (loop .winners) (loop .n) (c .min-item .result .0)
+      Turning g d spans (a .fixed .now) (a .weights .now) (a .r .0) (spanned begun .span-of .result) s₀ (a .state .now) (a .winners .now)
+      (figuresIn (begun .count-inner .last .0)) (loop .left) s (loop .state) (loop .winners) (figuresIn (loop .counts)) (c .min-item .result .0)
 
   turning : (c : Found) (g : Graph) (d : Division) (spans : List ℕ) (s₀ : State) → Frame (looped c .before) g d spans s₀
       → ((s : State) × Turn c g d spans s₀ s)
@@ -207,8 +236,8 @@ module _ (t : ℕ) where
       )
 
   -- and for those that are asked for
-  asked : (c : Found) → let asks = entry (looped c .before) .pre .1 .region in
-      (s : State) × Turn c (asks .graph) (asks .division) (asks .spans) (countInner (asks .graph) (asks .division) (asks .current)) s
+  asked : (c : Found) → let a = entry (looped c .before) .args in let asks = entry (looped c .before) .pre .1 .region in
+      (s : State) × Turn c (asks .graph) (asks .division) (asks .spans) (countInner (asks .graph) (asks .division) (a .r .0) (asks .current)) s
   asked c = let asks = entry (looped c .before) .pre .1 .region in turning c (asks .graph) (asks .division) (asks .spans) _ (frame (looped c .before))
 
   returns : here inner-lts.Need-returns
@@ -277,7 +306,7 @@ module _ (t : ℕ) where
 -- `process_region`
 module _ (t : ℕ) where
   -- a place or a need of it, at measure t
-  abbrev there : (region-lts.Claims → In 4 region-kinds.ps → Out 4 region-kinds.ps region-kinds.r → Type 0) → Type 0
+  abbrev there : (region-lts.Claims → In 5 region-kinds.ps → Out 5 region-kinds.ps region-kinds.r → Type 0) → Type 0
   there P = P (region-heard t) (region-at t) process-region.Post
 
   -- THE PLACES: the entry, the region's arc read, and whether it is inner or a leaf
@@ -337,12 +366,9 @@ pub +process-inner+process-region-spec : {M : Type 1} → statement M
 +process-inner+process-region-spec =
     close μ-inner μ-region
     (λ t. inner-lts.spec (inner-heard t) (inner-at t) process-inner.Post Inv-loop μ-loop
-    (λ c κs. let start : Start t = search needs in
-    let pre = start .pre .1 in
-    span-asks (pre .region .represents) (pre .region .workable) (pre .inner))
-    (λ c κs. let start : Start t = search needs in
-    let pre = start .pre .1 in
-    inner-count-fits (pre .region .represents) (pre .region .workable) (pre .inner))
+    (λ c κs. has-span t (search needs))
+    (λ c κs. has-span t (search needs))
+    (count-inner-requires t)
     (λ c g d spans s F. (s, framed-first F))
     (λ c κs. queues t (search needs))
     (returns t)

@@ -8,6 +8,7 @@ use Rattle.procedure.specs.Division.{Division}
 use Rattle.procedure.specs.State.{State}
 use Rattle.procedure.specs.Procedure.{countRound, ended, round}
 use Rattle.theory.specs.Counts.{Small}
+use Rattle.run_counts.specs.Figures.{figuresIn}
 use Rattle.run_arrays.specs.States.{Represents, moreRounds}
 use Rattle.run_engine.proofs.region.Loops.{Looping, loop-spent}
 use Rattle.run_engine.proofs.rounds.Loops.{
@@ -25,15 +26,15 @@ use Rattle.run_engine.proofs.rounds.run_rounds.Statement.{statement}
 use Rattle.run_engine.proofs.rounds.run_rounds.Tie as tie
 
 abbrev Inv-loop : tie.InvT-loop
-Inv-loop fixed weights state₀ winners₀ limit left₀ n₀ state winners left n =
-    (g : Graph) (d : Division) (spans : List ℕ) (s₀ : State) → Represents g d spans s₀ fixed weights state₀ winners₀ n₀
+Inv-loop fixed weights state₀ winners₀ limit counts₀ left₀ state winners counts left =
+    (g : Graph) (d : Division) (spans : List ℕ) (s₀ : State) → Represents g d spans s₀ fixed weights state₀ winners₀ (figuresIn counts₀)
     → Small (moreRounds g d spans left₀ s₀)
-    → ((s : State) × Looping g d spans fixed weights (running g d) (round g d spans) left₀ s₀ left s state winners n)
+    → ((s : State) × Looping g d spans fixed weights (running g d) (round g d spans) left₀ s₀ left s state winners (figuresIn counts))
 
 abbrev μ-loop : tie.MeasureT-loop
-μ-loop fixed weights state₀ winners₀ limit left₀ n₀ state winners left n = left
+μ-loop fixed weights state₀ winners₀ limit counts₀ left₀ state winners counts left = left
 
--- THE PLACES: the entry, the loop, where it is told whether the run has ended, and where it goes on
+-- THE PLACES: the entry, the loop, where it is told whether the run has ended, where it goes on, and where the round is counted
 abbrev Start : Type 0
 Start = tie.Start Inv-loop μ-loop
 
@@ -46,6 +47,9 @@ Told = tie.After-has-ended Inv-loop μ-loop
 abbrev Goes-on : Type 0
 Goes-on = tie.Else1 Inv-loop μ-loop
 
+abbrev Counted : Type 0
+Counted = tie.After-count-round Inv-loop μ-loop
+
 abbrev entry : At-loop → Start
 entry c = search needs
 
@@ -54,7 +58,7 @@ looped c = c .before .before .before
 
 -- WHETHER THE RUN HAS ENDED is told
 told : (c : Told) {g : Graph} {d : Division} {spans : List ℕ} {s : State} → let loop = looped c .loop in let a = entry (looped c) .args in
-    Represents g d spans s (a .fixed .now) (a .weights .now) (loop .state) (loop .winners) (loop .n) → ended g d s ≡ c .has-ended .result
+    Represents g d spans s (a .fixed .now) (a .weights .now) (loop .state) (loop .winners) (figuresIn (loop .counts)) → ended g d s ≡ c .has-ended .result
 told c {g} {d} {s = s} R = sym (c .has-ended .ensures g d s (R .queues .keys .valid) (R .fixed-ok .ok .division .root-inner))
 
 -- A ROUND is to be made, for any graph, division and state that the loop began with
@@ -62,11 +66,11 @@ abbrev Next : Goes-on → Graph → Division → List ℕ → State → State �
 Next c g d spans s₀ s =
     let loop = looped (c .before) .loop in
     let a = entry (looped (c .before)) .args in
-    Going g d spans (a .fixed .now) (a .weights .now) (a .limit) s₀ (loop .left) s (loop .state) (loop .winners) (loop .n)
+    Going g d spans (a .fixed .now) (a .weights .now) (a .limit) s₀ (loop .left) s (loop .state) (loop .winners) (figuresIn (loop .counts))
 
 going : (c : Goes-on) (g : Graph) (d : Division) (spans : List ℕ) (s₀ : State) → let a = entry (looped (c .before)) .args in
-    Represents g d spans s₀ (a .fixed .now) (a .weights .now) (a .state .now) (a .winners .now) (a .c) → Small (moreRounds g d spans (a .limit) s₀)
-    → ((s : State) × Next c g d spans s₀ s)
+    Represents g d spans s₀ (a .fixed .now) (a .weights .now) (a .state .now) (a .winners .now) (figuresIn (a .counts .now))
+    → Small (moreRounds g d spans (a .limit) s₀) → ((s : State) × Next c g d spans s₀ s)
 going c g d spans s₀ R small =
     let L = looped (c .before) .loop .inv g d spans s₀ R small in
     (L .0, record { small = small; loop = L .1; positive = search needs; running = told (c .before) (L .1 .represents) ∙ c .if1 .left })
@@ -94,6 +98,7 @@ count-round-requires c κs = let G = asked (search needs) .1 in round-count-fits
 process-inner-requires : tie.Need-process-inner-requires Inv-loop μ-loop
 process-inner-requires c κs =
     let start : Start = search needs in
+    let counted : Counted = search needs in
     let pre = start .pre in
     let G = asked (search needs) in
     let R = G .1 .loop .represents in
@@ -104,7 +109,7 @@ process-inner-requires c κs =
         division = pre .division;
         spans = pre .spans;
         current = countRound (pre .graph) (pre .division) (G .0);
-        represents = round-begun R W (c .count-round .ensures);
+        represents = round-begun R W (counted .count-round .ensures);
         workable = round-asks R W;
       };
       inner = pre .represents .fixed-ok .ok .division .root-inner;
@@ -112,9 +117,10 @@ process-inner-requires c κs =
 
 loop-again : tie.Need-loop-again Inv-loop μ-loop
 loop-again c g d spans s R small =
+    let counted : Counted = search needs in
     let G = going (search needs) g d spans s R small .1 in
     let W = next-asks G in
-    let begun = round-begun (G .loop .represents) W (c .before .count-round .ensures) in
+    let begun = round-begun (G .loop .represents) W (counted .count-round .ensures) in
     (_, rounds-step G (c .process-inner .ensures g d spans _ begun (round-asks (G .loop .represents) W) (R .fixed-ok .ok .division .root-inner)))
 
 pub run-rounds-spec : {M : Type 1} → statement M

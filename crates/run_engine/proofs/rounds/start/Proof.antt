@@ -8,7 +8,7 @@ use Rattle.procedure.specs.Graph.{Graph}
 use Rattle.procedure.specs.Division.{Division, regions}
 use Rattle.run_arrays.specs.Trees.{QueuesOk}
 use Rattle.run_arrays.specs.States.{Blank}
-use Rattle.run_engine.proofs.rounds.Beginning.{noKeys, source-in, start-laid, start-asks, start-held, started}
+use Rattle.run_engine.proofs.rounds.Beginning.{noKeys, source-in, start-laid, start-asks, start-held, begun}
 use Rattle.run_engine.proofs.rounds.start.Statement.{statement}
 use Rattle.run_engine.proofs.rounds.start.Tie as tie
 
@@ -48,8 +48,9 @@ returns c g d spans weights B =
     let labelled : tie.After-set-label = search needs in
     let none = start .pre .none in
     let K = labelled .set-label .ensures in
+    let updated : tie.After-update-outgoing = search needs in
     let held = start-held B none K (cleared (search needs) B) in
-    started B none K (c .update-outgoing .ensures g d (noKeys g d) held (start-asks B))
+    begun B none K (updated .update-outgoing .ensures g d (noKeys g d) held (start-asks B)) (c .start .ensures)
 
 pub start-spec : {M : Type 1} → statement M
 start-spec =
@@ -58,4 +59,5 @@ start-spec =
     clear-requires
     (λ c κs. let start : tie.Start = search needs in source-in (start .pre .blank))
     update-outgoing-requires
+    (λ c κs. search needs)
     returns)

@@ -1,0 +1,180 @@
+-- Request 2026-02 only parts the count of inner regions: with the fifteen added up, the procedure is the one that counted all of them in one figure. The
+-- map that adds them up commutes with every step, so with any number of rounds.
+use Prim.Native.Nat.{ℕ, zero, suc, pred, _≤_, _<_}
+use mathlib.Core.Bool.{Bool, true, false, not}
+use mathlib.Core.Path.{_≡_, refl, sym, ap, _∙_}
+use mathlib.Core.List.{List, _∷_}
+use native.Mathlib.Omega.{arith}
+use lib.ListN.{length, set, replicate, length-set, length-replicate}
+use lib.Seq.{getD-set-same, getD-set-other}
+use lib.Dec.{T, ltb}
+use Rattle.indices.specs.Columns.{at}
+use Rattle.indices.specs.Steps.{times}
+use Rattle.indices.specs.Tests.{total}
+use Rattle.indices.proofs.Steps.{if-maps, by-truth, times-keeps, times-maps}
+use Rattle.indices.proofs.Totals.{total-one}
+use Rattle.sheet.specs.Limits.{mostSpans}
+use Rattle.procedure.specs.Graph.{Graph, head}
+use Rattle.procedure.specs.Division.{Division, regions, arcOf, isLeaf, height, level, spanOf}
+use Rattle.procedure.specs.State.{State, label}
+use Rattle.procedure.specs.Queues.{minItem}
+use Rattle.procedure.specs.Procedure.{
+  relax,
+  clearKey,
+  processLeaf,
+  rewriteKey,
+  countAt,
+  countInner,
+  countInnerBefore,
+  countRound,
+  processChild,
+  alive,
+  ended,
+  start,
+  processForBy,
+  processBy,
+  roundBy,
+  afterBy,
+  after,
+}
+use Rattle.theory_shortest.specs.WellFormed.{DivisionOk}
+use Rattle.theory.proofs.Chosen.{chosen-of-key}
+use Rattle.theory.proofs.Process.{sumBy, lowered, relax-elim, alive-key, for-leaf, for-inner}
+use Rattle.theory.proofs.Levels.{level-used}
+
+-- one more at one place is one more in all
+joined-one : (counts : List ℕ) (l : ℕ) → length counts ≡ mostSpans → l < mostSpans
+    → total (at (set counts l (suc (at counts l)))) mostSpans ≡ suc (total (at counts) mostSpans)
+joined-one counts l all in-range =
+    let counts′ = set counts l (suc (at counts l)) in
+    omega (
+      arith,
+      total-one (at counts) (at counts′) l mostSpans in-range (λ i li other. getD-set-other counts l i _ 0 other),
+      getD-set-same counts l (suc (at counts l)) 0 (rw all in-range),
+    )
+
+-- the state with its fifteen counts of inner regions added up, in the place of the first
+abbrev pub joined : State → State
+joined s = record {
+  labels = s .labels;
+  predecessors = s .predecessors;
+  queues = s .queues;
+  rounds = s .rounds;
+  leaves = s .leaves;
+  inner = total (at (s .inner)) mostSpans ∷ replicate (pred mostSpans) 0;
+}
+
+module _ (g : Graph) {m : ℕ} {d : Division} (ok : DivisionOk m d) (spans : List ℕ) (few : height d 0 ≤ mostSpans) where
+  abbrev before : ℕ → State → State
+  before = countInnerBefore g d
+
+  -- THE STEPS
+  relax-joined : (a : ℕ) (s : State) → relax g d a (joined s) ≡ joined (relax g d a s)
+  unfolding relax
+  relax-joined a s = if-maps joined (ltb (sumBy g a s) (label s (head g a))) (lowered g d a s) (lowered g d a (joined s)) s (λ _. refl)
+
+  leaf-joined : (r : ℕ) (s : State) → processLeaf g d r (joined s) ≡ joined (processLeaf g d r s)
+  unfolding processLeaf clearKey
+  leaf-joined r s = ap (clearKey g d (arcOf d r)) (relax-joined (arcOf d r) s)
+
+  count-joined : (r : ℕ) (s : State) → r < regions d → isLeaf d r ≡ false → length (s .inner) ≡ mostSpans
+      → before r (joined s) ≡ joined (countInner g d r s)
+  unfolding countInnerBefore countInner countAt
+  count-joined r s lr inner all = rw (joined-one (s .inner) (level d r) all (omega (arith, level-used g ok r lr inner, few)))
+
+  -- there are always fifteen
+  leaf-fifteen : (r : ℕ) (s : State) → length (s .inner) ≡ mostSpans → length (processLeaf g d r s .inner) ≡ mostSpans
+  unfolding processLeaf clearKey
+  leaf-fifteen r s all = relax-elim (λ t. length (t .inner) ≡ mostSpans) g d (arcOf d r) s (λ _. all) (λ _. all)
+
+  -- WORKING a region, whatever the fuel
+  record Joined (n r : ℕ) (s : State) : Type 0 where
+    fifteen : length (processForBy g d (countInner g d) spans n r s .inner) ≡ mostSpans
+    same : processForBy g d before spans n r (joined s) ≡ joined (processForBy g d (countInner g d) spans n r s)
+
+  -- a child worked, by ways that commute at it
+  child-joined : (go go′ : ℕ → State → State) (r : ℕ) (s : State) → let c = minItem d (s .queues .keys) r in
+      go′ c (joined s) ≡ joined (go c s) → processChild g d go′ r (joined s) ≡ joined (processChild g d go r s)
+  unfolding processChild rewriteKey
+  child-joined go go′ r s e = ap (rewriteKey g d (minItem d (s .queues .keys) r)) e
+
+  child-fifteen : (go : ℕ → State → State) (r : ℕ) (s : State) → length (go (minItem d (s .queues .keys) r) s .inner) ≡ mostSpans
+      → length (processChild g d go r s .inner) ≡ mostSpans
+  unfolding processChild rewriteKey
+  child-fifteen go r s all = all
+
+  count-fifteen : (r : ℕ) (s : State) → length (s .inner) ≡ mostSpans → length (countInner g d r s .inner) ≡ mostSpans
+  unfolding countInner countAt
+  count-fifteen r s all = length-set (s .inner) (level d r) _ ∙ all
+
+  same-alive : (r : ℕ) (s : State) → alive g d r (joined s) ≡ alive g d r s
+  unfolding alive
+  same-alive r s = refl
+
+  -- the first-chosen child of a region that is alive
+  chosen-in : (r : ℕ) (s : State) → isLeaf d r ≡ false → T (alive g d r s) → minItem d (s .queues .keys) r < regions d
+  chosen-in r s inner live = chosen-of-key d (s .queues) r inner (alive-key g d s r live) .child .in-range
+
+  inner-joined : (n r : ℕ) (s : State) → r < regions d → length (s .inner) ≡ mostSpans → isLeaf d r ≡ false
+      → ((c : ℕ) (t : State) → c < regions d → length (t .inner) ≡ mostSpans → Joined n c t) → Joined (suc n) r s
+  inner-joined n r s lr all inner ih =
+      let go = processForBy g d (countInner g d) spans n in
+      let go′ = processForBy g d before spans n in
+      let span = spanOf d spans r in
+      let today = for-inner g d (countInner g d) spans n r s inner in
+      let keep : (t : State) → T (alive g d r t) → length (t .inner) ≡ mostSpans → length (processChild g d go r t .inner) ≡ mostSpans =
+      λ t live p. child-fifteen go r t (ih _ t (chosen-in r t inner live) p .fifteen) in
+      record {
+        fifteen =
+            rw today
+            (times-keeps (λ t. length (t .inner) ≡ mostSpans) (alive g d r) (processChild g d go r) keep span (countInner g d r s) (count-fifteen r s all));
+        same =
+            for-inner g d before spans n r (joined s) inner
+            ∙ ap (times span (alive g d r) (processChild g d go′ r)) (count-joined r s lr inner all)
+            ∙ times-maps (λ t. length (t .inner) ≡ mostSpans) joined (alive g d r) (processChild g d go r) (processChild g d go′ r) (same-alive r) keep
+            (λ t live p. child-joined go go′ r t (ih _ t (chosen-in r t inner live) p .same)) span (countInner g d r s) (count-fifteen r s all)
+            ∙ sym (ap joined today);
+      }
+
+  leaf-whole : (n r : ℕ) (s : State) → length (s .inner) ≡ mostSpans → isLeaf d r ≡ true → Joined n r s
+  leaf-whole n r s all leaf =
+      let today = for-leaf g d (countInner g d) spans n r s leaf in
+      record {
+        fifteen = rw today (leaf-fifteen r s all);
+        same = for-leaf g d before spans n r (joined s) leaf ∙ leaf-joined r s ∙ sym (ap joined today);
+      }
+
+  worked-joined : (n r : ℕ) (s : State) → r < regions d → length (s .inner) ≡ mostSpans → Joined n r s
+  unfolding processForBy
+  worked-joined zero r s lr all = record { fifteen = leaf-fifteen r s all; same = leaf-joined r s }
+  worked-joined (suc n) r s lr all =
+      by-truth (isLeaf d r) (leaf-whole (suc n) r s all) (λ inner. inner-joined n r s lr all inner (λ c t lc p. worked-joined n c t lc p))
+
+  -- A ROUND, and any number of them
+  round-joined : (s : State) → length (s .inner) ≡ mostSpans → roundBy g d before spans (joined s) ≡ joined (roundBy g d (countInner g d) spans s)
+  unfolding roundBy processBy countRound
+  round-joined s all = worked-joined (height d 0) 0 (countRound g d s) (ok .nesting .root) all .same
+
+  round-fifteen : (s : State) → length (s .inner) ≡ mostSpans → length (roundBy g d (countInner g d) spans s .inner) ≡ mostSpans
+  unfolding roundBy processBy countRound
+  round-fifteen s all = worked-joined (height d 0) 0 (countRound g d s) (ok .nesting .root) all .fifteen
+
+  same-ended : (s : State) → not (ended g d (joined s)) ≡ not (ended g d s)
+  unfolding ended
+  same-ended s = ap (λ (live : Bool). not (not live)) (same-alive 0 s)
+
+  start-joined : start g d spans ≡ joined (start g d spans)
+  unfolding start total
+  start-joined = refl
+
+  start-fifteen : length (start g d spans .inner) ≡ mostSpans
+  unfolding start
+  start-fifteen = length-replicate {A = ℕ} mostSpans 0
+
+  -- "one figure for all inner regions": what it was is the sum of the fifteen, and nothing else is another
+  pub after-joined : (k : ℕ) → afterBy g d before spans k ≡ joined (after g d spans k)
+  unfolding afterBy
+  after-joined k =
+      ap (times k (λ s. not (ended g d s)) (roundBy g d before spans)) start-joined
+      ∙ times-maps (λ s. length (s .inner) ≡ mostSpans) joined (λ s. not (ended g d s)) (roundBy g d (countInner g d) spans) (roundBy g d before spans)
+      same-ended (λ s _ p. round-fifteen s p) (λ s _ p. round-joined s p) k (start g d spans) start-fifteen
