@@ -14,7 +14,7 @@ use Rattle.judgement.specs.Judgement.{refusals}
 use Rattle.procedure.specs.OfSheet.{graphOf, divisionOf, spansOf}
 use Rattle.procedure.specs.State.{State, counts}
 use Rattle.procedure.specs.Procedure.{ended as hasEnded, after}
-use Rattle.procedure.specs.Table.{largestLabel, tableOf, innerPlace, countsLength}
+use Rattle.procedure.specs.Table.{largestLabel, tableOf, innerPlace, updatesPlace, countsLength}
 use Rattle.procedure.specs.Routes.{Shortest}
 use Rattle.calls.specs.Calls.{Call, callAnswer, lentAfter}
 use Rattle.calls.specs.Tables.{wrongLength, statusSays, statusIn, countIn, labelIn, labelsIn, predecessorsIn}
@@ -52,6 +52,9 @@ tableAfter b k table = lentAfter (refusals b) (runCall b k table)
 pub record Delivered (b : List ℕ) (k : ℕ) (table : List ℕ) : Type 0 where
   pub status : statusIn table ≡ (if endedAfter b k then 1 else 0)
   pub halves : (i : ℕ) → i < countsLength → countIn table i ≡ at (counts (stateAfter b k)) i
+  -- 2026-02: "The comparison with the published procedure is made level by level.": entry i is for height i + 1; updates stand after all heights
+  pub levels : (i : ℕ) → i < mostSpans → countIn table (innerPlace + i) ≡ at (stateAfter b k .inner) i
+  pub updates : countIn table updatesPlace ≡ stateAfter b k .queues .updates
   pub labels : labelsIn (nodeCount b) table ≡ stateAfter b k .labels
   pub predecessors : predecessorsIn (nodeCount b) table ≡ stateAfter b k .predecessors
   pub small : (i : ℕ) → i < countsLength → at (counts (stateAfter b k)) i < 2 ^ 56

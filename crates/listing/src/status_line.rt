@@ -8,8 +8,8 @@ ghost use Rattle.calls.specs.Tables.{countIn};
 ghost use Rattle.listing.specs.Text.{decimal};
 ghost use Rattle.listing.specs.Listing.{status, levels, inner, statusLine};
 ghost use Rattle.listing.specs.Inner.{Room, Wrote};
-use run_counts::array::INNER;
-use run_counts::array::UPDATES;
+use run_counts::array::INNER_PLACE;
+use run_counts::array::UPDATES_PLACE;
 
 // A count after its name.
 fn put_count(table: &[u32], i: usize, name: &[u8], out: &mut [u8], from: usize) -> usize
@@ -38,7 +38,7 @@ fn put_levels(table: &[u32], spans: usize, out: &mut [u8], from: usize) -> usize
     let mut next = from;
     let mut i = 0;
     while i < spans {
-        next = put_count(table, INNER + i, b" ", out, next);
+        next = put_count(table, INNER_PLACE + i, b" ", out, next);
         i += 1;
     }
     next
@@ -61,6 +61,6 @@ pub fn put_status_line(table: &[u32], spans: usize, out: &mut [u8], from: usize)
     let leaves = put_count(table, 0, b" rounds ", out, rounds);
     let inner = put_count(table, 1, b" leaves ", out, leaves);
     let updates = put_inner(table, spans, out, inner);
-    let end = put_count(table, UPDATES, b" updates ", out, updates);
+    let end = put_count(table, UPDATES_PLACE, b" updates ", out, updates);
     crate::text::put_byte(b'\n', out, end)
 }

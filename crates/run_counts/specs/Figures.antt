@@ -32,7 +32,7 @@ module _ (counts : List ℕ) where
   abbrev pub figuresIn : Figures
   figuresIn = record { rounds = roundsIn; leaves = leavesIn; inner = innerIn; updates = updatesIn }
 
--- the counts that have these figures
+-- the figures one behind the other
 abbrev pub countsOf : Figures → List ℕ
 countsOf f = f .rounds ∷ f .leaves ∷ f .inner ++ (f .updates ∷ [])
 
@@ -40,12 +40,12 @@ countsOf f = f .rounds ∷ f .leaves ∷ f .inner ++ (f .updates ∷ [])
 abbrev pub countsAt : Figures → ℕ → Counts
 countsAt f level = record { rounds = f .rounds; leaves = f .leaves; inner = at (f .inner) level; updates = f .updates }
 
--- a level of the eighteen
-pub record CountsAsked (counts : List ℕ) (level : ℕ) : Type 0 where
+-- there are eighteen counts, and such a level
+pub record HasLevel (counts : List ℕ) (level : ℕ) : Type 0 where
   pub all : length counts ≡ countsLength
   pub in-range : level < mostSpans
 
--- there is such a level, and one more there fits 64 bits
+-- there is such a level, and one more counted there fits 64 bits
 pub record InnerFits (f : Figures) (level : ℕ) : Type 0 where
   pub in-range : level < mostSpans
   pub fits : at (f .inner) level + 1 < 18446744073709551616

@@ -2,37 +2,37 @@
 // as a struct, has them counted by a function over that struct, and puts back what has grown.
 ghost use mathlib.Core.Path.{_≡_};
 ghost use Prim.Native.Nat.{_+_, _<_};
-ghost use Rattle.run_counts.specs.Figures.{figuresIn, countsAt, InnerFits, CountsAsked, started, roundMore, leafMore, innerMore};
+ghost use Rattle.run_counts.specs.Figures.{figuresIn, countsAt, InnerFits, HasLevel, started, roundMore, leafMore, innerMore};
 use crate::Counts;
 
 // The place of each: rounds, leaves, inner regions at each height, updates; in a table they stand in the same order.
-const ROUNDS: usize = 0;
+const ROUNDS_PLACE: usize = 0;
 
-const LEAVES: usize = 1;
+const LEAVES_PLACE: usize = 1;
 
-pub const INNER: usize = 2;
+pub const INNER_PLACE: usize = 2;
 
-pub const UPDATES: usize = INNER + sheet::MOST_SPANS;
+pub const UPDATES_PLACE: usize = INNER_PLACE + sheet::MOST_SPANS;
 
-pub const COUNTS: usize = UPDATES + 1;
+pub const COUNTS: usize = UPDATES_PLACE + 1;
 
 // The four counts at a level, which is a height less one.
 fn counts_at(counts: &[u64], level: usize) -> Counts
-    requires { ⌜ CountsAsked (now counts) level ⌝ }
+    requires { ⌜ HasLevel (now counts) level ⌝ }
     ensures { λ c. ⌜ c ≡ countsAt (figuresIn (now (counts .entry))) level ⌝ }
 {
     Counts {
-        rounds: counts[ROUNDS],
-        leaves: counts[LEAVES],
-        inner: counts[INNER + level],
-        updates: counts[UPDATES],
+        rounds: counts[ROUNDS_PLACE],
+        leaves: counts[LEAVES_PLACE],
+        inner: counts[INNER_PLACE + level],
+        updates: counts[UPDATES_PLACE],
     }
 }
 
 pub fn updates_of(counts: &[u64; COUNTS]) -> u64
     ensures { λ n. ⌜ n ≡ figuresIn (now (counts .entry)) .updates ⌝ }
 {
-    counts[UPDATES]
+    counts[UPDATES_PLACE]
 }
 
 // Nothing is counted but updates, whatever the array held.
@@ -40,7 +40,7 @@ pub fn start(counts: &mut [u64; COUNTS], updates: u64)
     ensures { λ _. ⌜ figuresIn (now (counts .exit)) ≡ started updates ⌝ }
 {
     *counts = [0u64; COUNTS];
-    counts[UPDATES] = updates;
+    counts[UPDATES_PLACE] = updates;
 }
 
 pub fn count_round(counts: &mut [u64; COUNTS])
@@ -48,7 +48,7 @@ pub fn count_round(counts: &mut [u64; COUNTS])
     ensures { λ _. ⌜ figuresIn (now (counts .exit)) ≡ roundMore (figuresIn (now (counts .entry))) ⌝ }
 {
     let c = crate::count_round(counts_at(counts, 0));
-    counts[ROUNDS] = c.rounds;
+    counts[ROUNDS_PLACE] = c.rounds;
 }
 
 // A leaf, with the updates after its working.
@@ -57,8 +57,8 @@ pub fn count_leaf(counts: &mut [u64; COUNTS], updates: u64)
     ensures { λ _. ⌜ figuresIn (now (counts .exit)) ≡ leafMore (figuresIn (now (counts .entry))) updates ⌝ }
 {
     let c = crate::count_leaf(counts_at(counts, 0), updates);
-    counts[LEAVES] = c.leaves;
-    counts[UPDATES] = c.updates;
+    counts[LEAVES_PLACE] = c.leaves;
+    counts[UPDATES_PLACE] = c.updates;
 }
 
 // An inner region, at the level of its height.
@@ -67,5 +67,5 @@ pub fn count_inner(counts: &mut [u64; COUNTS], level: usize)
     ensures { λ _. ⌜ figuresIn (now (counts .exit)) ≡ innerMore (figuresIn (now (counts .entry))) level ⌝ }
 {
     let c = crate::count_inner(counts_at(counts, level));
-    counts[INNER + level] = c.inner;
+    counts[INNER_PLACE + level] = c.inner;
 }

@@ -1,12 +1,12 @@
 // The four counts of a run. "The four counts travel with the run and grow as it goes": they are lent to thin functions, one for each count. The
-// borrow checker covers no function over a struct that is lent, so these are proved by hand, and so are those below, by which a run counts.
+// borrow checker covers no function over a struct that is lent, so these are proved by hand, and so are those below, by which `array` counts.
 pub mod array;
 
 ghost use mathlib.Core.Path.{_≡_};
 ghost use Prim.Native.Nat.{_+_, _<_};
 ghost use Rattle.run_counts.specs.Counted.{roundCounted, leafAdded, innerCounted, updatesSet, leafCounted};
 
-// How much a run has done so far.
+// How much a run has done so far, with the inner regions of one height.
 pub struct Counts {
     pub rounds: u64,
     pub leaves: u64,

@@ -32,7 +32,7 @@ pub fn start(
 )
     requires { ⌜ SomeBlank (now fixed) (now state) (source .0) count ⌝ }
     ensures { λ _. ⌜ ((g : Graph) (d : Division) (spans weights : List ℕ) → Blank g d spans (now (fixed .entry)) weights (source .0) count
-        → Represents g d spans (start g d spans) (now (fixed .entry)) weights (now (state .exit)) (now (winners .exit)) (figuresIn (now (counts .exit)))) ⌝ }
+        → Represents g d spans (start g d) (now (fixed .entry)) weights (now (state .exit)) (now (winners .exit)) (figuresIn (now (counts .exit)))) ⌝ }
 {
     run_queue::building::clear(fixed, winners, count);
     run_arrays::arrays::set_label(state, source, 0);

@@ -163,11 +163,11 @@ module _ (g : Graph) {m : ℕ} {d : Division} (ok : DivisionOk m d) (spans : Lis
   unfolding ended
   same-ended s = ap (λ (live : Bool). not (not live)) (same-alive 0 s)
 
-  start-joined : start g d spans ≡ joined (start g d spans)
+  start-joined : start g d ≡ joined (start g d)
   unfolding start total
   start-joined = refl
 
-  start-fifteen : length (start g d spans .inner) ≡ mostSpans
+  start-fifteen : length (start g d .inner) ≡ mostSpans
   unfolding start
   start-fifteen = length-replicate {A = ℕ} mostSpans 0
 
@@ -177,4 +177,4 @@ module _ (g : Graph) {m : ℕ} {d : Division} (ok : DivisionOk m d) (spans : Lis
   after-joined k =
       ap (times k (λ s. not (ended g d s)) (roundBy g d before spans)) start-joined
       ∙ times-maps (λ s. length (s .inner) ≡ mostSpans) joined (λ s. not (ended g d s)) (roundBy g d (countInner g d) spans) (roundBy g d before spans)
-      same-ended (λ s _ p. round-fifteen s p) (λ s _ p. round-joined s p) k (start g d spans) start-fifteen
+      same-ended (λ s _ p. round-fifteen s p) (λ s _ p. round-joined s p) k (start g d) start-fifteen

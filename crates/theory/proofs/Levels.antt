@@ -68,7 +68,7 @@ module _ (g : Graph) {m : ℕ} {d : Division} (ok : DivisionOk m d) where
   }
 
   module _ (spans : List ℕ) where
-    start-levels : Levelled d (start g d spans)
+    start-levels : Levelled d (start g d)
     unfolding start
     start-levels = record { fifteen = length-replicate {A = ℕ} mostSpans 0; unused = λ i _. zeros mostSpans i }
 
@@ -81,4 +81,4 @@ module _ (g : Graph) {m : ℕ} {d : Division} (ok : DivisionOk m d) where
     pub after-levels : (k : ℕ) → Levelled d (after g d spans k)
     unfolding afterBy
     after-levels k =
-        times-keeps (λ s. Levelled d s) (λ s. not (ended g d s)) (round g d spans) (λ s _ p. round-levels s p) k (start g d spans) start-levels
+        times-keeps (λ s. Levelled d s) (λ s. not (ended g d s)) (round g d spans) (λ s _ p. round-levels s p) k (start g d) start-levels

@@ -63,12 +63,12 @@ module _ {most : ℕ} {g : Graph} {d : Division} {spans : List ℕ} (ok : WellFo
       (λ _. rw (getD-replicate (g .nodes) v top 0 lv) (le-refl top))
 
   -- what the updates of the start change
-  pub start-changes : Outgoing d (g .tails) (g .source) 0 (noKeys g d) (arcs g) (start g d spans .queues)
+  pub start-changes : Outgoing d (g .tails) (g .source) 0 (noKeys g d) (arcs g) (start g d .queues)
   unfolding start
   start-changes = outgoing-changes d (g .tails) (ok .division) (few-arcs ok) (g .source) 0 (noKeys g d) noKeys-sized
 
   -- the columns at the start
-  pub start-shape : Shape g d (start g d spans)
+  pub start-shape : Shape g d (start g d)
   unfolding start
   start-shape = record {
     labelled = length-set (replicate (g .nodes) top) (g .source) 0 ∙ length-replicate (g .nodes) top;
@@ -78,7 +78,7 @@ module _ {most : ℕ} {g : Graph} {d : Division} {spans : List ℕ} (ok : WellFo
   }
 
   -- the invariant at the start
-  pub start-sound : Sound g d Root (start g d spans)
+  pub start-sound : Sound g d Root (start g d)
   unfolding start
   start-sound =
       let o = start-changes in

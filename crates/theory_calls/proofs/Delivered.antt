@@ -116,6 +116,8 @@ module _ (b : List ℕ) (ok : Accepted b) where
     delivered = record {
       status = table-status;
       halves = table-counts;
+      levels = table-levels;
+      updates = table-counts updatesPlace (omega arith) ∙ update-count;
       labels = table-labels;
       predecessors = table-predecessors;
       small = counts-small;

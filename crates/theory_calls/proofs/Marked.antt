@@ -12,7 +12,7 @@ use Rattle.sheet.specs.Sections.{spansFrom, arcsFrom, regionWords}
 use Rattle.sheet.specs.Arcs.{tail, head, arcLength}
 use Rattle.sheet.specs.Heights.{heightIn, heightOf}
 use Rattle.sheet.specs.Regions.{leafWord, parentWord, arcWord}
-use Rattle.sheet.proofs.Samples.{bytesOf, mostOfHallA, hallA, oneNode, turntable, fiveIn, fiveOut}
+use Rattle.sheet.proofs.Samples.{bytesOf, mostOfHallA, hallA, oneNode, uneven, turntable, fiveIn, fiveOut}
 use Rattle.answer.specs.Answer.{input, state, Answer, accepted, ended, paused, route, refused}
 use Rattle.judgement.specs.Form.{wrongSize, outOfOrder, bitSet, nodesOutside, sourceOutside, spansOutside, tooMany}
 use Rattle.judgement.specs.Arcs.{endsOutside, lengthsOutside, crowdedNodes, tooManyAtNode}
@@ -28,6 +28,7 @@ use Rattle.procedure.specs.Procedure.{
   rewriteKey,
   countAt,
   countInner,
+  countInnerBefore,
   countRound,
   processChild,
   alive,
@@ -42,20 +43,22 @@ use Rattle.procedure.specs.Procedure.{
 use Rattle.procedure.specs.Table.{nodeWords, tableOf}
 use Rattle.procedure.specs.Routes.{followed}
 use Rattle.theory_shortest.specs.TableTest.{leadsBack, sourceTest, unfedTest, fedTest, relaxedTest, ledTest, settled?}
-use Rattle.calls.specs.Tables.{tableLength, wrongLength, labelsIn, predecessorsIn}
+use Rattle.calls.specs.Tables.{tableLength, wrongLength, statusSays, statusIn, labelsIn, predecessorsIn}
 use Rattle.calls.specs.Runs.{runAnswer, runTable, tableAfter}
 use Rattle.calls.specs.Routes.{nodeOutside, wrongNode, isPaused, malformed, notShortest, tableRefusals, routeTo, foundRoute, routeAnswer, leftBy, bufferAfter}
+use Rattle.calls.specs.AsBefore.{tableBefore}
 use Rattle.listing.specs.Text.{ascii, lastDigits, decimal}
 use Rattle.listing.specs.Listing.{cell, spaced, status, counted, levels, inner, statusLine, nodeLine, nodeLines, listingOf, refusedLine}
 use Rattle.listing.specs.Printed.{printed}
 
 -- a call as a case names it: to judge a sheet, given by its words; to run it for at most so many rounds, with a table lent; to read the route to a node
--- out of a table, with a buffer lent; and what `marks` does, to run a sheet to its end and print
+-- out of a table, with a buffer lent; what `marks` does, to run a sheet to its end and print; and to run it as it was before request 2026-02
 pub data Task : Type 0 where
   judge : List ℕ → Task
   run : List ℕ → ℕ → List ℕ → Task
   readRoute : List ℕ → List ℕ → ℕ → List ℕ → Task
   print : List ℕ → Task
+  runBefore : List ℕ → ℕ → Task
 
 -- what comes of it: the answer, and the words of what was lent, or the bytes printed
 record Outcome : Type 0 where
@@ -65,6 +68,7 @@ record Outcome : Type 0 where
 abbrev outcome : Task → Outcome
 outcome (judge ws) = record { answer = judgement (bytesOf ws); words = [] }
 outcome (run ws k table) = record { answer = runAnswer (bytesOf ws) k table; words = tableAfter (bytesOf ws) k table }
+outcome (runBefore ws k) = let table = tableBefore (bytesOf ws) k in record { answer = statusSays (statusIn table); words = table }
 outcome (print ws) = record { answer = judgement (bytesOf ws); words = printed (bytesOf ws) }
 outcome (readRoute ws table node buffer) =
     record { answer = routeAnswer (bytesOf ws) table node buffer; words = bufferAfter (bytesOf ws) table node buffer }
@@ -101,11 +105,14 @@ header status rounds leaves first second updates =
     status ∷ 0xb0000000 ∷ rounds ∷ 0xb0000000 ∷ leaves ∷ 0xb0000000 ∷ first ∷ 0xb0000000 ∷ second ∷ replicate 26 0xb0000000
     ++ (0xb0000000 ∷ updates ∷ [])
 
--- A's finished table, node 3 labelled as said
-abbrev finishedA : ℕ → List ℕ
-finishedA label =
-    header 0x80000001 0xb0000003 0xb0000005 0xb0000003 0xb0000003 0xb000000d
+-- A's finished table, with the last word of its counts and the label of node 3 as said; and with the last word that it has
+abbrev finished : ℕ → ℕ → List ℕ
+finished updates label =
+    header 0x80000001 0xb0000003 0xb0000005 0xb0000003 0xb0000003 updates
     ++ (0x90000000 ∷ 0xafffffff ∷ 0x90000003 ∷ 0xa0000002 ∷ 0x90000001 ∷ 0xa0000001 ∷ label ∷ 0xa0000003 ∷ [])
+
+abbrev finishedA : ℕ → List ℕ
+finishedA label = finished 0xb000000d label
 
 -- nodes 1 and 2 joined by zero arcs both ways; and each fed from the other, at 7
 abbrev cutOff : List ℕ
@@ -193,15 +200,30 @@ rows =
     header 0x80000001 0xb0000000 0xb0000000 0xb0000000 0xb0000000 0xb0000000 ++ (0x90000000 ∷ 0xafffffff ∷ [])
     )
     ∷ readRoute oneNode (replicate 11 7) 0 (7 ∷ []) is refused (state 21) leaving (7 ∷ [])
+    -- the last of the words of kind 11 is looked at too
+    ∷ readRoute hallA (finished 0x9000000d 0x90000008) 3 (7 ∷ []) is refused (state 22) leaving (7 ∷ [])
+    -- 2026-02: "The listing prints after `inner` one figure for each span in the sheet": from height 1 up
+    ∷ print uneven is accepted leaving (
+    ascii "ended rounds 1 leaves 2 inner 2 1 1 updates 7\n" ++ ascii "0 0 -\n" ++ ascii "1 1 0\n" ++ ascii "2 1 1\n"
+    )
+    -- before 2026-02: "ended rounds 3 leaves 5 inner 6 updates 13", and "A, k = 1: paused; counts 1, 2, 2, 8; labels 0, 4, unreached, 9."
+    ∷ runBefore hallA enoughRounds is ended leaving (
+    0x80000001 ∷ 0xb0000000 ∷ 0xb0000003 ∷ 0xb0000000 ∷ 0xb0000005 ∷ 0xb0000000 ∷ 0xb0000006 ∷ 0xb0000000 ∷ 0xb000000d
+    ∷ 0x90000000 ∷ 0xafffffff ∷ 0x90000003 ∷ 0xa0000002 ∷ 0x90000001 ∷ 0xa0000001 ∷ 0x90000008 ∷ 0xa0000003 ∷ []
+    )
+    ∷ runBefore hallA 1 is paused leaving (
+    0x80000000 ∷ 0xb0000000 ∷ 0xb0000001 ∷ 0xb0000000 ∷ 0xb0000002 ∷ 0xb0000000 ∷ 0xb0000002 ∷ 0xb0000000 ∷ 0xb0000008
+    ∷ 0x90000000 ∷ 0xafffffff ∷ 0x90000004 ∷ 0xa0000000 ∷ 0x9fffffff ∷ 0xafffffff ∷ 0x90000009 ∷ 0xa0000003 ∷ []
+    )
     ∷ []
 
 pub marked : map (λ row. outcome (row .task)) rows ≡ map (λ row. row .expected) rows
 unfolding any count lead most upTo times column word kind payload top spansFrom arcsFrom regionWords tail head arcLength heightIn heightOf leafWord
-    parentWord arcWord judgement refusalsUnder formRefusals countRefusals arcRefusals divisionRefusals wrongSize outOfOrder bitSet nodesOutside sourceOutside
-    spansOutside tooMany endsOutside lengthsOutside crowdedNodes tooManyAtNode wrongParents wrongLeaves childlessRegions spansDiffer leafOf graphOf
-    divisionOf spansOf before choose minItemBelow minItem minKey write updateFor update updateArc updateOutgoing relax clearKey processLeaf rewriteKey
-    countAt countInner countRound processChild alive hasEnded start processForBy processBy roundBy afterBy nodeWords tableOf wrongLength runAnswer runTable
-    tableAfter all labelsIn predecessorsIn followed leadsBack sourceTest unfedTest fedTest relaxedTest ledTest settled? nodeOutside wrongNode isPaused
-    malformed notShortest tableRefusals routeTo foundRoute routeAnswer leftBy bufferAfter
-    lastDigits decimal cell spaced status counted levels inner statusLine nodeLine nodeLines listingOf refusedLine printed
+    parentWord arcWord judgement refusalsUnder formRefusals countRefusals arcRefusals divisionRefusals wrongSize outOfOrder bitSet nodesOutside
+    sourceOutside spansOutside tooMany endsOutside lengthsOutside crowdedNodes tooManyAtNode wrongParents wrongLeaves childlessRegions spansDiffer leafOf
+    graphOf divisionOf spansOf before choose minItemBelow minItem minKey write updateFor update updateArc updateOutgoing relax clearKey processLeaf
+    rewriteKey countAt countInner countInnerBefore countRound processChild alive hasEnded start processForBy processBy roundBy afterBy nodeWords tableOf
+    wrongLength runAnswer runTable tableAfter tableBefore all labelsIn predecessorsIn followed leadsBack sourceTest unfedTest fedTest relaxedTest ledTest
+    settled? nodeOutside wrongNode isPaused malformed notShortest tableRefusals routeTo foundRoute routeAnswer leftBy bufferAfter lastDigits decimal cell
+    spaced status counted levels inner statusLine nodeLine nodeLines listingOf refusedLine printed
 marked = refl

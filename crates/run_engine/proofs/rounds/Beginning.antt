@@ -34,10 +34,10 @@ startWith g source q = record {
   inner = replicate mostSpans 0;
 }
 
-start-by-updates : (g : Graph) (d : Division) (spans : List ℕ)
-    → startWith g (g .source) (updateOutgoing d (g .tails) (g .source) 0 (noKeys g d)) ≡ start g d spans
+start-by-updates : (g : Graph) (d : Division)
+    → startWith g (g .source) (updateOutgoing d (g .tails) (g .source) 0 (noKeys g d)) ≡ start g d
 unfolding start
-start-by-updates g d spans = refl
+start-by-updates g d = refl
 
 module _ {g : Graph} {d : Division} {spans fixed weights : List ℕ} {source count : ℕ} (B : Blank g d spans fixed weights source count) where
   source-node : source < g .nodes
@@ -50,11 +50,11 @@ module _ {g : Graph} {d : Division} {spans fixed weights : List ℕ} {source cou
   pub start-laid : {winners : List ℕ} → length winners ≡ mostPlaces → LaidOut d fixed winners
   start-laid long = record { planned = B .planned; room = omega (arith, B .fixed-ok .ok .division .few-regions) }
 
-  start-small : Small (start g d spans)
+  start-small : Small (start g d)
   start-small = rw (no-rounds g d spans) at (after-small (B .fixed-ok .ok) few-each-way 0)
 
-  is-start : startWith g source (updateOutgoing d (g .tails) source 0 (noKeys g d)) ≡ start g d spans
-  is-start = ap (λ (v : ℕ). startWith g v (updateOutgoing d (g .tails) v 0 (noKeys g d))) (B .at-source) ∙ start-by-updates g d spans
+  is-start : startWith g source (updateOutgoing d (g .tails) source 0 (noKeys g d)) ≡ start g d
+  is-start = ap (λ (v : ℕ). startWith g v (updateOutgoing d (g .tails) v 0 (noKeys g d))) (B .at-source) ∙ start-by-updates g d
 
   pub start-asks : UpdatingOutgoing g d (noKeys g d) fixed source 0
   start-asks = record {
@@ -77,7 +77,7 @@ module _ {g : Graph} {d : Division} {spans fixed weights : List ℕ} {source cou
     -- the source's arcs are updated, and c is the counts then
     pub begun : {state winners : List ℕ} {n : ℕ}
         → LeavesQueues g d (updateOutgoing d (g .tails) source 0 (noKeys g d)) fixed labelled state winners n
-        → {c : Figures} → c ≡ started n → Represents g d spans (start g d spans) fixed weights state winners c
+        → {c : Figures} → c ≡ started n → Represents g d spans (start g d) fixed weights state winners c
     begun Q counted =
         rw (← is-start, counted)
         (record {

@@ -11,10 +11,10 @@ use Rattle.theory.specs.Counts.{Small}
 use Rattle.theory.proofs.Final.{few-each-way, after-small}
 use Rattle.run_arrays.specs.States.{moreRounds}
 
-pub after-start : (g : Graph) (d : Division) (spans : List ℕ) (limit : ℕ) → moreRounds g d spans limit (start g d spans) ≡ after g d spans limit
+pub after-start : (g : Graph) (d : Division) (spans : List ℕ) (limit : ℕ) → moreRounds g d spans limit (start g d) ≡ after g d spans limit
 unfolding afterBy
 after-start g d spans limit = refl
 
 pub started-small : {g : Graph} {d : Division} {spans : List ℕ} → WellFormed mostArcsEachWay g d spans → (limit : ℕ)
-    → Small (moreRounds g d spans limit (start g d spans))
+    → Small (moreRounds g d spans limit (start g d))
 started-small {g} {d} {spans} ok limit = rw (after-start g d spans limit) (after-small ok few-each-way limit)

@@ -45,7 +45,7 @@ start-requires c κs =
 
 -- THE START leaves the state after no rounds
 started : (c : tie.After-start) → let a = entry (sourced c) .args in let b = a .s .now in let left = c .start .last .1 in
-    Represents (graphOf b) (divisionOf b) (spansOf b) (start (graphOf b) (divisionOf b) (spansOf b)) (a .fixed .now) (a .weights .now)
+    Represents (graphOf b) (divisionOf b) (spansOf b) (start (graphOf b) (divisionOf b)) (a .fixed .now) (a .weights .now)
     (left .0) (left .1 .0) (figuresIn (left .1 .1 .1 .1 .0))
 started c = c .start .ensures _ _ _ _ (blank (sourced c))
 
