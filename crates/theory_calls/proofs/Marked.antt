@@ -196,6 +196,7 @@ rows =
     -- 2026-02: "A table is then 37 + 2n words, which is what 21 checks.": one of the old length, one of the new
     ∷ run oneNode 0 (replicate 11 7) is refused (state 21) leaving replicate 11 7
     ∷ run oneNode 0 (replicate 38 7) is refused (state 21) leaving replicate 38 7
+    ∷ run oneNode 0 (replicate 40 7) is refused (state 21) leaving replicate 40 7
     ∷ run oneNode 0 (replicate 39 7) is ended leaving (
     header 0x80000001 0xb0000000 0xb0000000 0xb0000000 0xb0000000 0xb0000000 ++ (0x90000000 ∷ 0xafffffff ∷ [])
     )
