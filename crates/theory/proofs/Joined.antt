@@ -5,7 +5,7 @@ use mathlib.Core.Bool.{Bool, true, false, not}
 use mathlib.Core.Path.{_≡_, refl, sym, ap, _∙_}
 use mathlib.Core.List.{List, _∷_}
 use native.Mathlib.Omega.{arith}
-use lib.ListN.{length, set, replicate, length-set, length-replicate}
+use lib.ListN.{length, set, replicate}
 use lib.Seq.{getD-set-same, getD-set-other}
 use lib.Dec.{T, ltb}
 use Rattle.indices.specs.Columns.{at}
@@ -38,9 +38,10 @@ use Rattle.procedure.specs.Procedure.{
   after,
 }
 use Rattle.theory_shortest.specs.WellFormed.{DivisionOk}
+use Rattle.theory.specs.Counts.{Levelled}
 use Rattle.theory.proofs.Chosen.{chosen-of-key}
-use Rattle.theory.proofs.Process.{sumBy, lowered, relax-elim, alive-key, for-leaf, for-inner}
-use Rattle.theory.proofs.Levels.{level-used}
+use Rattle.theory.proofs.Process.{sumBy, lowered, alive-key, for-leaf, for-inner}
+use Rattle.theory.proofs.Levels.{level-used, leaf-levels, inner-levels, start-levels, round-levels}
 
 -- one more at one place is one more in all
 joined-one : (counts : List ℕ) (l : ℕ) → length counts ≡ mostSpans → l < mostSpans
@@ -77,19 +78,14 @@ module _ (g : Graph) {m : ℕ} {d : Division} (ok : DivisionOk m d) (spans : Lis
   unfolding processLeaf clearKey
   leaf-joined r s = ap (clearKey g d (arcOf d r)) (relax-joined (arcOf d r) s)
 
-  count-joined : (r : ℕ) (s : State) → r < regions d → isLeaf d r ≡ false → length (s .inner) ≡ mostSpans
+  count-joined : (r : ℕ) (s : State) → r < regions d → isLeaf d r ≡ false → Levelled d s
       → before r (joined s) ≡ joined (countInner g d r s)
   unfolding countInnerBefore countInner countAt
-  count-joined r s lr inner all = rw (joined-one (s .inner) (level d r) all (omega (arith, level-used g ok r lr inner, few)))
-
-  -- there are always fifteen
-  leaf-fifteen : (r : ℕ) (s : State) → length (s .inner) ≡ mostSpans → length (processLeaf g d r s .inner) ≡ mostSpans
-  unfolding processLeaf clearKey
-  leaf-fifteen r s all = relax-elim (λ t. length (t .inner) ≡ mostSpans) g d (arcOf d r) s (λ _. all) (λ _. all)
+  count-joined r s lr inner p = rw (joined-one (s .inner) (level d r) (p .fifteen) (omega (arith, level-used g ok r lr inner, few)))
 
   -- WORKING a region, whatever the fuel
   record Joined (n r : ℕ) (s : State) : Type 0 where
-    fifteen : length (processForBy g d (countInner g d) spans n r s .inner) ≡ mostSpans
+    levels : Levelled d (processForBy g d (countInner g d) spans n r s)
     same : processForBy g d before spans n r (joined s) ≡ joined (processForBy g d (countInner g d) spans n r s)
 
   -- a child worked, by ways that commute at it
@@ -98,14 +94,10 @@ module _ (g : Graph) {m : ℕ} {d : Division} (ok : DivisionOk m d) (spans : Lis
   unfolding processChild rewriteKey
   child-joined go go′ r s e = ap (rewriteKey g d (minItem d (s .queues .keys) r)) e
 
-  child-fifteen : (go : ℕ → State → State) (r : ℕ) (s : State) → length (go (minItem d (s .queues .keys) r) s .inner) ≡ mostSpans
-      → length (processChild g d go r s .inner) ≡ mostSpans
+  child-levels : (go : ℕ → State → State) (r : ℕ) (s : State) → Levelled d (go (minItem d (s .queues .keys) r) s)
+      → Levelled d (processChild g d go r s)
   unfolding processChild rewriteKey
-  child-fifteen go r s all = all
-
-  count-fifteen : (r : ℕ) (s : State) → length (s .inner) ≡ mostSpans → length (countInner g d r s .inner) ≡ mostSpans
-  unfolding countInner countAt
-  count-fifteen r s all = length-set (s .inner) (level d r) _ ∙ all
+  child-levels go r s p = record { fifteen = p .fifteen; unused = p .unused }
 
   same-alive : (r : ℕ) (s : State) → alive g d r (joined s) ≡ alive g d r s
   unfolding alive
@@ -115,49 +107,45 @@ module _ (g : Graph) {m : ℕ} {d : Division} (ok : DivisionOk m d) (spans : Lis
   chosen-in : (r : ℕ) (s : State) → isLeaf d r ≡ false → T (alive g d r s) → minItem d (s .queues .keys) r < regions d
   chosen-in r s inner live = chosen-of-key d (s .queues) r inner (alive-key g d s r live) .child .in-range
 
-  inner-joined : (n r : ℕ) (s : State) → r < regions d → length (s .inner) ≡ mostSpans → isLeaf d r ≡ false
-      → ((c : ℕ) (t : State) → c < regions d → length (t .inner) ≡ mostSpans → Joined n c t) → Joined (suc n) r s
-  inner-joined n r s lr all inner ih =
+  inner-joined : (n r : ℕ) (s : State) → r < regions d → Levelled d s → isLeaf d r ≡ false
+      → ((c : ℕ) (t : State) → c < regions d → Levelled d t → Joined n c t) → Joined (suc n) r s
+  inner-joined n r s lr p inner ih =
       let go = processForBy g d (countInner g d) spans n in
       let go′ = processForBy g d before spans n in
       let span = spanOf d spans r in
       let today = for-inner g d (countInner g d) spans n r s inner in
-      let keep : (t : State) → T (alive g d r t) → length (t .inner) ≡ mostSpans → length (processChild g d go r t .inner) ≡ mostSpans =
-      λ t live p. child-fifteen go r t (ih _ t (chosen-in r t inner live) p .fifteen) in
+      let counted = inner-levels g ok r s lr inner p in
+      let keep : (t : State) → T (alive g d r t) → Levelled d t → Levelled d (processChild g d go r t) =
+      λ t live q. child-levels go r t (ih _ t (chosen-in r t inner live) q .levels) in
       record {
-        fifteen =
-            rw today
-            (times-keeps (λ t. length (t .inner) ≡ mostSpans) (alive g d r) (processChild g d go r) keep span (countInner g d r s) (count-fifteen r s all));
+        levels = rw today (times-keeps (λ t. Levelled d t) (alive g d r) (processChild g d go r) keep span (countInner g d r s) counted);
         same =
             for-inner g d before spans n r (joined s) inner
-            ∙ ap (times span (alive g d r) (processChild g d go′ r)) (count-joined r s lr inner all)
-            ∙ times-maps (λ t. length (t .inner) ≡ mostSpans) joined (alive g d r) (processChild g d go r) (processChild g d go′ r) (same-alive r) keep
-            (λ t live p. child-joined go go′ r t (ih _ t (chosen-in r t inner live) p .same)) span (countInner g d r s) (count-fifteen r s all)
+            ∙ ap (times span (alive g d r) (processChild g d go′ r)) (count-joined r s lr inner p)
+            ∙ times-maps (λ t. Levelled d t) joined (alive g d r) (processChild g d go r) (processChild g d go′ r) (same-alive r) keep
+            (λ t live q. child-joined go go′ r t (ih _ t (chosen-in r t inner live) q .same)) span (countInner g d r s) counted
             ∙ sym (ap joined today);
       }
 
-  leaf-whole : (n r : ℕ) (s : State) → length (s .inner) ≡ mostSpans → isLeaf d r ≡ true → Joined n r s
-  leaf-whole n r s all leaf =
+  leaf-whole : (n r : ℕ) (s : State) → Levelled d s → isLeaf d r ≡ true → Joined n r s
+  leaf-whole n r s p leaf =
       let today = for-leaf g d (countInner g d) spans n r s leaf in
       record {
-        fifteen = rw today (leaf-fifteen r s all);
+        levels = rw today (leaf-levels g ok r s p);
         same = for-leaf g d before spans n r (joined s) leaf ∙ leaf-joined r s ∙ sym (ap joined today);
       }
 
-  worked-joined : (n r : ℕ) (s : State) → r < regions d → length (s .inner) ≡ mostSpans → Joined n r s
+  worked-joined : (n r : ℕ) (s : State) → r < regions d → Levelled d s → Joined n r s
   unfolding processForBy
-  worked-joined zero r s lr all = record { fifteen = leaf-fifteen r s all; same = leaf-joined r s }
-  worked-joined (suc n) r s lr all =
-      by-truth (isLeaf d r) (leaf-whole (suc n) r s all) (λ inner. inner-joined n r s lr all inner (λ c t lc p. worked-joined n c t lc p))
+  worked-joined zero r s lr p = record { levels = leaf-levels g ok r s p; same = leaf-joined r s }
+  worked-joined (suc n) r s lr p =
+      by-truth (isLeaf d r) (leaf-whole (suc n) r s p) (λ inner. inner-joined n r s lr p inner (λ c t lc q. worked-joined n c t lc q))
 
   -- A ROUND, and any number of them
-  round-joined : (s : State) → length (s .inner) ≡ mostSpans → roundBy g d before spans (joined s) ≡ joined (roundBy g d (countInner g d) spans s)
+  round-joined : (s : State) → Levelled d s → roundBy g d before spans (joined s) ≡ joined (roundBy g d (countInner g d) spans s)
   unfolding roundBy processBy countRound
-  round-joined s all = worked-joined (height d 0) 0 (countRound g d s) (ok .nesting .root) all .same
-
-  round-fifteen : (s : State) → length (s .inner) ≡ mostSpans → length (roundBy g d (countInner g d) spans s .inner) ≡ mostSpans
-  unfolding roundBy processBy countRound
-  round-fifteen s all = worked-joined (height d 0) 0 (countRound g d s) (ok .nesting .root) all .fifteen
+  round-joined s p =
+      worked-joined (height d 0) 0 (countRound g d s) (ok .nesting .root) (record { fifteen = p .fifteen; unused = p .unused }) .same
 
   same-ended : (s : State) → not (ended g d (joined s)) ≡ not (ended g d s)
   unfolding ended
@@ -167,14 +155,10 @@ module _ (g : Graph) {m : ℕ} {d : Division} (ok : DivisionOk m d) (spans : Lis
   unfolding start total
   start-joined = refl
 
-  start-fifteen : length (start g d .inner) ≡ mostSpans
-  unfolding start
-  start-fifteen = length-replicate {A = ℕ} mostSpans 0
-
   -- "one figure for all inner regions": what it was is the sum of the fifteen, and nothing else is another
   pub after-joined : (k : ℕ) → afterBy g d before spans k ≡ joined (after g d spans k)
   unfolding afterBy
   after-joined k =
       ap (times k (λ s. not (ended g d s)) (roundBy g d before spans)) start-joined
-      ∙ times-maps (λ s. length (s .inner) ≡ mostSpans) joined (λ s. not (ended g d s)) (roundBy g d (countInner g d) spans) (roundBy g d before spans)
-      same-ended (λ s _ p. round-fifteen s p) (λ s _ p. round-joined s p) k (start g d) start-fifteen
+      ∙ times-maps (λ s. Levelled d s) joined (λ s. not (ended g d s)) (roundBy g d (countInner g d) spans) (roundBy g d before spans)
+      same-ended (λ s _ p. round-levels g ok spans s p) (λ s _ p. round-joined s p) k (start g d) (start-levels g ok spans)

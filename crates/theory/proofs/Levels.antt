@@ -44,13 +44,14 @@ module _ (g : Graph) {m : ℕ} {d : Division} (ok : DivisionOk m d) where
       ) in
       below
 
-  leaf-levels : (r : ℕ) (s : State) → Levelled d s → Levelled d (processLeaf g d r s)
+  -- what every step keeps
+  pub leaf-levels : (r : ℕ) (s : State) → Levelled d s → Levelled d (processLeaf g d r s)
   unfolding processLeaf clearKey
   leaf-levels r s p =
       relax-elim (λ t. Levelled d (clearKey g d (arcOf d r) t)) g d (arcOf d r) s
       (λ _. record { fifteen = p .fifteen; unused = p .unused }) (λ _. record { fifteen = p .fifteen; unused = p .unused })
 
-  inner-levels : (r : ℕ) (s : State) → r < regions d → isLeaf d r ≡ false → Levelled d s → Levelled d (countInner g d r s)
+  pub inner-levels : (r : ℕ) (s : State) → r < regions d → isLeaf d r ≡ false → Levelled d s → Levelled d (countInner g d r s)
   unfolding countAt countInner
   inner-levels r s lr inner p = record {
     fifteen = length-set (s .inner) (level d r) _ ∙ p .fifteen;
@@ -68,11 +69,11 @@ module _ (g : Graph) {m : ℕ} {d : Division} (ok : DivisionOk m d) where
   }
 
   module _ (spans : List ℕ) where
-    start-levels : Levelled d (start g d)
+    pub start-levels : Levelled d (start g d)
     unfolding start
     start-levels = record { fifteen = length-replicate {A = ℕ} mostSpans 0; unused = λ i _. zeros mostSpans i }
 
-    round-levels : (s : State) → Levelled d s → Levelled d (round g d spans s)
+    pub round-levels : (s : State) → Levelled d s → Levelled d (round g d spans s)
     unfolding roundBy countRound
     round-levels s p =
         process-invariant g d spans ok levels-invariant 0 (countRound g d s) (ok .nesting .root) (record { fifteen = p .fifteen; unused = p .unused })
