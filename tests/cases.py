@@ -105,13 +105,13 @@ def held_with_base_limit(family, answered, before, kind):
 def lines_of(vectors, families, answered, kind=lambda answer: answer.split(':')[0], line_of=line_of, before=same):
     """The lines of all vectors and, each once, of the cases of all families, where they are not too many; prints how many there are.
 
-    The vectors are three lists: of the base paper, of 2026-01 and of 2026-02. For a family and a limit of arcs each way, `answered` gives
-    the cases, each with the answer expected and the one stated, or None; `before` gives an answer in the form before 2026-02.
+    The vectors are three lists: of the base paper, of 2026-01 and of the requests since. For a family and a limit of arcs each way, `answered`
+    gives the cases, each with the answer expected and the one stated, or None; `before` gives an answer in the form before 2026-02.
     """
     lines, seen, kinds = [], set(), Counter()
-    base, first, second = vectors
+    base, first, since = vectors
     found = [(family, held_with_base_limit(family, answered, before, kind)) for family in base]
-    found += [(family, held(family, answered, before)) for family in first] + [(family, held(family, answered)) for family in second + families]
+    found += [(family, held(family, answered, before)) for family in first] + [(family, held(family, answered)) for family in since + families]
     for family, cases in found:
         start = len(lines)
         for case, answer in cases:

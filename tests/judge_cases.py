@@ -1,7 +1,8 @@
 """The cases of the judge: a sheet, and the answer expected to it.
 
 The judge of tests/paper.py has to agree with every line of tests/judge_vectors.txt, with the limit of that time, of
-tests/2026-01_vectors.txt and tests/2026-02_vectors.txt, and with each answer that a case states; otherwise the script stops.
+tests/2026-01_vectors.txt, tests/2026-02_vectors.txt and tests/2026-03_vectors.txt, and with each answer that a case states; otherwise the
+script stops.
 """
 import sys
 from itertools import product
@@ -298,6 +299,10 @@ def second_change_vectors():
     return stated_by('2026-02')
 
 
+def third_change_vectors():
+    return stated_by('2026-03')
+
+
 def said(answer):
     return 'refused input %d' % answer if answer else 'accepted'
 
@@ -309,4 +314,4 @@ def answered(family, most_each_way=MOST_EACH_WAY):
 
 
 def lines():
-    return lines_of(([vectors], [first_change_vectors], [second_change_vectors]), FAMILIES, answered)
+    return lines_of(([vectors], [first_change_vectors], [second_change_vectors, third_change_vectors]), FAMILIES, answered)

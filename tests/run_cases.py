@@ -1,23 +1,26 @@
 """The cases of a run: a sheet, a limit of rounds (None for none) and the table's length, and the answer and the table expected, or the refusal.
 
 What is expected comes from tests/procedure.py. It has to agree with every line of tests/limited_vectors.txt and tests/marks_vectors.txt,
-with the limit of that time, of tests/2026-01_vectors.txt and of tests/2026-02_vectors.txt, where tests/before.py says how with the older
-ones, and with each answer that a case states; every ended table has to hold the distances found a second way, and on small halls the run
-without heaps has to make the same tables. Otherwise the script stops.
+with the limit of that time, of tests/2026-01_vectors.txt, of tests/2026-02_vectors.txt and of tests/2026-03_vectors.txt, where
+tests/before.py says how with the older ones, and with each answer that a case states; every ended table has to hold the distances found a
+second way, and as much work as tests/work.py says, and on small halls the run without heaps has to make the same tables. Otherwise the
+script stops.
 """
 import sys
+from collections import Counter
 
 from before import MORE, answer_before, listing_before
-from cases import BASE_EACH_WAY, bytes_in, case_of, change_fields, data, lines_of, stated_in, with_words, words_in
+from cases import BASE_EACH_WAY, bytes_in, case_of, change_fields, counted, data, lines_of, stated_in, with_words, words_in
 from paper import MOST_EACH_WAY, judge
 from procedure import (
     COUNTS, HEADER, MOST_HEIGHT, NONE, Hall, PlainRun, Run, counts_of, distances, printed, shortest, table_of, table_refusal, table_size, tables,
 )
 from sheets import (
-    FAULTS, HALL_A, WIDE, Chance, Parts, alternate, balanced, chain, changed, divided, each_way, flat, halving, high_halls, inner, ladder, leaf,
-    many_chains, one_deep, packed, random_arcs, random_regions, sheet_of, side_by_side, single_children, turntable, uneven_halls, with_faults,
-    woken,
+    FAULTS, HALL_A, WIDE, Chance, Parts, alternate, balanced, beneath, chain, changed, divided, each_way, flat, halving, high_halls, inner,
+    ladder, leaf, many_chains, one_deep, packed, random_arcs, random_regions, sheet_of, side_by_side, single_children, turntable,
+    uneven as uneven_regions, uneven_halls, with_faults, woken,
 )
+from work import Work
 
 MOST_LIMIT = 2**32 - 1
 
@@ -278,7 +281,88 @@ def high():
     yield from (around_the_end(sheet) for sheet in high_halls())
 
 
-FAMILIES = [marked, lengths_of_tables, refused, wide, small, uneven, high, middling, woken_again, full_size, full_size_wide]
+# How much work a run does: all spans 1, and every leaf directly on region 0.
+
+# Nodes 1, 3 and 4 are a ring without length. Nothing leads to nodes 6 and 7, from which the last four arcs lead; node 8 has no arcs.
+NODES = 9
+ARCS = [
+    (0, 1, 4), (0, 2, 1), (2, 1, 2), (1, 3, 0), (3, 4, 0), (4, 1, 0), (4, 4, 0), (2, 2, 3), (1, 5, 2), (1, 5, 2), (2, 5, 6), (5, 0, 9),
+    (6, 1, 1), (6, 7, 0), (7, 6, 0), (7, 7, 5),
+]
+
+# By source, the number of these arcs whose tail is reached.
+TAILS_REACHED = {0: 12, 6: 16, 8: 0}
+
+# The fan with which these arcs are balanced in at most so many heights.
+FANS = {1: 16, 2: 4, 3: 3, 5: 2, 15: 2}
+
+
+def at_the_end(sheet):
+    """A limit one short of the end, one that is just enough, and none."""
+    rounds = rounds_of(sheet)
+    return sheet, [(limit, right(sheet), None) for limit in (rounds - 1, rounds, None) if limit != -1]
+
+
+def raised(height, regions):
+    """A division in as many single children as it takes to a height."""
+    return beneath(height - Hall(divided(NODES, 0, ARCS, regions, lambda h: 1)).heights[0], regions)
+
+
+def by_chance(chance, height):
+    """A division by chance, of at least two heights of its own where there may be two."""
+    while True:
+        regions, own = random_regions(chance, len(ARCS))
+        if min(2, height) <= own <= height:
+            return raised(height, regions)
+
+
+def patient_halls():
+    """All spans are 1: single children, balanced divisions, such by chance, and leaves at different depths."""
+    chance = Chance(19)
+    for height, fan in FANS.items():
+        for source, regions in (
+            (0, single_children(height, len(ARCS))), (6, raised(height, balanced(fan, chance.shuffled(range(len(ARCS)))))),
+            (0, by_chance(chance, height)), (6, by_chance(chance, height)), (8, by_chance(chance, height)),
+        ):
+            yield divided(NODES, source, ARCS, regions, lambda h: 1)
+        arcs = random_arcs(chance, height + 2, 3 * height - 2, [0, 1, 2], 4)
+        yield divided(height + 2, arcs[0][0], arcs, uneven_regions(height), lambda h: 1)
+
+
+def flat_halls():
+    """Every leaf hangs on region 0: small spans, those about the number of arcs whose tail is reached, and the largest."""
+    chance = Chance(20)
+    for source, number in TAILS_REACHED.items():
+        for span in (1, 2, 3, number - 1, number, number + 1, 1_000_000) if number else (1, 2):
+            yield divided(NODES, source, ARCS, chance.shuffled(flat(len(ARCS))), lambda h: span)
+    for span in (1, 2, 1_000_000):
+        yield sheet_of(3, 1, [span])
+
+
+def small_flat_halls():
+    """By chance, with spans 2 and 3, and with few arcs, so that some tails are unreached."""
+    chance = Chance(21)
+    for turn in range(14):
+        nodes = 5 + turn % 4
+        arcs = random_arcs(chance, nodes, nodes + 1, [0, 1, 2, 5])
+        for span in (2, 3):
+            yield divided(nodes, arcs[0][0], arcs, flat(len(arcs)), lambda h: span)
+
+
+def work_done():
+    """Also hall A with both spans 1, and with its spans exchanged."""
+    for source, number in TAILS_REACHED.items():
+        labels = distances(Hall(sheet_of(NODES, source, [1], ARCS, flat(len(ARCS)))))
+        if sum(labels[tail] != NONE for tail, _, _ in ARCS) != number:
+            sys.exit('from node %d another number of tails is reached' % source)
+    good, ends = table_size(4), ([0, 3, 1, 8], [NONE, 2, 1, 3])
+    patient, exchanged = packed(changed(HALL_A, 2, 3 << 28 | 1)), packed(HALL_A[:2] + HALL_A[3:1:-1] + HALL_A[4:])
+    yield patient, [(limit, good, as_marked('ended', [4, 4, 4, 4, 13], *ends)) for limit in (4, None)]
+    yield from (around_the_end(sheet) for sheet in (patient, exchanged, *flat_halls()))
+    yield from (at_the_end(sheet) for sheet in (*patient_halls(), *small_flat_halls()))
+
+
+FAMILIES = [marked, lengths_of_tables, refused, wide, small, uneven, high, middling, woken_again, full_size, full_size_wide, work_done]
 
 
 # The vectors.
@@ -302,6 +386,10 @@ def first_change_vectors():
 
 def second_change_vectors():
     return stated_by('2026-02', 0)
+
+
+def third_change_vectors():
+    return stated_by('2026-03', 0)
 
 
 def marks_vectors():
@@ -354,6 +442,71 @@ def answered(family, most_each_way=MOST_EACH_WAY):
             yield case_of(2, sheet, words=length) if limit is None else case_of(3, sheet, limit, length), answer, stated
 
 
+# What tests/work.py says, held to the tables expected.
+
+def some_tails_unreached(work):
+    return work.reached != work.arcs
+
+
+def all_spans_1(work):
+    """With two heights or more."""
+    return work.ended and work.all_spans_1 and len(work.spans) > 1
+
+
+def no_multiple(work):
+    return work.ended and work.all_on_region_0 and work.reached % work.spans[0] != 0
+
+
+def multiple(work):
+    """Not 0, and of a span above 1."""
+    return work.ended and work.half() == 'flat' and work.reached > 0 and work.reached % work.spans[0] == 0
+
+
+def neither(work):
+    return work.ended and work.half() == 'none'
+
+
+# The kinds of table that there have to be: how many different ones at least, and what tells them.
+KINDS = {
+    'all spans 1': (120, all_spans_1),
+    'all spans 1, some tails unreached': (50, lambda work: all_spans_1(work) and some_tails_unreached(work)),
+    'flat, no multiple': (90, no_multiple),
+    'flat, no multiple, some tails unreached': (35, lambda work: no_multiple(work) and some_tails_unreached(work)),
+    'flat, a multiple': (40, multiple),
+    'flat, a multiple, some tails unreached': (10, lambda work: multiple(work) and some_tails_unreached(work)),
+    'flat, span 1': (80, lambda work: work.ended and work.half() == 'both'),
+    'neither, other leaves': (80, lambda work: neither(work) and work.leaves != work.reached),
+    'neither, 5 leaves for 4 arcs as in hall A': (1, lambda work: neither(work) and (work.leaves, work.reached) == (5, 4)),
+    'neither, the same leaves, other rounds': (200, lambda work: neither(work) and work.rounds != work.leaves == work.reached),
+    'paused, all spans 1, not so': (500, lambda work: not work.ended and work.all_spans_1 and not work.both_equal()),
+    'paused, flat, not so': (450, lambda work: not work.ended and work.all_on_region_0 and not work.divided_by_the_span()),
+}
+
+
+def tables_in(lines):
+    """The sheets and tables of the cases in which a table is left, each pair once."""
+    pairs = {(case.split()[4], line.split()[1]) for case, line in lines if ' ' in line}
+    return [(bytes_in(sheet), words_in(words)) for sheet, words in sorted(pairs)]
+
+
+def hold_work(lines):
+    """Stops where an ended table does not hold as much work as is said, or where there are too few tables of a kind."""
+    found = Counter()
+    for sheet, table in tables_in(lines):
+        work = Work(sheet, table)
+        if work.ended:
+            found['held: ' + work.half()] += 1
+            if not work.holds() or not work.no_fewer():
+                sys.exit('%d rounds, %d leaves, %d arcs with a tail reached: %s' % (work.rounds, work.leaves, work.reached, sheet.hex()[:300]))
+        found.update(kind for kind, (_, tells) in KINDS.items() if tells(work))
+    print('different tables: ' + counted(found))
+    few = [kind for kind, (least, _) in KINDS.items() if found[kind] < least]
+    if few:
+        sys.exit('too few tables: %s' % few)
+
+
 def lines():
-    vectors = [limited_vectors, marks_vectors], [first_change_vectors], [second_change_vectors]
-    return lines_of(vectors, FAMILIES, answered, before=answer_before)
+    vectors = [limited_vectors, marks_vectors], [first_change_vectors], [second_change_vectors, third_change_vectors]
+    found = lines_of(vectors, FAMILIES, answered, before=answer_before)
+    hold_work(found)
+    return found

@@ -268,6 +268,11 @@ def balanced(fan, order):
     return regions
 
 
+def beneath(singles, regions):
+    """A division in the last of so many inner regions, each in the one before it."""
+    return [inner(parent) for parent in range(singles)] + [word + (singles << 11 if word >> 28 == 7 else singles) for word in regions]
+
+
 def random_arcs(chance, nodes, count, lengths, ways=2):
     """At most so many ways from and to each node, with lengths from a list."""
     return [(tail, head, lengths[chance.below(len(lengths))]) for tail, head in random_ends(chance, nodes, count, ways)]

@@ -97,6 +97,7 @@ fn each_of_a_request(request: &str, era: Era, call: &str, holds: impl Fn(Era, &[
 fn each_of_the_requests(call: &str, holds: impl Fn(Era, &[String])) {
     each_of_a_request("2026-01", Era { judge: accepted, one_inner: true }, call, &holds);
     each_of_a_request("2026-02", Era { judge: accepted, one_inner: false }, call, &holds);
+    each_of_a_request("2026-03", Era { judge: accepted, one_inner: false }, call, &holds);
 }
 
 fn judge_holds(era: Era, case: &[String]) {

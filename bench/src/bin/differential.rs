@@ -1,7 +1,8 @@
 //! The four proved calls against the independent program, on generated sheets: `differential [CASES] [SEED]`.
 //!
-//! Compared are the answers, every word of the tables and buffers lent and of the words around them, and that a refusal changed nothing. Ends with 1
-//! at the first difference, or if a refusal number, an answer or a number of arcs one way was never seen, or no inner region of some height was worked.
+//! Compared are the answers, every word of the tables and buffers lent and of the words around them, and that a refusal changed nothing. Every table
+//! left as ended is held to request 2026-03. Ends with 1 at the first difference, or if a refusal number, an answer, a number of arcs one way or a sort
+//! of ended tables was never seen, or no inner region of some height was worked.
 
 use bench::generate::random::Random;
 use bench::generate::{damage, sheets, tables};
@@ -9,6 +10,7 @@ use bench::proved;
 use bench::reference::judge::{accepted, Judged, MOST_EACH_WAY};
 use bench::reference::sheet::{words, Sheet};
 use bench::reference::table::{self, HEIGHTS};
+use bench::reference::work::Work;
 use bench::reference::{self, Answer};
 use std::collections::{BTreeMap, BTreeSet};
 use std::fmt::Write;
@@ -24,8 +26,26 @@ struct Difference(String);
 
 type Outcome = Result<(), Difference>;
 
+/// Sorts of ended tables, by what request 2026-03 says of them.
+const SORTS: [(&str, fn(&Work) -> bool); 11] = [
+    ("all", |_| true),
+    ("no reached arc", |work| work.reached == 0),
+    ("all spans 1", |work| work.spans_are_1),
+    ("all spans 1, two or more heights", |work| work.spans_are_1 && work.heights > 1),
+    ("flat", |work| work.flat.is_some()),
+    ("flat, the reached arcs no multiple of the span", |work| work.flat.is_some_and(|span| work.reached % span != 0)),
+    ("flat, the reached arcs above the span and no multiple of it", |work| {
+        work.flat.is_some_and(|span| work.reached % span != 0 && work.reached > span)
+    }),
+    ("flat, with an unreached tail", |work| work.flat.is_some() && work.reached < work.arcs),
+    ("flat, the span above 1 and within 1 of the reached arcs", |work| work.flat.is_some_and(|span| span > 1 && span.abs_diff(work.reached) <= 1)),
+    ("neither", |work| !work.spoken_of()),
+    ("neither, leaves differ from the reached arcs", |work| !work.spoken_of() && work.leaves != work.reached),
+];
+
 /// How often each call gave each answer: the number of a route stands for routes of any length. How many sheets there were of each sort, and by the
 /// most arcs that a node has one way, how many accepted ones and how many refused as 10. How many finished tables have a figure above 0 at each height.
+/// How many ended tables there were of each of `SORTS`.
 #[derive(Default)]
 struct Tally {
     answers: BTreeMap<(&'static str, u32), u64>,
@@ -33,6 +53,7 @@ struct Tally {
     accepted: BTreeMap<usize, u64>,
     crowded: BTreeMap<usize, u64>,
     worked: [u64; HEIGHTS],
+    ended: [u64; SORTS.len()],
 }
 
 impl Tally {
@@ -55,6 +76,12 @@ impl Tally {
         }
     }
 
+    fn count_work(&mut self, work: &Work) {
+        for (tables, (_, is_of)) in self.ended.iter_mut().zip(SORTS) {
+            *tables += is_of(work) as u64;
+        }
+    }
+
     fn print(&self) {
         for (kind, count) in &self.sheets {
             println!("sheets {kind}: {count}");
@@ -64,6 +91,9 @@ impl Tally {
             println!("{judged}, by the most arcs that a node has one way: {}", parts.join(", "));
         }
         println!("finished tables with inner regions worked at heights 1 to {HEIGHTS}: {}", self.worked.map(|tables| tables.to_string()).join(", "));
+        for (tables, (sort, _)) in self.ended.iter().zip(SORTS) {
+            println!("ended tables, {sort}: {tables}");
+        }
         for call in ["judge", "run", "run_limited", "route"] {
             let answers = self.answers.iter().filter(|((of, _), _)| *of == call);
             let parts: Vec<String> = answers.map(|((_, code), count)| format!("{} {count}", named(*code))).collect();
@@ -72,14 +102,15 @@ impl Tally {
         println!("calls compared: {}", self.answers.values().sum::<u64>());
     }
 
-    /// The numbers, answers, numbers of arcs one way and worked heights that were never seen.
+    /// The numbers, answers, numbers of arcs one way, worked heights and sorts of ended tables that were never seen.
     fn unseen(&self) -> Vec<String> {
         let wanted = (1..=15).chain(21..=25).chain(256..=259).chain([65_536]);
         let answers = wanted.filter(|code| !self.answers.keys().any(|(_, seen)| seen == code)).map(named);
         let seen: BTreeSet<_> = self.accepted.keys().chain(self.crowded.keys()).collect();
         let arcs = (0..=MOST_EACH_WAY + 2).filter(|most| !seen.contains(most)).map(|most| ways(most) + " arcs one way");
         let heights = (0..HEIGHTS).filter(|at| self.worked[*at] == 0).map(|at| format!("workings at height {}", at + 1));
-        answers.chain(arcs).chain(heights).collect()
+        let sorts = SORTS.iter().zip(self.ended).filter(|(_, tables)| *tables == 0).map(|((sort, _), _)| format!("ended tables, {sort}"));
+        answers.chain(arcs).chain(heights).chain(sorts).collect()
     }
 }
 
@@ -262,7 +293,9 @@ impl Trial<'_> {
         let lent = Lent::new(length, self.random);
         let bytes = self.bytes;
         let told = || format!("with a table of {length} words");
-        compared("run", told, lent, self.tally, |table| proved::run(bytes, table), |table| reference::run(bytes, table)).map(|(_, table)| table)
+        let (answer, table) = compared("run", told, lent, self.tally, |table| proved::run(bytes, table), |table| reference::run(bytes, table))?;
+        self.held("run", told, answer, &table)?;
+        Ok(table)
     }
 
     fn run_limited(&mut self, rounds: u32, length: usize) -> Result<(Answer, Vec<u32>), Difference> {
@@ -270,7 +303,25 @@ impl Trial<'_> {
         let bytes = self.bytes;
         let told = || format!("for {rounds} rounds with a table of {length} words");
         let of_proved = |table: &mut [u32]| proved::run_limited(bytes, rounds, table);
-        compared("run_limited", told, lent, self.tally, of_proved, |table| reference::run_limited(bytes, rounds, table))
+        let (answer, table) = compared("run_limited", told, lent, self.tally, of_proved, |table| reference::run_limited(bytes, rounds, table))?;
+        self.held("run_limited", told, answer, &table)?;
+        Ok((answer, table))
+    }
+
+    /// Holds a table that the proved call has left as ended to request 2026-03.
+    fn held(&mut self, call: &str, told: impl Fn() -> String, answer: Answer, table: &[u32]) -> Outcome {
+        if answer != Answer::Ended {
+            return Ok(());
+        }
+        let sheet = Sheet::in_order(words(self.bytes));
+        let Some(work) = sheet.and_then(|sheet| Work::of(&sheet, table)) else {
+            return Err(Difference(format!("{call} {}: the table of an ended run is not ended", told())));
+        };
+        self.tally.count_work(&work);
+        match work.holds() && work.no_fewer() {
+            true => Ok(()),
+            false => Err(Difference(format!("{call} {}: {} rounds, {} leaves, {} reached arcs", told(), work.rounds, work.leaves, work.reached))),
+        }
     }
 
     fn route(&mut self, table: &[u32], node: u32, room: usize) -> Result<Answer, Difference> {
@@ -310,6 +361,7 @@ fn sheet_of(random: &mut Random) -> (&'static str, Vec<u8>) {
         450 if random.once_in(3) => ("accepted, full size", sheets::bytes(&sheets::full(random))),
         451 if random.once_in(3) => ("damaged, full size", damage::damaged(sheets::full(random), random)),
         450..=899 => ("damaged", damage::damaged(sheets::any(random), random)),
+        900..=929 => ("accepted, flat, spans near the arcs", sheets::bytes(&sheets::flat(random))),
         _ => ("noise", sheets::noise(random)),
     }
 }

@@ -9,6 +9,7 @@ pub enum Spans {
     One,
     Random,
     Million,
+    UpTo(usize),
 }
 
 pub const SPANS: [Spans; 3] = [Spans::One, Spans::Random, Spans::Million];
@@ -22,6 +23,7 @@ impl Spans {
                 1 + random.below(most) as u32
             }
             Spans::Million => 1_000_000,
+            Spans::UpTo(most) => 1 + random.below(most) as u32,
         }
     }
 }
@@ -52,6 +54,13 @@ pub fn any(random: &mut Random) -> Vec<u32> {
     let nesting = random.pick(&NESTINGS);
     let division = nesting.of(hall.arcs.len(), random);
     words(&hall, &division, random.pick(&SPANS), random)
+}
+
+/// An accepted sheet, small and flat, with a span from 1 to a little above the number of arcs.
+pub fn flat(random: &mut Random) -> Vec<u32> {
+    let hall = halls::any(12, random);
+    let division = Nesting::Flat.of(hall.arcs.len(), random);
+    words(&hall, &division, Spans::UpTo(hall.arcs.len() + 2), random)
 }
 
 /// A sheet of the benchmark: a hall, a division and spans of these kinds.

@@ -6,6 +6,7 @@ pub mod procedure;
 pub mod route;
 pub mod sheet;
 pub mod table;
+pub mod work;
 
 use judge::{accepted, Judged};
 

@@ -3,6 +3,7 @@ use Prim.Native.Nat.{ℕ}
 use mathlib.Core.Bool.{Bool, true, false, cond}
 use mathlib.Core.Path.{_≡_, refl, sym, ap, _∙_}
 use mathlib.Core.List.{List, [], _∷_}
+use native.Mathlib.Omega.{arith}
 use borrow.Author.Tests.{eq-eqb, eqb-true, not-false}
 use lib.ListN.{length}
 use Rattle.indices.specs.Steps.{if_then_else_}
@@ -27,6 +28,11 @@ status-answers false = refl
 status-says : (b : Bool) → statusSays (if b then 1 else 0) ≡ (if b then ended else paused)
 status-says true = refl
 status-says false = refl
+
+-- a status of 1 is 'ended'
+pub status-ended : (b : Bool) → _≡_ {A = ℕ} (if b then 1 else 0) 1 → b ≡ true
+status-ended true e = refl
+status-ended false e = absurd (omega arith)
 
 pub table-says : (b : List ℕ) (k : ℕ) → statusSays (statusIn (runTable b k)) ≡ (if endedAfter b k then ended else paused)
 unfolding runTable

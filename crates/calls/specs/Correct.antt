@@ -28,7 +28,8 @@ pub record Correct (b : List ℕ) : Type 0 where
   -- a run call with a table of the right length leaves that table, and answers as it says
   pub leaves : (k : ℕ) (table : List ℕ) → length table ≡ tableLength (nodeCount b)
       → (runAnswer b k table ≡ statusSays (statusIn (runTable b k))) × (tableAfter b k table ≡ runTable b k)
-  -- after any number of rounds the table is what those rounds have reached, every count is below 2^56, and a table left as ended is shortest
+  -- after any number of rounds the table is what those rounds have reached, every count is below 2^56, and a table left as ended is shortest, and shows as
+  -- much work as request 2026-03 says
   pub tells : (k : ℕ) → Delivered b k (runTable b k)
   -- any two accepted sheets with the same nodes, source and arcs have the same distances and unreached nodes in their tables left as ended
   pub agrees : (b′ : List ℕ) → Accepted b′ → hallWords b ≡ hallWords b′ → (k k′ : ℕ) → statusIn (runTable b k) ≡ 1 → statusIn (runTable b′ k′) ≡ 1

@@ -18,6 +18,7 @@ use Rattle.procedure.specs.Table.{largestLabel, tableOf, innerPlace, updatesPla
 use Rattle.procedure.specs.Routes.{Shortest}
 use Rattle.calls.specs.Calls.{Call, callAnswer, lentAfter}
 use Rattle.calls.specs.Tables.{wrongLength, statusSays, statusIn, countIn, labelIn, labelsIn, predecessorsIn}
+use Rattle.calls.specs.Work.{Work}
 
 -- "A run limited to k rounds stops after k rounds or when it has ended, whichever comes first". The run to its end is the run limited to 2^56 rounds.
 abbrev pub stateAfter : List ℕ → ℕ → State
@@ -63,3 +64,5 @@ pub record Delivered (b : List ℕ) (k : ℕ) (table : List ℕ) : Type 0 where
   -- "The largest label is 1,023 × 262,143", but for 'unreached'
   pub bounded : (v : ℕ) → v < nodeCount b → (labelIn table v ≡ top) ⊎ (labelIn table v ≤ largestLabel)
   pub shortest : statusIn table ≡ 1 → Shortest (graphOf b) (labelsIn (nodeCount b) table) (predecessorsIn (nodeCount b) table)
+  -- 2026-03: "How much work the patient candidate does.", and the one whose leaves all hang on region 0, where the table is left as ended
+  pub work : Work b table

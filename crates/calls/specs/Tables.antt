@@ -38,6 +38,13 @@ module _ (table : List ℕ) where
   abbrev pub countIn : ℕ → ℕ
   countIn i = payloadIn (1 + 2 * i) * payloads + payloadIn (2 + 2 * i)
 
+  -- "rounds, leaves worked": the first two
+  abbrev pub roundsIn : ℕ
+  roundsIn = countIn 0
+
+  abbrev pub leavesIn : ℕ
+  leavesIn = countIn 1
+
   -- "Then per node a kind 9 word, its label, and a kind 10 word, its feeding arc."
   abbrev pub labelIn : ℕ → ℕ
   labelIn v = payloadIn (headerLength + 2 * v)

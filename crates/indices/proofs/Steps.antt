@@ -83,6 +83,12 @@ by-truth b holds fails = ⊎-elim holds fails (true-or-false b)
 pub below-suc {κ} : (P : ℕ → Type κ) (n : ℕ) → ((i : ℕ) → i < n → P i) → P n → (i : ℕ) → i < suc n → P i
 below-suc P n f p i l = by-equal i n (λ e. rw e p) (λ ne. f i (omega arith))
 
+-- up to n steps were made, one at least, and all n of them where the steps would still go on
+pub record Stepped (n before after : ℕ) (goes-on : Type 0) : Type 0 where
+  pub some : before < after
+  pub no-more : after ≤ before + n
+  pub all : goes-on → after ≡ before + n
+
 module _ {ℓ κ} {S : Type ℓ} where
   pub upTo-keeps : (P : ℕ → S → Type κ) (f : ℕ → S → S) (s : S) (n : ℕ) → P zero s → ((i : ℕ) (t : S) → i < n → P i t → P (suc i) (f i t)) → P n (upTo n f s)
   unfolding upTo
@@ -111,6 +117,30 @@ module _ {ℓ κ} {S : Type ℓ} where
   times-rise P m test f keep rise (suc n) s p =
       if-elim (λ (r : S). T (test r) → m s + suc n ≤ m r) (test s)
       (λ go t. omega (arith, rise s go p, times-rise P m test f keep rise n (f s) (keep s go p) t)) (λ stop t. absurd (T-not (test s) stop t))
+
+  -- Where f raises m by one, up to n steps raise it by at most n.
+  times-most : (P : S → Type κ) (m : S → ℕ) (test : S → Bool) (f : S → S)
+      → ((s : S) → T (test s) → P s → P (f s)) → ((s : S) → T (test s) → P s → m (f s) ≡ suc (m s))
+      → (n : ℕ) (s : S) → P s → m (times n test f s) ≤ m s + n
+  unfolding times
+  times-most P m test f keep raise zero s p = omega arith
+  times-most P m test f keep raise (suc n) s p =
+      if-elim (λ (t : S). m t ≤ m s + suc n) (test s)
+      (λ go. omega (arith, raise s go p, times-most P m test f keep raise n (f s) (keep s go p))) (λ _. omega arith)
+
+  -- Then m tells how many steps were made: one at least where the test holds at first, and n where it still holds at the end.
+  pub times-stepped : (P : S → Type κ) (m : S → ℕ) (test : S → Bool) (f : S → S)
+      → ((s : S) → T (test s) → P s → P (f s)) → ((s : S) → T (test s) → P s → m (f s) ≡ suc (m s))
+      → (n : ℕ) (s : S) → 0 < n → T (test s) → P s → Stepped n (m s) (m (times n test f s)) (T (test (times n test f s)))
+  times-stepped P m test f keep raise n s pos t p =
+      let rise : (u : S) → T (test u) → P u → m u < m (f u) = λ u go q. omega (arith, raise u go q) in
+      let moved = times-reach (λ u. P u × (m s ≤ m u)) (λ u. P u × (m s < m u)) test f
+      (λ u go q. (keep u go (q .0), omega (arith, q .1, raise u go (q .0)))) (λ u q. (q .0, omega (arith, q .1))) n s pos t (p, omega arith) in
+      record {
+        some = moved .1;
+        no-more = times-most P m test f keep raise n s p;
+        all = λ still. omega (arith, times-most P m test f keep raise n s p, times-rise P m test f keep rise n s p still);
+      }
 
   -- A map h under which the test and, where it holds, the step commute: so do the steps up to n times. P says of which states this is so.
   pub times-maps : (P : S → Type κ) (h : S → S) (test : S → Bool) (f f′ : S → S) → ((s : S) → test (h s) ≡ test s)

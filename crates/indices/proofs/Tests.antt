@@ -6,9 +6,10 @@ use mathlib.Core.Logic.{⊎-elim}
 use native.Mathlib.Nat.{eq-or-lt-of-le, le-of-suc-le-suc, not-suc-le-zero}
 use native.Mathlib.Numerals.{add-one}
 use native.Mathlib.Omega.{arith}
-use borrow.Author.Tests.{eq-eqb, not-true, not-false}
-use lib.Dec.{eqb}
+use borrow.Author.Tests.{eq-eqb, ne-eqb, lt-ltb, le-ltb, not-true, not-false}
+use lib.Dec.{ltb, eqb}
 use Rattle.indices.specs.Tests.{all, any, count, lead}
+use Rattle.indices.proofs.Steps.{by-equal}
 
 -- TRUTH VALUES
 pub or-left : (a b : Bool) → a || b ≡ false → a ≡ false
@@ -25,6 +26,11 @@ neither a b ea eb = rw (ea, eb)
 -- a test that asks for another number does not apply
 pub right-kind : (x kind : ℕ) → x ≡ kind → not (eqb x kind) ≡ false
 right-kind x kind e = rw (eq-eqb x kind e)
+
+-- what is at most n is below n where it is not equal to it
+pub not-equal-below : (x n : ℕ) → x ≤ n → not (eqb x n) ≡ ltb x n
+not-equal-below x n l =
+    by-equal x n (λ e. ap not (eq-eqb x n e) ∙ sym (le-ltb x n (omega arith))) (λ w. ap not (ne-eqb x n w) ∙ sym (lt-ltb x n (omega arith)))
 
 pub and-left : (a b : Bool) → a && b ≡ true → a ≡ true
 and-left true b e = refl

@@ -2,11 +2,11 @@
 use Prim.Native.Nat.{ℕ, zero, suc, _+_, _*_, _≤_, _<_}
 use mathlib.Core.Bool.{Bool, true, false, cond}
 use mathlib.Core.Path.{_≡_, refl, sym, ap}
-use mathlib.Core.Logic.{_≢_, _⊎_, ⊎-elim}
-use native.Mathlib.Nat.{le-refl}
+use mathlib.Core.Logic.{_≢_, _⊎_, inl, ⊎-elim}
 use native.Mathlib.Omega.{arith}
 use Rattle.indices.specs.Tests.{count, total}
 use Rattle.indices.proofs.Steps.{by-equal}
+use Rattle.indices.proofs.Tests.{count-out-all}
 
 pub total-same : (f g : ℕ → ℕ) (n : ℕ) → ((i : ℕ) → i < n → g i ≡ f i) → total g n ≡ total f n
 unfolding total
@@ -43,10 +43,6 @@ count-one p p′ k n l e =
       total-one (λ i. cond (p i) 1 0) (λ i. cond (p′ i) 1 0) k n l (λ i li ni. ap (λ (b : Bool). cond b 1 0) (e i li ni)),
     )
 
--- no index passes
-pub count-zero : (p : ℕ → Bool) (n : ℕ) → ((i : ℕ) → i < n → p i ≡ false) → count p n ≡ 0
-count-zero p n e = omega (arith, count-total p n, total-le (λ i. cond (p i) 1 0) n 0 (λ i l. rw (e i l) (le-refl 0)))
-
 -- what passes p′ passes p or h
 pub count-join : (p h p′ : ℕ → Bool) (n : ℕ) → ((i : ℕ) → i < n → p′ i ≡ true → (p i ≡ true) ⊎ (h i ≡ true)) → count p′ n ≤ count p n + count h n
 unfolding count
@@ -56,6 +52,10 @@ count-join p h p′ (suc n) e = omega (arith, count-join p h p′ n (λ i l t. e
     at : (x y z : Bool) → (x ≡ true → (y ≡ true) ⊎ (z ≡ true)) → cond x 1 0 ≤ cond y 1 0 + cond z 1 0
     at false y z f = omega arith
     at true y z f = ⊎-elim (λ (w : y ≡ true). rw w (omega arith)) (λ (w : z ≡ true). rw w (omega arith)) (f refl)
+
+-- what passes p′ passes p
+pub count-within : (p p′ : ℕ → Bool) (n : ℕ) → ((i : ℕ) → i < n → p′ i ≡ true → p i ≡ true) → count p′ n ≤ count p n
+count-within p p′ n e = omega (arith, count-join p (λ _. false) p′ n (λ i l t. inl (e i l t)), count-out-all (λ _. false) n (λ i l. refl))
 
 -- p′ is passed by what passes p or h, and nothing passes both
 pub count-sum : (p h p′ : ℕ → Bool) (n : ℕ) → ((i : ℕ) → cond (p′ i) 1 0 ≡ cond (p i) 1 0 + cond (h i) 1 0) → count p′ n ≡ count p n + count h n

@@ -1,24 +1,24 @@
 -- What an accepted sheet ensures: none of the refusals applies to it, and what each of them says then.
-use Prim.Native.Nat.{ℕ, _<_, _≤_}
+use Prim.Native.Nat.{ℕ, suc, _<_, _≤_}
 use mathlib.Core.Bool.{Bool, true, false, _||_}
 use mathlib.Core.List.{List}
 use mathlib.Core.Path.{_≡_}
-use borrow.Author.Tests.{ltb-false, leb-false, eqb-true, ne-eqb, not-false}
+use borrow.Author.Tests.{ltb-false, leb-false, eqb-true, eqb-false, ne-eqb, not-false}
 use native.Mathlib.Omega.{arith}
 use lib.Dec.{ltb, eqb}
 use Rattle.indices.specs.Tests.{any, count}
 use Rattle.indices.proofs.Steps.{by-order}
-use Rattle.indices.proofs.Tests.{any-at, or-left, or-right, count-out-all}
+use Rattle.indices.proofs.Tests.{any-at, or-left, or-right, count-out-all, count-some}
 use Rattle.sheet.specs.Limits.{mostNodes, mostSpans, mostSpan, mostArcs, mostRegionWords, mostLength, mostArcsEachWay}
 use Rattle.sheet.specs.Words.{words, kind}
 use Rattle.sheet.specs.Sections.{nodeCount, source, spanCount, span, arcCount, regionWords}
 use Rattle.sheet.specs.Arcs.{tail, head, arcLength, endOf}
 use Rattle.sheet.specs.Inner.{Nesting}
-use Rattle.sheet.specs.Regions.{regionCount, leafWord, arcWord, isLeaf, parent, height}
+use Rattle.sheet.specs.Regions.{regionCount, leafWord, parentWord, arcWord, isLeaf, parent, height}
 use Rattle.answer.proofs.Lowest.{clear-of}
 use Rattle.judgement.specs.Form.{wrongFront, noRegionWord, outOfOrder, nodesOutside, sourceOutside, spanOutside, spansOutside, tooMany}
 use Rattle.judgement.specs.Arcs.{endsOutside, tooLong, lengthsOutside, endsAt, tooManyAtNode}
-use Rattle.judgement.specs.Division.{wrongParents, noSuchArc, leafOfArc, notOneLeaf, wrongLeaves, childlessRegions, spansDiffer}
+use Rattle.judgement.specs.Division.{wrongParents, noSuchArc, leafOfArc, notOneLeaf, wrongLeaves, childOf, childless, childlessRegions, spansDiffer}
 use Rattle.judgement.specs.Judgement.{formRefusals, countRefusals, arcRefusals, divisionRefusals, refusalsUnder, refusals, judgement, Accepted}
 use Rattle.judgement.proofs.Parents as parents
 use Rattle.judgement.proofs.Clear as clear
@@ -126,6 +126,16 @@ module _ (b : List ℕ) (ok : Accepted b) where
 
   pub children-there : childlessRegions (regionWords b) ≡ false
   children-there = none .children
+
+  -- 13. the region of word k, if it is inner, is the parent of another
+  pub has-child : (k : ℕ) → k < words (regionWords b) → leafWord (regionWords b) k ≡ false
+      → (j : ℕ) × (j < words (regionWords b)) × (parentWord (regionWords b) j ≡ suc k)
+  unfolding childlessRegions
+  has-child k l inner =
+      let d = regionWords b in
+      let here = rw inner at (any-at (childless d) (words d) k (none .children) l) in
+      let child = count-some (childOf d (suc k)) (words d) (omega (arith, eqb-false (count (childOf d (suc k)) (words d)) 0 here)) in
+      (child .0, child .1, eqb-true (parentWord d (child .0)) (suc k) (child .2))
 
   -- 11. parents fall and are inner
   pub nesting : Nesting (isLeaf (regionWords b)) (parent (regionWords b)) (regionCount (regionWords b))

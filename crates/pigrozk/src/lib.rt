@@ -19,7 +19,7 @@ pub extern "C" fn pigrozk_judge(sheet: &[u8]) -> u32
 }
 
 // Runs a sheet to its end: the answer's code, and every word of the table afterwards. Where the sheet is accepted and the table has the right length,
-// the run has ended, its table is left as ended, its counts are small and its distances are shortest.
+// the run has ended, its table is left as ended, its counts are small, its distances are shortest, and its work is as much as 2026-03 says.
 #[no_mangle]
 pub extern "C" fn pigrozk_run(sheet: &[u8], table: &mut [u32]) -> u32
     ensures { λ r. ⌜ (r ≡ codeOf (runAnswer (now (sheet .entry)) enoughRounds (now (table .entry))))
@@ -32,7 +32,7 @@ pub extern "C" fn pigrozk_run(sheet: &[u8], table: &mut [u32]) -> u32
 
 // Runs a sheet for at most so many rounds: the answer's code, and every word of the table afterwards. Where the sheet is accepted and the table has
 // the right length, the table is what those rounds have reached and the answer what it says, its counts are small, and where it is left as ended its
-// distances are shortest.
+// distances are shortest and its work is as much as 2026-03 says.
 #[no_mangle]
 pub extern "C" fn pigrozk_run_limited(sheet: &[u8], rounds: u32, table: &mut [u32]) -> u32
     ensures { λ r. ⌜ (r ≡ codeOf (runAnswer (now (sheet .entry)) rounds (now (table .entry))))

@@ -44,7 +44,7 @@ fn run_judged(sheet: &[u8], limit: u64, table: &mut [u32]) -> Ran
 }
 
 // Runs a sheet to its end: the answer, and every word of the table afterwards. Where the sheet is accepted and the table has the right length, the
-// run has ended, its table is left as ended, its counts are small and its distances are shortest.
+// run has ended, its table is left as ended, its counts are small, its distances are shortest, and its work is as much as 2026-03 says.
 pub fn run(sheet: &[u8], table: &mut [u32]) -> Ran
     ensures { λ r. ⌜ (runSaid r ≡ runAnswer (now (sheet .entry)) enoughRounds (now (table .entry)))
         × (now (table .exit) ≡ tableAfter (now (sheet .entry)) enoughRounds (now (table .entry)))
@@ -56,7 +56,7 @@ pub fn run(sheet: &[u8], table: &mut [u32]) -> Ran
 
 // Runs a sheet for at most so many rounds: the answer, and every word of the table afterwards. Where the sheet is accepted and the table has the
 // right length, the table is what those rounds have reached and the answer what it says, its counts are small, and where it is left as ended its
-// distances are shortest.
+// distances are shortest and its work is as much as 2026-03 says.
 pub fn run_limited(sheet: &[u8], rounds: u32, table: &mut [u32]) -> Ran
     ensures { λ r. ⌜ (runSaid r ≡ runAnswer (now (sheet .entry)) rounds (now (table .entry)))
         × (now (table .exit) ≡ tableAfter (now (sheet .entry)) rounds (now (table .entry)))

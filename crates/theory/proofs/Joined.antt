@@ -7,20 +7,18 @@ use mathlib.Core.List.{List, _∷_}
 use native.Mathlib.Omega.{arith}
 use lib.ListN.{length, set, replicate}
 use lib.Seq.{getD-set-same, getD-set-other}
-use lib.Dec.{T, ltb}
+use lib.Dec.{T}
 use Rattle.indices.specs.Columns.{at}
 use Rattle.indices.specs.Steps.{times}
 use Rattle.indices.specs.Tests.{total}
-use Rattle.indices.proofs.Steps.{if-maps, by-truth, times-keeps, times-maps}
+use Rattle.indices.proofs.Steps.{by-truth, times-keeps, times-maps}
 use Rattle.indices.proofs.Totals.{total-one}
 use Rattle.sheet.specs.Limits.{mostSpans}
-use Rattle.procedure.specs.Graph.{Graph, head}
-use Rattle.procedure.specs.Division.{Division, regions, arcOf, isLeaf, height, level, spanOf}
-use Rattle.procedure.specs.State.{State, label}
+use Rattle.procedure.specs.Graph.{Graph}
+use Rattle.procedure.specs.Division.{Division, regions, isLeaf, height, level, spanOf}
+use Rattle.procedure.specs.State.{State}
 use Rattle.procedure.specs.Queues.{minItem}
 use Rattle.procedure.specs.Procedure.{
-  relax,
-  clearKey,
   processLeaf,
   rewriteKey,
   countAt,
@@ -40,7 +38,7 @@ use Rattle.procedure.specs.Procedure.{
 use Rattle.theory_shortest.specs.WellFormed.{DivisionOk}
 use Rattle.theory.specs.Counts.{Levelled}
 use Rattle.theory.proofs.Chosen.{chosen-of-key}
-use Rattle.theory.proofs.Process.{sumBy, lowered, alive-key, for-leaf, for-inner}
+use Rattle.theory.proofs.Process.{recounted, leaf-recounted, alive-key, for-leaf, for-inner}
 use Rattle.theory.proofs.Levels.{level-used, leaf-levels, inner-levels, start-levels, round-levels}
 
 -- one more at one place is one more in all
@@ -56,27 +54,15 @@ joined-one counts l all in-range =
 
 -- the state with its fifteen counts of inner regions added up, in the place of the first
 abbrev pub joined : State → State
-joined s = record {
-  labels = s .labels;
-  predecessors = s .predecessors;
-  queues = s .queues;
-  rounds = s .rounds;
-  leaves = s .leaves;
-  inner = total (at (s .inner)) mostSpans ∷ replicate (pred mostSpans) 0;
-}
+joined = recounted (λ n. n) (λ counts. total (at counts) mostSpans ∷ replicate (pred mostSpans) 0)
 
 module _ (g : Graph) {m : ℕ} {d : Division} (ok : DivisionOk m d) (spans : List ℕ) (few : height d 0 ≤ mostSpans) where
   abbrev before : ℕ → State → State
   before = countInnerBefore g d
 
   -- THE STEPS
-  relax-joined : (a : ℕ) (s : State) → relax g d a (joined s) ≡ joined (relax g d a s)
-  unfolding relax
-  relax-joined a s = if-maps joined (ltb (sumBy g a s) (label s (head g a))) (lowered g d a s) (lowered g d a (joined s)) s (λ _. refl)
-
   leaf-joined : (r : ℕ) (s : State) → processLeaf g d r (joined s) ≡ joined (processLeaf g d r s)
-  unfolding processLeaf clearKey
-  leaf-joined r s = ap (clearKey g d (arcOf d r)) (relax-joined (arcOf d r) s)
+  leaf-joined = leaf-recounted g d (λ n. n) (λ counts. total (at counts) mostSpans ∷ replicate (pred mostSpans) 0)
 
   count-joined : (r : ℕ) (s : State) → r < regions d → isLeaf d r ≡ false → Levelled d s
       → before r (joined s) ≡ joined (countInner g d r s)

@@ -53,7 +53,7 @@ module _ {most : ℕ} {g : Graph} {d : Division} {spans : List ℕ} (ok : WellFo
   source-first : at (firstLabels g) (g .source) ≡ 0
   source-first = getD-set-same (replicate (g .nodes) top) (g .source) 0 0 (rw length-replicate (ok .graph .source-in))
 
-  other-first : (v : ℕ) → v < g .nodes → v ≢ g .source → at (firstLabels g) v ≡ top
+  pub other-first : (v : ℕ) → v < g .nodes → v ≢ g .source → at (firstLabels g) v ≡ top
   other-first v lv n = getD-set-other (replicate (g .nodes) top) (g .source) v 0 0 n ∙ getD-replicate (g .nodes) v top 0 lv
 
   -- no label at the start is above 'unreached'

@@ -1,8 +1,8 @@
 -- Every table that a run of an accepted sheet leaves says what its rounds have reached, with small counts and labels, and where it is left as ended it is
--- shortest; and the run to its end has ended.
+-- shortest, and shows as much work as request 2026-03 says; and the run to its end has ended.
 use Prim.Native.Nat.{ℕ, zero, suc, _+_, _^_, _≤_, _<_}
-use mathlib.Core.Bool.{Bool, true, false}
-use mathlib.Core.Path.{_≡_, refl, sym, ap, _∙_}
+use mathlib.Core.Bool.{true}
+use mathlib.Core.Path.{_≡_, sym, ap, _∙_}
 use mathlib.Core.Logic.{_⊎_, ⊎-elim}
 use mathlib.Core.List.{List, [], _∷_}
 use native.Mathlib.Omega.{arith}
@@ -26,14 +26,14 @@ use Rattle.theory.specs.Counts.{Levelled}
 use Rattle.theory.proofs.Levels.{after-levels}
 use Rattle.theory.proofs.Final.{few-each-way, after-shape, label-fits, label-word, predecessor-word, final-ended}
 use Rattle.theory.proofs.Distances.{ended-shortest, counts-fit}
+use Rattle.theory.proofs.SpansOne.{spans-one-work}
+use Rattle.theory.proofs.Flat.{flat-work}
 use Rattle.calls.specs.Tables.{statusIn, countIn, labelIn, labelsIn, predecessorsIn}
+use Rattle.calls.specs.Work.{Work}
 use Rattle.calls.specs.Runs.{stateAfter, endedAfter, runTable, Delivered}
+use Rattle.calls.proofs.Outcome.{status-ended}
+use Rattle.calls.proofs.Work.{shows-work}
 use Rattle.calls.proofs.Reading.{status-in, count-in, label-in, labels-in, predecessors-in}
-
--- a status of 1 is 'ended'
-status-ended : (b : Bool) → _≡_ {A = ℕ} (if b then 1 else 0) 1 → b ≡ true
-status-ended true e = refl
-status-ended false e = absurd (omega arith)
 
 module _ (b : List ℕ) (ok : Accepted b) where
   pub well : WellFormed mostArcsEachWay (graphOf b) (divisionOf b) (spansOf b)
@@ -112,6 +112,12 @@ module _ (b : List ℕ) (ok : Accepted b) where
         rw (label-in (endedAfter b k) _ (stateAfter b k .labels) _ (nodeCount b) counts-all v l (label-small v l) .1)
         (label-fits well k v (rw (graph-nodes b) l))
 
+    -- request 2026-03: where the run has ended, its work
+    table-work : Work b (runTable b k)
+    table-work =
+        shows-work b ok (runTable b k) (stateAfter b k) table-counts table-labels table-bounded (endedAfter b k) table-status
+        (λ over one. spans-one-work well one k over) (λ over leaves. flat-work well leaves k over)
+
     pub delivered : Delivered b k (runTable b k)
     delivered = record {
       status = table-status;
@@ -124,6 +130,7 @@ module _ (b : List ℕ) (ok : Accepted b) where
       unused = table-unused;
       bounded = table-bounded;
       shortest = λ e. rw (table-labels, table-predecessors) (ended-shortest well k (table-ended e));
+      work = table-work;
     }
 
   -- the run to its end has ended

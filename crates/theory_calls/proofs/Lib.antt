@@ -4,6 +4,7 @@ pub mod Halls
 pub mod Agree
 pub mod Finished
 pub mod Correct
+pub mod Work
 pub mod Marked
 pub mod AsBefore
 pub mod AddsUp

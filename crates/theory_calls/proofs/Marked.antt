@@ -1,18 +1,19 @@
 -- The marked cases of the paper as a table, and cases of change requests with them, computed from the definitions: a call, what it answers, and what is then in
 -- what was lent or is printed.
 use Prim.Native.Nat.{ℕ}
+use mathlib.Core.Bool.{Bool}
 use mathlib.Core.List.{List, [], _∷_, _++_, map}
 use mathlib.Core.Path.{_≡_, refl}
 use lib.ListN.{replicate}
 use Rattle.indices.specs.Columns.{column}
-use Rattle.indices.specs.Steps.{upTo, times}
+use Rattle.indices.specs.Steps.{if_then_else_, upTo, times}
 use Rattle.indices.specs.Tests.{all, any, count, lead, most}
 use Rattle.sheet.specs.Words.{word, kind, payload, top}
 use Rattle.sheet.specs.Sections.{spansFrom, arcsFrom, regionWords}
 use Rattle.sheet.specs.Arcs.{tail, head, arcLength}
 use Rattle.sheet.specs.Heights.{heightIn, heightOf}
 use Rattle.sheet.specs.Regions.{leafWord, parentWord, arcWord}
-use Rattle.sheet.proofs.Samples.{bytesOf, mostOfHallA, hallA, oneNode, uneven, turntable, fiveIn, fiveOut}
+use Rattle.sheet.proofs.Samples.{bytesOf, mostOfHallA, hallA, patient, onesBelow, byTwos, oneNode, uneven, turntable, fiveIn, fiveOut}
 use Rattle.answer.specs.Answer.{input, state, Answer, accepted, ended, paused, route, refused}
 use Rattle.judgement.specs.Form.{wrongSize, outOfOrder, bitSet, nodesOutside, sourceOutside, spansOutside, tooMany}
 use Rattle.judgement.specs.Arcs.{endsOutside, lengthsOutside, crowdedNodes, tooManyAtNode}
@@ -43,24 +44,36 @@ use Rattle.procedure.specs.Procedure.{
 use Rattle.procedure.specs.Table.{nodeWords, tableOf}
 use Rattle.procedure.specs.Routes.{followed}
 use Rattle.theory_shortest.specs.TableTest.{leadsBack, sourceTest, unfedTest, fedTest, relaxedTest, ledTest, settled?}
-use Rattle.calls.specs.Tables.{tableLength, wrongLength, statusSays, statusIn, labelsIn, predecessorsIn}
+use Rattle.calls.specs.Tables.{tableLength, wrongLength, statusSays, statusIn, roundsIn, leavesIn, labelsIn, predecessorsIn}
+use Rattle.calls.specs.Work.{allSpansOne, leavesOnRoot, reachedArcs}
 use Rattle.calls.specs.Runs.{runAnswer, runTable, tableAfter}
 use Rattle.calls.specs.Routes.{nodeOutside, wrongNode, isPaused, malformed, notShortest, tableRefusals, routeTo, foundRoute, routeAnswer, leftBy, bufferAfter}
 use Rattle.calls.specs.AsBefore.{tableBefore}
+use Rattle.calls.proofs.Cases.{header, byTwosEnded, patientPaused}
 use Rattle.listing.specs.Text.{ascii, lastDigits, decimal}
 use Rattle.listing.specs.Listing.{cell, spaced, status, counted, levels, inner, statusLine, nodeLine, nodeLines, listingOf, refusedLine}
 use Rattle.listing.specs.Printed.{printed}
 
 -- a call as a case names it: to judge a sheet, given by its words; to run it for at most so many rounds, with a table lent; to read the route to a node
--- out of a table, with a buffer lent; what `marks` does, to run a sheet to its end and print; and to run it as it was before request 2026-02
+-- out of a table, with a buffer lent; what `marks` does, to run a sheet to its end and print; to run it as it was before request 2026-02; and to run it
+-- and look at the work done
 pub data Task : Type 0 where
   judge : List ℕ → Task
   run : List ℕ → ℕ → List ℕ → Task
   readRoute : List ℕ → List ℕ → ℕ → List ℕ → Task
   print : List ℕ → Task
   runBefore : List ℕ → ℕ → Task
+  work : List ℕ → ℕ → Task
 
--- what comes of it: the answer, and the words of what was lent, or the bytes printed
+-- a condition as a figure: 1 where it holds
+abbrev figure : Bool → ℕ
+figure holds = if holds then 1 else 0
+
+-- whether all spans are 1, whether every leaf hangs on region 0, the rounds, the leaves worked, the arcs whose tail is reached
+abbrev workIn : List ℕ → List ℕ → List ℕ
+workIn b table = figure (allSpansOne b) ∷ figure (leavesOnRoot b) ∷ roundsIn table ∷ leavesIn table ∷ reachedArcs b table ∷ []
+
+-- what comes of it: the answer, and the words of what was lent, the bytes printed, or the figures of the work
 record Outcome : Type 0 where
   answer : Answer
   words : List ℕ
@@ -69,6 +82,7 @@ abbrev outcome : Task → Outcome
 outcome (judge ws) = record { answer = judgement (bytesOf ws); words = [] }
 outcome (run ws k table) = record { answer = runAnswer (bytesOf ws) k table; words = tableAfter (bytesOf ws) k table }
 outcome (runBefore ws k) = let table = tableBefore (bytesOf ws) k in record { answer = statusSays (statusIn table); words = table }
+outcome (work ws k) = let table = runTable (bytesOf ws) k in record { answer = statusSays (statusIn table); words = workIn (bytesOf ws) table }
 outcome (print ws) = record { answer = judgement (bytesOf ws); words = printed (bytesOf ws) }
 outcome (readRoute ws table node buffer) =
     record { answer = routeAnswer (bytesOf ws) table node buffer; words = bufferAfter (bytesOf ws) table node buffer }
@@ -97,13 +111,6 @@ spanless = 0x10000001 ∷ 0x20000000 ∷ []
 -- a table for n nodes, not yet written
 abbrev blank : ℕ → List ℕ
 blank n = replicate (tableLength n) 0
-
--- The status word, and the words of the counts where no region is higher than 2: rounds, leaves, inner regions at heights 1 and 2 and at the thirteen
--- above, updates. Every high half is 0.
-abbrev header : ℕ → ℕ → ℕ → ℕ → ℕ → ℕ → List ℕ
-header status rounds leaves first second updates =
-    status ∷ 0xb0000000 ∷ rounds ∷ 0xb0000000 ∷ leaves ∷ 0xb0000000 ∷ first ∷ 0xb0000000 ∷ second ∷ replicate 26 0xb0000000
-    ++ (0xb0000000 ∷ updates ∷ [])
 
 -- A's finished table, with the last word of its counts and the label of node 3 as said; and with the last word that it has
 abbrev finished : ℕ → ℕ → List ℕ
@@ -216,6 +223,20 @@ rows =
     0x80000000 ∷ 0xb0000000 ∷ 0xb0000001 ∷ 0xb0000000 ∷ 0xb0000002 ∷ 0xb0000000 ∷ 0xb0000002 ∷ 0xb0000000 ∷ 0xb0000008
     ∷ 0x90000000 ∷ 0xafffffff ∷ 0x90000004 ∷ 0xa0000000 ∷ 0x9fffffff ∷ 0xafffffff ∷ 0x90000009 ∷ 0xa0000003 ∷ []
     )
+    -- 2026-03: sheets of neither kind. Hall A works 5 leaves where 4 arcs have a reached tail; with spans 1 and 2, and in the uneven hall, they are as many.
+    ∷ work hallA enoughRounds is ended leaving (0 ∷ 0 ∷ 3 ∷ 5 ∷ 4 ∷ [])
+    ∷ work onesBelow enoughRounds is ended leaving (0 ∷ 0 ∷ 2 ∷ 4 ∷ 4 ∷ [])
+    ∷ work uneven enoughRounds is ended leaving (0 ∷ 0 ∷ 1 ∷ 2 ∷ 2 ∷ [])
+    -- "where all spans are 1, the leaves worked and the rounds both equal the number of arcs whose tail is reached": at the end, and not after one round
+    ∷ work patient enoughRounds is ended leaving (1 ∷ 0 ∷ 4 ∷ 4 ∷ 4 ∷ [])
+    ∷ work patient 1 is paused leaving (1 ∷ 0 ∷ 1 ∷ 1 ∷ 3 ∷ [])
+    ∷ run patient 1 (blank 4) is paused leaving patientPaused
+    -- "where every leaf hangs directly on region 0": 5 of 6 arcs have a reached tail, 5 by twos are 3 rounds
+    ∷ work byTwos enoughRounds is ended leaving (0 ∷ 1 ∷ 3 ∷ 5 ∷ 5 ∷ [])
+    ∷ work byTwos 2 is paused leaving (0 ∷ 1 ∷ 2 ∷ 4 ∷ 5 ∷ [])
+    ∷ run byTwos enoughRounds (blank 5) is ended leaving byTwosEnded
+    -- no arc at all
+    ∷ work oneNode enoughRounds is ended leaving (1 ∷ 1 ∷ 0 ∷ 0 ∷ 0 ∷ [])
     ∷ []
 
 pub marked : map (λ row. outcome (row .task)) rows ≡ map (λ row. row .expected) rows
@@ -226,5 +247,5 @@ unfolding any count lead most upTo times column word kind payload top spansFrom 
     rewriteKey countAt countInner countInnerBefore countRound processChild alive hasEnded start processForBy processBy roundBy afterBy nodeWords tableOf
     wrongLength runAnswer runTable tableAfter tableBefore all labelsIn predecessorsIn followed leadsBack sourceTest unfedTest fedTest relaxedTest ledTest
     settled? nodeOutside wrongNode isPaused malformed notShortest tableRefusals routeTo foundRoute routeAnswer leftBy bufferAfter lastDigits decimal cell
-    spaced status counted levels inner statusLine nodeLine nodeLines listingOf refusedLine printed
+    spaced status counted levels inner statusLine nodeLine nodeLines listingOf refusedLine printed allSpansOne leavesOnRoot reachedArcs
 marked = refl
