@@ -283,7 +283,7 @@ def high():
 
 # How much work a run does: all spans 1, and every leaf directly on region 0.
 
-# Nodes 1, 3 and 4 are a ring without length. Nothing leads to nodes 6 and 7, from which the last four arcs lead; node 8 has no arcs.
+# Nodes 1, 3 and 4 are a ring without length. No other node leads to nodes 6 and 7, from which the last four arcs lead; node 8 has no arcs.
 NODES = 9
 ARCS = [
     (0, 1, 4), (0, 2, 1), (2, 1, 2), (1, 3, 0), (3, 4, 0), (4, 1, 0), (4, 4, 0), (2, 2, 3), (1, 5, 2), (1, 5, 2), (2, 5, 6), (5, 0, 9),

@@ -68,11 +68,13 @@ module _ (g : Graph) (labels own : List ℕ) (a : ℕ) where
   scanned-unkeyed e = rw (eq-eqb _ _ e) (and-true tailIn)
 
 -- where the key of arc a becomes none, every other arc is scanned or not as it was
+cleared-other : (g : Graph) (labels own : List ℕ) (a b : ℕ) → b ≢ a → scanned g labels (set own a top) b ≡ scanned g labels own b
+cleared-other g labels own a b n = scanned-same g labels own b labels (set own a top) refl (getD-set-other own a b top 0 n)
+
 pub cleared-one : (g : Graph) (labels own : List ℕ) (a : ℕ) → a < arcs g
     → scannedArcs g labels (set own a top) + cond (scanned g labels own a) 1 0 ≡ scannedArcs g labels own + cond (scanned g labels (set own a top) a) 1 0
 cleared-one g labels own a la =
-    count-one (scanned g labels own) (scanned g labels (set own a top)) a (arcs g) la
-    (λ b lb n. scanned-same g labels own b labels (set own a top) refl (getD-set-other own a b top 0 n))
+    count-one (scanned g labels own) (scanned g labels (set own a top)) a (arcs g) la (λ b lb n. cleared-other g labels own a b n)
 
 -- THE INVARIANT: no scanned arc's tail is above a key, and each leaf worked made one arc scanned
 pub record ScannedInOrder (g : Graph) (labels own : List ℕ) (leaves : ℕ) : Type 0 where
@@ -150,17 +152,27 @@ module _ {most : ℕ} {g : Graph} {d : Division} {spans : List ℕ} (ok : WellFo
         leaves = refl;
       })
 
-  -- the key of the relaxed arc becomes none: it is the one arc more that is scanned
+  -- where the key of the relaxed arc becomes none, it is scanned, and so are the arcs that were
+  clear-scans : (a key : ℕ) (s t : State) → a < arcs g → key < top → Shape g d t → Frontier g a key s t → (b : ℕ)
+      → (b ≡ a) ⊎ (scanned g (t .labels) (t .queues .own) b ≡ true)
+      → scanned g (clearKey g d a t .labels) (clearKey g d a t .queues .own) b ≡ true
+  unfolding clearKey
+  clear-scans a key s t la small z f b c =
+      let own = t .queues .own in
+      let inside : a < length own = rw (z .queued .own) la in
+      let now = scanned-yes g (t .labels) (set own a top) a (omega (arith, f .from)) (getD-set-same own a top 0 inside) in
+      by-equal b a (λ e. rw e now) (λ n. cleared-other g (t .labels) own a b n ∙ ⊎-elim (λ e. absurd (n e)) (λ was. was) c)
+
+  -- it is the one arc more that is scanned
   clear-in-order : (a key : ℕ) (s t : State) → a < arcs g → key < top → Shape g d t → Frontier g a key s t → InOrder g s → InOrder g (clearKey g d a t)
   unfolding clearKey
   clear-in-order a key s t la small z f p =
       let own = t .queues .own in
       let inside : a < length own = rw (z .queued .own) la in
-      let new : at (set own a top) a ≡ top = getD-set-same own a top 0 inside in
       let old : (b : ℕ) → b ≢ a → at (set own a top) b ≡ at own b = λ b n. getD-set-other own a b top 0 n in
       let one = cleared-one g (t .labels) own a la in
       let was = scanned-no g (t .labels) own a (λ r k. omega (arith, f .still)) in
-      let now = scanned-yes g (t .labels) (set own a top) a (omega (arith, f .from)) new in
+      let now = clear-scans a key s t la small z f a (inl refl) in
       record {
         order = λ b c lb lc r k kc.
             let front : key ≤ at (set own a top) c = set-elim (λ (x : ℕ). key ≤ x) own a c top 0 inside (λ _. omega arith) (λ _. f .ahead c lc) in
@@ -173,20 +185,6 @@ module _ {most : ℕ} {g : Graph} {d : Division} {spans : List ℕ} (ok : WellFo
           rw (was, now) at one,
         );
       }
-
-  -- it is scanned then, and so are the arcs that were
-  clear-scans : (a key : ℕ) (s t : State) → a < arcs g → key < top → Shape g d t → Frontier g a key s t → (b : ℕ)
-      → (b ≡ a) ⊎ (scanned g (t .labels) (t .queues .own) b ≡ true)
-      → scanned g (clearKey g d a t .labels) (clearKey g d a t .queues .own) b ≡ true
-  unfolding clearKey
-  clear-scans a key s t la small z f b c =
-      let own = t .queues .own in
-      let inside : a < length own = rw (z .queued .own) la in
-      let now = scanned-yes g (t .labels) (set own a top) a (omega (arith, f .from)) (getD-set-same own a top 0 inside) in
-      by-equal b a (λ e. rw e now)
-      (λ n.
-      scanned-same g (t .labels) own b (t .labels) (set own a top) refl (getD-set-other own a b top 0 n)
-      ∙ ⊎-elim (λ e. absurd (n e)) (λ was. was) c)
 
   -- THE WORKING OF A LEAF of the smallest key keeps the order, and counts itself
   pub leaf-in-order : {X : ℕ → Type 0} (r : ℕ) (s : State) → r < regions d → isLeaf d r ≡ true → at (s .queues .own) (arcOf d r) < top

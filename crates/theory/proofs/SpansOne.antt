@@ -30,7 +30,7 @@ use Rattle.theory.proofs.Scanned.{scanned, scanned-keyless, InOrder, le
 use Rattle.theory.proofs.Next.{Next, leaf-keyed, leaf-least, child-next, start-in-order, root-next, ended-leaves}
 
 module _ (g : Graph) (d : Division) (rounds : ℕ → ℕ) (inner : List ℕ → List ℕ) where
-  -- so where it was worked with other figures, it was worked
+  -- what the working of a leaf makes under other figures for rounds and inner regions, it makes under these
   works-recounted : {labels predecessors own : List ℕ} {leaves now said : ℕ} (s : State)
       → WorkedLeast g d (recounted rounds inner s) said labels predecessors own leaves now → WorkedLeast g d s said labels predecessors own leaves now
   works-recounted s w =
@@ -122,9 +122,12 @@ module _ {most : ℕ} {g : Graph} {d : Division} {spans : List ℕ} (ok : WellFo
       let w = round-works s next in
       (works-in-order s (round g d spans s) w next, omega (arith, w .counted, w .leaves, leaf-counts g d (w .region) s .0, p .1)))
 
-  -- where all spans are 1, every round works one leaf, which has the smallest key of all
-  pub rounds-work-least : (k : ℕ) → ended g d (after g d spans k) ≡ false
-      → WorksLeast g d (suc (after g d spans k .rounds)) (after g d spans k) (after g d spans (suc k))
+  -- round k + 1 works one leaf, which has the smallest key of all
+  abbrev RoundWorks : ℕ → Type 0
+  RoundWorks k = WorksLeast g d (suc (after g d spans k .rounds)) (after g d spans k) (after g d spans (suc k))
+
+  -- where all spans are 1, every round does
+  pub rounds-work-least : (k : ℕ) → ended g d (after g d spans k) ≡ false → RoundWorks k
   rounds-work-least k on =
       let s = after g d spans k in
       rw (← add-one k, next-round g d spans k on) (round-works s (root-next ok k (running-key g d s (rw on tt)) (after-one k .0)))
@@ -134,10 +137,8 @@ module _ {most : ℕ} {g : Graph} {d : Division} {spans : List ℕ} (ok : WellFo
   scannedAfter k b = scanned g (after g d spans k .labels) (after g d spans k .queues .own) b
 
   -- a round scans the arc of its leaf, and keeps what was scanned
-  round-scans : (k : ℕ) (on : ended g d (after g d spans k) ≡ false) (b : ℕ) → b < arcs g
-      → (b ≡ arcOf d (rounds-work-least k on .region)) ⊎ (scannedAfter k b ≡ true) → scannedAfter (suc k) b ≡ true
-  round-scans k on b lb c =
-      let w = rounds-work-least k on in
+  round-scans : (k : ℕ) (w : RoundWorks k) (b : ℕ) → b < arcs g → (b ≡ arcOf d (w .region)) ⊎ (scannedAfter k b ≡ true) → scannedAfter (suc k) b ≡ true
+  round-scans k w b lb c =
       let s = after g d spans k in
       rw (w .labels, w .own)
       (leaf-scans ok (w .region) s (w .in-range) (w .leaf) (w .keyed) (after-shape ok k) (after-sound ok k) (w .least) (after-one k .0) b lb c)
@@ -149,20 +150,20 @@ module _ {most : ℕ} {g : Graph} {d : Division} {spans : List ℕ} (ok : WellFo
       (λ last. subst (λ (n : ℕ). scannedAfter n b ≡ true) (let e : k ≡ suc m = omega arith in e) was)
       (λ earlier.
       let now = stays-scanned k m b earlier lb was in
-      by-truth (ended g d (after g d spans m)) (λ over. rw (ended-stays g d spans m (suc m) over (omega arith)) now) (λ on. round-scans m on b lb (inr now)))
+      by-truth (ended g d (after g d spans m)) (λ over. rw (ended-stays g d spans m (suc m) over (omega arith)) now)
+      (λ on. round-scans m (rounds-work-least m on) b lb (inr now)))
 
-  pub rounds-differ : (k m : ℕ) → k < m → (on : ended g d (after g d spans k) ≡ false) (on′ : ended g d (after g d spans m) ≡ false)
-      → rounds-work-least k on .region ≢ rounds-work-least m on′ .region
-  rounds-differ k m l on on′ same =
-      let w = rounds-work-least k on in
+  -- whatever leaves account for rounds k + 1 and m + 1, they differ
+  pub rounds-differ : (k m : ℕ) → k < m → (w : RoundWorks k) (w′ : RoundWorks m) → w .region ≢ w′ .region
+  rounds-differ k m l w w′ same =
       let a = arcOf d (w .region) in
       let la = ok .division .leaf-arc (w .region) (w .in-range) (w .leaf) .0 in
-      let was = stays-scanned (suc k) m a (omega arith) la (round-scans k on a la (inl refl)) in
+      let was = stays-scanned (suc k) m a (omega arith) la (round-scans k w a la (inl refl)) in
       omega (
         arith,
         scanned-keyless g (after g d spans m .labels) (after g d spans m .queues .own) a was,
         ap (λ (r : ℕ). at (after g d spans m .queues .own) (arcOf d r)) same,
-        rounds-work-least m on′ .keyed,
+        w′ .keyed,
       )
 
   -- so an ended run has worked as many leaves as there are arcs with a reached tail, a round for each

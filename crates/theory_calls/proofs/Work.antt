@@ -25,16 +25,17 @@ use Rattle.theory_calls.proofs.Delivered.{well}
 use Rattle.theory_calls.proofs.Halls.{same-graph}
 use Rattle.theory_calls.proofs.Agree.{same-distances}
 
--- A ROUND of a sheet with all spans 1 works one leaf, which has the smallest key of all
+-- round k + 1 works one leaf, which has the smallest key of all
+abbrev pub RoundWorks : List ℕ → ℕ → Type 0
+RoundWorks b k = WorksLeast (graphOf b) (divisionOf b) (suc (stateAfter b k .rounds)) (stateAfter b k) (stateAfter b (suc k))
+
+-- A ROUND of a sheet with all spans 1 does
 module _ (b : List ℕ) (ok : Accepted b) (one : allSpansOne b ≡ true) where
-  pub spans-one-round : (k : ℕ) → endedAfter b k ≡ false
-      → WorksLeast (graphOf b) (divisionOf b) (suc (stateAfter b k .rounds)) (stateAfter b k) (stateAfter b (suc k))
+  pub spans-one-round : (k : ℕ) → endedAfter b k ≡ false → RoundWorks b k
   spans-one-round = rounds-work-least (well b ok) (each-span-one b ok one)
 
   -- and two rounds work two leaves
-  pub spans-one-differ : (k m : ℕ) → k < m → (on : endedAfter b k ≡ false) (on′ : endedAfter b m ≡ false)
-      → spans-one-round k on .region ≢ spans-one-round m on′ .region
-  unfolding spans-one-round
+  pub spans-one-differ : (k m : ℕ) → k < m → (w : RoundWorks b k) (w′ : RoundWorks b m) → w .region ≢ w′ .region
   spans-one-differ = rounds-differ (well b ok) (each-span-one b ok one)
 
 -- A TABLE left as ended, whatever the division and spans
