@@ -1,12 +1,13 @@
-/* Travel times by nested regions: the four calls, for C and C++.
+/* Travel times by nested regions: the five calls, for C and C++.
  *
  * Link target/staticlib/libpigrozk.a, which `rt staticlib pigrozk` writes, for x86-64. Of other libraries it needs memcpy and memset alone.
  *
- * A sheet is bytes, each word of 32 bits with its most significant byte first. A table and a buffer are words in the machine's own order.
- * What is lent is a pointer and a length: of a sheet in bytes, of a table or a buffer in words. There is no other precondition than that
- * of any such pair: the pointer is not null, even where the length is 0, it is aligned for its type, that many items lie behind it, and what
- * is written (the table of a run, the buffer of a route) overlaps nothing else that is lent. Each call answers for every content and every
- * length, and ends. Nothing is allocated or kept, so calls may be made in any number of threads.
+ * A sheet is bytes, each word of 32 bits with its most significant byte first, and so is a canonical form. A table and the buffer of a route
+ * are words in the machine's own order. What is lent is a pointer and a length: of a sheet or a canonical form in bytes, of a table or the
+ * buffer of a route in words. There is no other precondition than that of any such pair: the pointer is not null, even where the length is 0,
+ * it is aligned for its type, that many items lie behind it, and what is written (the table of a run, the buffer of a route or of a canonical
+ * form) overlaps nothing else that is lent. Each call answers for every content and every length, and ends. Nothing is allocated or kept, so
+ * calls may be made in any number of threads.
  *
  * Each call returns one of the codes below. A refusal leaves all that was lent as it was.
  */
@@ -21,7 +22,7 @@ extern "C" {
 #endif
 
 /* A stack of so many bytes has room for each call. No theorem speaks of a stack: tests/c/stack.c measures it, on a sheet of height 15, as 185,847 bytes for
- * a run, 11,543 for a route and 9,367 for a judgement. */
+ * a run, 58,583 for a canonical form, 11,543 for a route and 9,367 for a judgement. */
 #define PIGROZK_STACK_BYTES 196608
 
 /* The limits of a sheet that is accepted. A node may have PIGROZK_MOST_ARCS_EACH_WAY arcs out of it, and as many into it. */
@@ -62,16 +63,33 @@ extern "C" {
 /* The payload that says 'unreached' in kind 9 and 'no arc' in kind 10. */
 #define PIGROZK_NONE 268435455u
 
-/* The codes. A number from 1 to 99 is that of a refusal: 1 to 15 the input was at fault, 21 to 25 the state. */
+/* The codes. A number from 1 to 99 is that of a refusal; which of them say that the input was at fault, which that the state was:
+ *
+ *     1 to 14  input  the sheet, in every call
+ *     15       input  the node of a route is not below the node count
+ *     21       state  the table has not 37 + 2n words
+ *     22       state  the table has a wrong kind at a place, a status above 1 or a feeding arc that is neither an arc nor 'none'
+ *     23       state  the table is paused
+ *     24       state  the table's distances or feeding arcs are not shortest for this sheet
+ *     25       state  the buffer is shorter than the route
+ *     31       input  the buffer is shorter than the canonical form
+ *
+ * Of several the first that applies is given, 31 after 14. */
 #define PIGROZK_IS_REFUSED(code) ((code) < 100u)
+#define PIGROZK_IS_FROM_STATE(code) ((code) == 21u || (code) == 22u || (code) == 23u || (code) == 24u || (code) == 25u)
+#define PIGROZK_IS_FROM_INPUT(code) (PIGROZK_IS_REFUSED(code) && !PIGROZK_IS_FROM_STATE(code))
 #define PIGROZK_ACCEPTED 256u
 #define PIGROZK_PAUSED 257u
 #define PIGROZK_ENDED 258u
 #define PIGROZK_NO_ROUTE 259u
 /* A route: 65,536 and the count of its arcs. */
 #define PIGROZK_ROUTE 65536u
-#define PIGROZK_IS_ROUTE(code) ((code) >= PIGROZK_ROUTE)
+#define PIGROZK_IS_ROUTE(code) ((code) >= PIGROZK_ROUTE && (code) < PIGROZK_WRITTEN)
 #define PIGROZK_ROUTE_ARCS(code) ((code) - PIGROZK_ROUTE)
+/* A canonical form: 131,072 and the count of its bytes. */
+#define PIGROZK_WRITTEN 131072u
+#define PIGROZK_IS_WRITTEN(code) ((code) >= PIGROZK_WRITTEN)
+#define PIGROZK_WRITTEN_BYTES(code) ((code) - PIGROZK_WRITTEN)
 
 /* Judges a sheet: accepted, or a refusal from 1 to 14. */
 uint32_t pigrozk_judge(const uint8_t *sheet, size_t sheet_bytes);
@@ -86,6 +104,12 @@ uint32_t pigrozk_run_limited(const uint8_t *sheet, size_t sheet_bytes, uint32_t 
  * buffer stays. A route, no route, or a refusal from 1 to 15 or 21 to 25. */
 uint32_t pigrozk_route(const uint8_t *sheet, size_t sheet_bytes, const uint32_t *table, size_t table_words, uint32_t node, uint32_t *buffer,
                        size_t buffer_words);
+
+/* Writes the canonical form of a sheet: the words of kinds 1 to 5 as given, the regions numbered parent first and depth first from region 0, children in order
+ * of the lowest arc that they hold. Two sheets have the same one exactly when they share nodes, source, spans, arcs and nesting; then their distances are the
+ * same, but not always their tables, since ties go by region number. It is as long as the sheet and stands at the front of the buffer, and the rest of the
+ * buffer stays; PIGROZK_MOST_BYTES are room for every one. Written, or a refusal from 1 to 14 or 31. */
+uint32_t pigrozk_canonical(const uint8_t *sheet, size_t sheet_bytes, uint8_t *out, size_t out_bytes);
 
 #ifdef __cplusplus
 }

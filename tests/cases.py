@@ -7,13 +7,13 @@ from pathlib import Path
 ROOT = Path(__file__).resolve().parent.parent
 
 # What the cases of one call may take in a file, so that a family that grows unseen is noticed.
-MOST_BYTES = 5_500_000
+MOST_BYTES = 6_500_000
 
 # The vectors of the base paper were made when a node had at most two arcs each way.
 BASE_EACH_WAY = 2
 
 # The answers, numbered from 0 as the program numbers them.
-ANSWERS = ['refused input', 'refused state', 'accepted', 'ended', 'paused', 'no route', 'route']
+ANSWERS = ['refused input', 'refused state', 'accepted', 'ended', 'paused', 'no route', 'route', 'written']
 
 
 def data(name):
@@ -43,22 +43,31 @@ def digits_of_words(words):
 
 
 def case_of(call, sheet, number=0, words=0, table=()):
-    """The line of a case: the call, the node or the most rounds, how many words are lent, the sheet's size and the sheet, and the words of a table."""
+    """The line of a case: the call, the node or the most rounds, how many words or bytes are lent, the sheet's size and the sheet, a table's words."""
     fields = [digits_of_words([field]) for field in (call, number, words, len(sheet))] + [sheet.hex(), digits_of_words(table)]
     return ' '.join(filter(None, fields))
 
 
-# An answer is said as 'accepted', as 'refused state 21', or as 'route 2: 0000000300000001' with the lent words up to the last changed one.
+# An answer is said as 'accepted', as 'refused state 21', or as 'route 2: 0000000300000001' with the words or bytes that it leaves.
 
 def with_words(answer, words):
     return answer + ': ' + digits_of_words(words) if words else answer
 
 
-def stated_in(answer, words):
-    """An answer as the vectors spell it, with the words of the table or the route that they list."""
+def with_bytes(answer, held):
+    return answer + ': ' + held.hex() if held else answer
+
+
+def name_in(answer):
+    """An answer as the vectors spell it."""
     if answer.startswith(('input:', 'state:')):
         return 'refused ' + answer.replace(':', ' ')
-    return with_words(answer.replace(':', ' ').replace('-', ' '), words)
+    return answer.replace(':', ' ').replace('-', ' ')
+
+
+def stated_in(answer, words):
+    """The same with the words of the table or the route that they list."""
+    return with_words(name_in(answer), words)
 
 
 def line_of(answer):

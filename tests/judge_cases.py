@@ -1,8 +1,7 @@
 """The cases of the judge: a sheet, and the answer expected to it.
 
-The judge of tests/paper.py has to agree with every line of tests/judge_vectors.txt, with the limit of that time, of
-tests/2026-01_vectors.txt, tests/2026-02_vectors.txt and tests/2026-03_vectors.txt, and with each answer that a case states; otherwise the
-script stops.
+The judge of tests/paper.py has to agree with every line of tests/judge_vectors.txt, with the limit of that time, and of
+tests/2026-01_vectors.txt to tests/2026-04_vectors.txt, and with each answer that a case states; otherwise the script stops.
 """
 import sys
 from itertools import product
@@ -303,6 +302,10 @@ def third_change_vectors():
     return stated_by('2026-03')
 
 
+def fourth_change_vectors():
+    return stated_by('2026-04')
+
+
 def said(answer):
     return 'refused input %d' % answer if answer else 'accepted'
 
@@ -314,4 +317,4 @@ def answered(family, most_each_way=MOST_EACH_WAY):
 
 
 def lines():
-    return lines_of(([vectors], [first_change_vectors], [second_change_vectors, third_change_vectors]), FAMILIES, answered)
+    return lines_of(([vectors], [first_change_vectors], [second_change_vectors, third_change_vectors, fourth_change_vectors]), FAMILIES, answered)

@@ -7,9 +7,10 @@ A = packed(HALL_A)
 JUDGED, ROUTED = case_of(1, A), case_of(4, A)
 GOOD = table_size(4)
 
-# The most bytes of a line, and the most words of a table and lent, as the program has room for.
+# The most bytes of a line, the most words of a table and lent, and the most bytes lent, as the program has room for.
 ROOM = 16 + 65536
 WORDS = 4096
+BYTES = 33792
 
 
 def other_signs():
@@ -26,8 +27,8 @@ def digits():
 
 def sizes():
     """A sheet that is longer or shorter than the line says, and a line that is longer than there is room for."""
-    for call in (1, 2, 3, 5):
-        head = digits_of_words([call, 0, GOOD if call in (2, 3) else 0])
+    for call in (1, 2, 3, 5, 6):
+        head = digits_of_words([call, 0, GOOD if call in (2, 3, 6) else 0])
         for size in (0, len(A) - 4, len(A) - 1, len(A) + 1, len(A) + 4, 2**31, 2**32 - 16, 2**32 - 1):
             yield head + digits_of_words([size]) + A.hex()
     yield from (digits_of_words([4, 0, 9, size]) + A.hex() for size in (len(A) + 1, 2**32 - 1))
@@ -35,7 +36,7 @@ def sizes():
 
 
 def calls():
-    yield from (case_of(call, A, words=GOOD) for call in (0, 6, 257, 2**16 + 1, 2**28, 2**32 - 1))
+    yield from (case_of(call, A, words=GOOD) for call in (0, 7, 8, 257, 262, 2**16 + 1, 2**16 + 6, 2**28, 2**32 - 1))
 
 
 def tables():
@@ -45,15 +46,19 @@ def tables():
 
 def words():
     yield from (case_of(call, A, 0, more) for call in range(1, 6) for more in (WORDS + 1, 2**31, 2**32 - 1))
+    yield from (case_of(6, A, 0, more) for more in (BYTES + 1, 2**31, 2**32 - 1))
+    yield from (case_of(6, A, 0, BYTES) + more for more in ('00', '00000000', '7000200270002002'))
 
 
 def readable():
-    """Other spaces, and the longest lines, tables and lent words that there is room for."""
+    """Other spaces, the longest lines, tables, lent words and lent bytes that there is room for, and a number where none is read."""
     for case in (JUDGED.replace(' ', ''), ' '.join(JUDGED), '  ' + JUDGED.replace(' ', '  ') + ' '):
         yield case, 'accepted'
     yield case_of(1, bytes(ROOM - 16)), 'refused input 1'
     yield case_of(4, A, 0, 9, [0] * WORDS), 'refused state 21'
     yield case_of(2, A, 0, WORDS), 'refused state 21'
+    yield case_of(6, bytes(ROOM - 16), 0, BYTES), 'refused input 1'
+    yield from ((case_of(6, A, node, 71), 'refused input 31') for node in (1, 2**32 - 1))
 
 
 def lines():

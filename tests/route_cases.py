@@ -1,8 +1,8 @@
 """The cases of the route reader: a sheet, a table's words, a node and the buffer's length, and the route, 'no route' or the refusal expected.
 
 What is expected comes from the route reader of tests/procedure.py. It has to agree with every line of tests/route_vectors.txt, with the
-limit of that time, of tests/2026-01_vectors.txt, of tests/2026-02_vectors.txt and of tests/2026-03_vectors.txt, where tests/before.py says
-how with the older ones, and with each answer that a case states; otherwise the script stops.
+limit of that time, and of tests/2026-01_vectors.txt to tests/2026-04_vectors.txt, where tests/before.py says how with the older ones, and
+with each answer that a case states; otherwise the script stops.
 """
 import sys
 
@@ -392,6 +392,10 @@ def third_change_vectors():
     return stated_by('2026-03')
 
 
+def fourth_change_vectors():
+    return stated_by('2026-04')
+
+
 def said(answer):
     if answer[0] == 'route':
         return with_words('route %d' % len(answer[1]), answer[1])
@@ -410,4 +414,4 @@ def kind(answer):
 
 
 def lines():
-    return lines_of(([vectors], [first_change_vectors], [second_change_vectors, third_change_vectors]), FAMILIES, answered, kind)
+    return lines_of(([vectors], [first_change_vectors], [second_change_vectors, third_change_vectors, fourth_change_vectors]), FAMILIES, answered, kind)

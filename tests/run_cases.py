@@ -1,10 +1,9 @@
 """The cases of a run: a sheet, a limit of rounds (None for none) and the table's length, and the answer and the table expected, or the refusal.
 
 What is expected comes from tests/procedure.py. It has to agree with every line of tests/limited_vectors.txt and tests/marks_vectors.txt,
-with the limit of that time, of tests/2026-01_vectors.txt, of tests/2026-02_vectors.txt and of tests/2026-03_vectors.txt, where
-tests/before.py says how with the older ones, and with each answer that a case states; every ended table has to hold the distances found a
-second way, and as much work as tests/work.py says, and on small halls the run without heaps has to make the same tables. Otherwise the
-script stops.
+with the limit of that time, and of tests/2026-01_vectors.txt to tests/2026-04_vectors.txt, where tests/before.py says how with the older
+ones, and with each answer that a case states; every ended table has to hold the distances found a second way, and as much work as
+tests/work.py says, and on small halls the run without heaps has to make the same tables. Otherwise the script stops.
 """
 import sys
 from collections import Counter
@@ -392,6 +391,10 @@ def third_change_vectors():
     return stated_by('2026-03', 0)
 
 
+def fourth_change_vectors():
+    return stated_by('2026-04', 0)
+
+
 def marks_vectors():
     """The sheets of the vectors of `marks`, to their end, where what it prints is what the procedure says."""
     for line in data('marks_vectors.txt'):
@@ -506,7 +509,7 @@ def hold_work(lines):
 
 
 def lines():
-    vectors = [limited_vectors, marks_vectors], [first_change_vectors], [second_change_vectors, third_change_vectors]
+    vectors = [limited_vectors, marks_vectors], [first_change_vectors], [second_change_vectors, third_change_vectors, fourth_change_vectors]
     found = lines_of(vectors, FAMILIES, answered, before=answer_before)
     hold_work(found)
     return found

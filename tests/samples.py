@@ -1,7 +1,8 @@
 """Checks the samples: what `./mark` prints for each samples/NAME.hex is samples/NAME.txt, and that is what the procedure of tests/procedure.py gives.
 
-It also tries `./mark` on files that hold something else than words. Run it by `python3 tests/samples.py`; with `--write` it writes the .txt
-files from tests/procedure.py, which shares nothing with the Rattle code.
+The sheets that are said to have one neat copy have it, by tests/canonical.py. It also tries `./mark` on files that hold something else than
+words. Run it by `python3 tests/samples.py`; with `--write` it writes the .txt files from tests/procedure.py, which shares nothing with the
+Rattle code.
 """
 import re
 import subprocess
@@ -9,13 +10,23 @@ import sys
 import tempfile
 from pathlib import Path
 
+from canonical import form
 from procedure import printed
 
 ROOT = Path(__file__).resolve().parent.parent
 
+# Sheets with one neat copy. The last one is that copy; the first two print different texts.
+ONE_COPY = ('hall-a', 'renumbered', 'neat')
+
 
 def sheet_of(text):
     return bytes.fromhex(''.join(re.sub('#.*', '', text).split()))
+
+
+def have_one_copy():
+    """Whether the sheets have the copy that they are said to have, and the first two print different texts."""
+    sheets = [sheet_of((ROOT / 'samples' / (name + '.hex')).read_text()) for name in ONE_COPY]
+    return {form(sheet) for sheet in sheets} == {sheets[-1]} and printed(sheets[0]) != printed(sheets[1])
 
 
 def mark(path):
@@ -45,6 +56,8 @@ def main():
             wrong.append(f'./mark {path.name} prints something else')
     refused = [('10000001\n\n2000000g\n', 3), ('1000000120000000\n', 1), ('# a comment\n10000001 2000 # another\n', 2), ('10000001\n-\n', 2)]
     wrong += [f'{text!r} is not refused' for text, line in refused if not refuses(text, line)]
+    if not have_one_copy():
+        wrong.append('%s: not one neat copy' % ', '.join(ONE_COPY))
     if wrong:
         sys.exit('\n'.join(wrong))
     print(f'{len(samples)} samples and {len(refused)} files that are no sheets: as expected')

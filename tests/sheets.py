@@ -273,6 +273,46 @@ def beneath(singles, regions):
     return [inner(parent) for parent in range(singles)] + [word + (singles << 11 if word >> 28 == 7 else singles) for word in regions]
 
 
+def nested(parts, parent=0, before=0):
+    """The region words of a nesting, given as arcs and lists of these, in the order in which they are listed, depth first."""
+    words = []
+    for part in parts:
+        if isinstance(part, int):
+            words.append(leaf(parent, part))
+        else:
+            number = before + len(words) + 1
+            words += [inner(parent), *nested(part, number, number)]
+    return words
+
+
+def numbered(regions, choose):
+    """The same division under other numbers. Of so many regions whose parents have theirs, choose says which one is next."""
+    children = [[] for _ in range(len(regions) + 1)]
+    for number, word in enumerate(regions, 1):
+        children[(word >> 11 if word >> 28 == 7 else word) % 4096].append(number)
+    words, waiting = [], [(number, 0) for number in children[0]]
+    while waiting:
+        number, parent = waiting.pop(choose(len(waiting)))
+        word = regions[number - 1]
+        words.append(leaf(parent, word % 2048) if word >> 28 == 7 else inner(parent))
+        waiting += [(child, len(words)) for child in children[number]]
+    return words
+
+
+def every_division(arcs, inners, words=()):
+    """Every list of region words, with a beginning, that holds these arcs and so many inner regions, each with a child."""
+    if not arcs and not inners:
+        parents = {(word >> 11 if word >> 28 == 7 else word) % 4096 for word in words}
+        if all(number in parents for number, word in enumerate(words, 1) if word >> 28 == 6):
+            yield list(words)
+        return
+    for parent in [0] + [number for number, word in enumerate(words, 1) if word >> 28 == 6]:
+        for a in arcs:
+            yield from every_division([other for other in arcs if other != a], inners, (*words, leaf(parent, a)))
+        if inners:
+            yield from every_division(arcs, inners - 1, (*words, inner(parent)))
+
+
 def random_arcs(chance, nodes, count, lengths, ways=2):
     """At most so many ways from and to each node, with lengths from a list."""
     return [(tail, head, lengths[chance.below(len(lengths))]) for tail, head in random_ends(chance, nodes, count, ways)]

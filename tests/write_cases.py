@@ -3,6 +3,7 @@
 Where a call's expected answers do not agree with its vectors, or with an answer that a case states, it stops and writes nothing.
 Run it by `python3 tests/write_cases.py`: it writes the same files each time.
 """
+import canonical_cases
 import judge_cases
 import line_cases
 import marks_cases
@@ -12,7 +13,7 @@ from cases import ROOT
 
 
 def main():
-    lines = [pair for cases in (line_cases, judge_cases, run_cases, route_cases, marks_cases) for pair in cases.lines()]
+    lines = [pair for cases in (line_cases, judge_cases, run_cases, route_cases, marks_cases, canonical_cases) for pair in cases.lines()]
     for at, name in enumerate(('stdin', 'stdout')):
         (ROOT / 'crates' / 'cases' / name).write_text(''.join(pair[at] + '\n' for pair in lines))
 

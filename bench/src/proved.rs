@@ -1,4 +1,4 @@
-//! The four calls of the proved library, as the numbers of their answers.
+//! The five calls of the proved library, as the numbers of their answers.
 
 use pigrozk::Answer;
 
@@ -10,6 +10,7 @@ fn code(answer: Answer) -> u32 {
         Answer::Ended => 258,
         Answer::NoRoute => 259,
         Answer::Route(count) => 65_536 + count as u32,
+        Answer::Written(bytes) => 131_072 + bytes as u32,
     }
 }
 
@@ -27,4 +28,8 @@ pub fn run_limited(sheet: &[u8], rounds: u32, table: &mut [u32]) -> u32 {
 
 pub fn route(sheet: &[u8], table: &[u32], node: u32, buffer: &mut [u32]) -> u32 {
     code(pigrozk::route(sheet, table, node, buffer))
+}
+
+pub fn canonical(sheet: &[u8], out: &mut [u8]) -> u32 {
+    code(pigrozk::canonical(sheet, out))
 }

@@ -27,6 +27,7 @@ fn answer(text: &str) -> Answer {
     match text.split_once(':') {
         Some(("input" | "state", number)) => Answer::Refused(number.parse().unwrap()),
         Some(("route", count)) => Answer::Route(count.parse().unwrap()),
+        Some(("written", bytes)) => Answer::Written(bytes.parse().unwrap()),
         _ if text == "ended" => Answer::Ended,
         _ if text == "paused" => Answer::Paused,
         _ => Answer::NoRoute,
@@ -98,6 +99,7 @@ fn each_of_the_requests(call: &str, holds: impl Fn(Era, &[String])) {
     each_of_a_request("2026-01", Era { judge: accepted, one_inner: true }, call, &holds);
     each_of_a_request("2026-02", Era { judge: accepted, one_inner: false }, call, &holds);
     each_of_a_request("2026-03", Era { judge: accepted, one_inner: false }, call, &holds);
+    each_of_a_request("2026-04", Era { judge: accepted, one_inner: false }, call, &holds);
 }
 
 fn judge_holds(era: Era, case: &[String]) {
@@ -185,6 +187,22 @@ fn route_agrees() {
     let numbers = |text: &str| text.split(',').filter(|arc| *arc != "-").map(|arc| arc.parse().unwrap()).collect::<Vec<u32>>();
     each_before_2026_01("route", |era, case| route_holds(era, case, &numbers(&case[5])));
     each_of_the_requests("route", |era, case| route_holds(era, case, &words(&case[5])));
+}
+
+/// Both programs: by the request's sentence, and linear.
+#[test]
+fn canonical_agrees() {
+    let holds = |_: Era, case: &[String]| {
+        for call in [reference::canonical, reference::canonical_linear] {
+            let before = vec![0xa5; case[1].parse().unwrap()];
+            let mut out = before.clone();
+            assert_eq!(call(&bytes(&case[0]), &mut out), answer(&case[2]), "{}", case[0]);
+            let expected = bytes(&case[3]);
+            assert_eq!(out[..expected.len()], expected, "{}", case[0]);
+            assert_eq!(out[expected.len()..], before[expected.len()..], "{}", case[0]);
+        }
+    };
+    each_of_a_request("2026-04", Era { judge: accepted, one_inner: false }, "canonical", holds);
 }
 
 #[test]

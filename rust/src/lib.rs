@@ -1,4 +1,4 @@
-//! Travel times by nested regions: the four proved calls, from Rust.
+//! Travel times by nested regions: the five proved calls, from Rust.
 //!
 //! None of them has a precondition: each answers for every sheet, table and buffer, and ends. A refusal leaves all that was lent as it was. What they
 //! promise is stated in `crates/pigrozk/src/lib.rt`; `include/pigrozk.h` has the same calls for C.
@@ -61,8 +61,17 @@ pub enum Answer {
     NoRoute,
     /// So many arcs stand at the front of the buffer.
     Route(usize),
-    /// The number of the refusal: 1 to 15 from the input, 21 to 25 from the state.
+    /// So many bytes stand at the front of the buffer.
+    Written(usize),
+    /// The number of the refusal; `fault` says what it is from.
     Refused(u8),
+}
+
+/// What a refusal is from.
+#[derive(Clone, Copy, Debug, PartialEq, Eq, Hash)]
+pub enum Fault {
+    Input,
+    State,
 }
 
 impl Answer {
@@ -74,8 +83,18 @@ impl Answer {
             258 => Answer::Ended,
             259 => Answer::NoRoute,
             1..=99 => Answer::Refused(code as u8),
-            65_536.. => Answer::Route((code - 65_536) as usize),
+            65_536..=131_071 => Answer::Route((code - 65_536) as usize),
+            131_072.. => Answer::Written((code - 131_072) as usize),
             _ => unreachable!("{code} is no code of the library"),
+        }
+    }
+
+    /// Whether input or state was at fault: 21 to 25 are from the state, the others from the input. Nothing for an answer that is no refusal.
+    pub fn fault(self) -> Option<Fault> {
+        match self {
+            Answer::Refused(21 | 22 | 23 | 24 | 25) => Some(Fault::State),
+            Answer::Refused(_) => Some(Fault::Input),
+            _ => None,
         }
     }
 }
@@ -94,10 +113,11 @@ mod library {
             buffer: *mut u32,
             room: usize,
         ) -> u32;
+        pub fn pigrozk_canonical(sheet: *const u8, bytes: usize, out: *mut u8, room: usize) -> u32;
     }
 }
 
-// SAFETY, of all four: a call reads and writes within the pairs of pointer and length alone, and these are those of slices.
+// SAFETY, of all five: a call reads and writes within the pairs of pointer and length alone, and these are those of slices.
 
 /// Judges a sheet: `Accepted`, or `Refused` with 1 to 14.
 pub fn judge(sheet: &[u8]) -> Answer {
@@ -119,4 +139,10 @@ pub fn route(sheet: &[u8], table: &[u32], node: u32, buffer: &mut [u32]) -> Answ
     Answer::of(unsafe {
         library::pigrozk_route(sheet.as_ptr(), sheet.len(), table.as_ptr(), table.len(), node, buffer.as_mut_ptr(), buffer.len())
     })
+}
+
+/// Writes a sheet anew, its regions numbered parent first and depth first, children in order of the lowest arc that they hold, into the front of `out`:
+/// `Written` with the sheet's own length in bytes, or `Refused` with 1 to 14, or with 31 where `out` is shorter.
+pub fn canonical(sheet: &[u8], out: &mut [u8]) -> Answer {
+    Answer::of(unsafe { library::pigrozk_canonical(sheet.as_ptr(), sheet.len(), out.as_mut_ptr(), out.len()) })
 }

@@ -1,5 +1,5 @@
-//! The four calls through the wrapper: the paper's cases on hall A, lengths at the edge, and the samples, whose listings come from another program.
-use pigrozk::{judge, route, run, run_limited, table_words, Answer, Counts};
+//! The five calls through the wrapper: the paper's cases on hall A, lengths at the edge, and the samples, whose listings come from another program.
+use pigrozk::{canonical, judge, route, run, run_limited, table_words, Answer, Counts, Fault};
 use pigrozk::{COUNTS, HEADER_WORDS, MOST_ARCS_EACH_WAY, MOST_SPANS, MOST_TABLE_WORDS, NONE};
 use std::fmt::Write;
 use std::path::{Path, PathBuf};
@@ -159,4 +159,86 @@ fn no_route() {
     let table = ended(&sheet, nodes);
     let unreached = (0..nodes).find(|node| payload(table[HEADER_WORDS + 2 * node]) == NONE).expect("an unreached node");
     assert_eq!(route(&sheet, &table, unreached as u32, &mut []), Answer::NoRoute);
+}
+
+/// Hall A with other words for its regions.
+fn hall_a(regions: [u32; 6]) -> Vec<u8> {
+    let mut sheet = sample("hall-a");
+    sheet.splice(48.., regions.into_iter().flat_map(u32::to_be_bytes));
+    sheet
+}
+
+#[test]
+fn canonical_forms() {
+    let form = hall_a([0x6000_0000, 0x7000_0800, 0x7000_0803, 0x6000_0000, 0x7000_2001, 0x7000_2002]);
+    let renumbered = hall_a([0x6000_0000, 0x7000_0802, 0x6000_0000, 0x7000_1803, 0x7000_0801, 0x7000_1800]);
+    for sheet in [&sample("hall-a"), &renumbered, &form] {
+        let mut out = [0x5e; 75];
+        assert_eq!(canonical(sheet, &mut out), Answer::Written(72));
+        assert_eq!(out, *[&form[..], &[0x5e; 3]].concat());
+        assert_eq!(canonical(sheet, &mut out[3..]), Answer::Written(72));
+        assert_eq!(out, *[&form[..3], &form].concat());
+    }
+    assert_eq!(judge(&form), Answer::Accepted);
+}
+
+#[test]
+fn short_buffers_for_canonical_forms() {
+    let sheet = sample("hall-a");
+    let mut out = [0x5e; 72];
+    assert_eq!(canonical(&sheet, &mut out[..71]), Answer::Refused(31));
+    assert_eq!(canonical(&sheet, &mut []), Answer::Refused(31));
+    assert_eq!(canonical(&sheet[..71], &mut []), Answer::Refused(1));
+    assert_eq!(canonical(&sheet[..68], &mut out[..67]), Answer::Refused(12));
+    assert_eq!(out, [0x5e; 72]);
+}
+
+/// The samples `hall-a`, `renumbered` and `neat` have one canonical form, which is the last of them.
+#[test]
+fn one_canonical_form() {
+    let neat = sample("neat");
+    for name in ["hall-a", "renumbered", "neat"] {
+        let mut form = vec![0x5e; neat.len()];
+        assert_eq!(canonical(&sample(name), &mut form), Answer::Written(neat.len()), "{name}");
+        assert_eq!(form, neat, "{name}");
+    }
+}
+
+/// Every accepted sample: its form is accepted, its own form, and has the same distances.
+#[test]
+fn canonical_forms_of_the_samples() {
+    let mut tried = 0;
+    for entry in std::fs::read_dir(samples()).expect("samples/") {
+        let path = entry.expect("an entry").path();
+        if path.extension().is_none_or(|kind| kind != "hex") {
+            continue;
+        }
+        let sheet = sheet_of(&std::fs::read_to_string(&path).expect("a sample"));
+        let mut form = vec![0x5e; sheet.len()];
+        if let Answer::Refused(number) = judge(&sheet) {
+            assert_eq!(canonical(&sheet, &mut form), Answer::Refused(number));
+            assert_eq!(form, vec![0x5e; sheet.len()]);
+            continue;
+        }
+        assert_eq!(canonical(&sheet, &mut form), Answer::Written(sheet.len()));
+        let mut again = vec![0; sheet.len()];
+        assert_eq!(canonical(&form, &mut again), Answer::Written(sheet.len()));
+        assert_eq!(again, form);
+        let nodes = u32::from_be_bytes([0, sheet[1], sheet[2], sheet[3]]) as usize;
+        let distances = |sheet: &[u8]| ended(sheet, nodes)[HEADER_WORDS..].iter().step_by(2).copied().collect::<Vec<u32>>();
+        assert_eq!(distances(&form), distances(&sheet), "{}", path.display());
+        tried += 1;
+    }
+    assert!(tried >= 8);
+}
+
+#[test]
+fn faults() {
+    for number in (1..=15).chain([31]) {
+        assert_eq!(Answer::Refused(number).fault(), Some(Fault::Input));
+    }
+    for number in 21..=25 {
+        assert_eq!(Answer::Refused(number).fault(), Some(Fault::State));
+    }
+    assert_eq!(Answer::Written(31).fault(), None);
 }

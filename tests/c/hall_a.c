@@ -1,4 +1,4 @@
-/* The four calls from C, on the paper's hall A: what they answer, and every word that they leave; and the limit on the arcs at a node. */
+/* The five calls from C, on the paper's hall A: what they answer, and every word or byte that they leave; and the limit on the arcs at a node. */
 #include <stdio.h>
 #include <string.h>
 
@@ -6,6 +6,10 @@
 
 static const uint32_t words[18] = {0x10000004, 0x20000000, 0x30000002, 0x30000001, 0x40000001, 0x50000004, 0x40000002, 0x50000001, 0x40000801,
                                    0x50000002, 0x40000403, 0x50000005, 0x60000000, 0x60000000, 0x70000800, 0x70000803, 0x70001001, 0x70001002};
+
+/* Hall A with other region numbers: both have the same canonical form. */
+static const uint32_t renumbered[6] = {0x60000000, 0x70000802, 0x60000000, 0x70001803, 0x70000801, 0x70001800};
+static const uint32_t canonical[6] = {0x60000000, 0x70000800, 0x70000803, 0x60000000, 0x70002001, 0x70002002};
 
 enum { WORDS = 45, WORDS_WITH_ONE_INNER_COUNT = 17 };
 
@@ -126,6 +130,36 @@ static void reading(const uint8_t *sheet, const uint32_t *table) {
     expect("the rest of the buffer stays", buffer[3] == 0x5eed0003u && buffer[4] == 0x5eed0004u);
 }
 
+static int bytes_filled(const uint8_t *from, size_t n) {
+    for (size_t i = 0; i < n; i++)
+        if (from[i] != 0x5e) return 0;
+    return 1;
+}
+
+static void copying(const uint8_t *sheet) {
+    uint8_t out[80], form[72], other[72];
+    memset(out, 0x5e, sizeof out);
+    memcpy(form, sheet, sizeof form);
+    to_bytes(form + 48, canonical, 6);
+    memcpy(other, sheet, sizeof other);
+    to_bytes(other + 48, renumbered, 6);
+    expect("one byte too few is refused as 31", pigrozk_canonical(sheet, 72, out, 71) == 31);
+    expect("so is no room", pigrozk_canonical(sheet, 72, out, 0) == 31);
+    expect("a cut sheet is refused as 1, and before the buffer", pigrozk_canonical(sheet, 71, out, 0) == 1);
+    expect("31 is from the input", PIGROZK_IS_REFUSED(31u) && PIGROZK_IS_FROM_INPUT(31u) && !PIGROZK_IS_FROM_STATE(31u));
+    expect("25 is from the state", PIGROZK_IS_FROM_STATE(25u) && !PIGROZK_IS_FROM_INPUT(25u));
+    expect("a refusal changes no byte", bytes_filled(out, sizeof out));
+    uint32_t code = pigrozk_canonical(sheet, 72, out, sizeof out);
+    expect("hall A's form has 72 bytes", PIGROZK_IS_WRITTEN(code) && PIGROZK_WRITTEN_BYTES(code) == 72 && !PIGROZK_IS_ROUTE(code));
+    expect("they are those of the canonical form", memcmp(out, form, sizeof form) == 0);
+    expect("the rest of the buffer stays", bytes_filled(out + 72, sizeof out - 72));
+    memset(out, 0x5e, sizeof out);
+    expect("hall A renumbered into as many bytes", pigrozk_canonical(other, 72, out, 72) == PIGROZK_WRITTEN + 72);
+    expect("it has the same form", memcmp(out, form, sizeof form) == 0 && bytes_filled(out + 72, sizeof out - 72));
+    expect("the form is accepted", pigrozk_judge(form, 72) == PIGROZK_ACCEPTED);
+    expect("and its own form", pigrozk_canonical(form, 72, out, 72) == PIGROZK_WRITTEN + 72 && memcmp(out, form, sizeof form) == 0);
+}
+
 int main(void) {
     uint8_t sheet[72];
     uint32_t table[WORDS + 1];
@@ -136,6 +170,7 @@ int main(void) {
     running(sheet, table);
     named_places(table);
     reading(sheet, table);
+    copying(sheet);
     puts(failures ? "C: failed" : "C: passed");
     return failures != 0;
 }

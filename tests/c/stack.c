@@ -15,6 +15,7 @@ static uint8_t sheet[PIGROZK_MOST_BYTES];
 static size_t sheet_bytes = 0;
 static uint32_t table[PIGROZK_TABLE_WORDS(NODES)];
 static uint32_t buffer[NODES];
+static uint8_t form[PIGROZK_MOST_BYTES];
 static uint8_t *volatile start;
 static volatile uint32_t code;
 
@@ -44,6 +45,7 @@ static uint32_t judge(void) { return pigrozk_judge(sheet, sheet_bytes); }
 static uint32_t run(void) { return pigrozk_run(sheet, sheet_bytes, table, PIGROZK_TABLE_WORDS(NODES)); }
 static uint32_t run_limited(void) { return pigrozk_run_limited(sheet, sheet_bytes, 1, table, PIGROZK_TABLE_WORDS(NODES)); }
 static uint32_t route(void) { return pigrozk_route(sheet, sheet_bytes, table, PIGROZK_TABLE_WORDS(NODES), 2, buffer, NODES); }
+static uint32_t canonical(void) { return pigrozk_canonical(sheet, sheet_bytes, form, sizeof form); }
 
 struct Call {
     const char *name;
@@ -72,12 +74,13 @@ static size_t used(struct Call *call) {
 }
 
 int main(void) {
+    write_sheet();
     struct Call calls[] = {{"pigrozk_judge", judge, PIGROZK_ACCEPTED},
                            {"pigrozk_run", run, PIGROZK_ENDED},
                            {"pigrozk_run_limited", run_limited, PIGROZK_ENDED},
-                           {"pigrozk_route", route, PIGROZK_ROUTE + 2}};
+                           {"pigrozk_route", route, PIGROZK_ROUTE + 2},
+                           {"pigrozk_canonical", canonical, PIGROZK_WRITTEN + (uint32_t)sheet_bytes}};
     int failures = 0;
-    write_sheet();
     for (size_t i = 0; i < sizeof calls / sizeof calls[0]; i++) {
         size_t bytes = used(&calls[i]);
         int good = bytes > 0 && bytes <= PIGROZK_STACK_BYTES;

@@ -1,25 +1,32 @@
-//! The four proved calls against the independent program, on generated sheets: `differential [CASES] [SEED]`.
+//! The five proved calls against the independent program, on generated sheets: `differential [CASES] [SEED]`.
 //!
-//! Compared are the answers, every word of the tables and buffers lent and of the words around them, and that a refusal changed nothing. Every table
-//! left as ended is held to request 2026-03. Ends with 1 at the first difference, or if a refusal number, an answer, a number of arcs one way or a sort
-//! of ended tables was never seen, or no inner region of some height was worked.
+//! Compared are the answers, every word or byte of the tables and buffers lent and of what lies around them, and that a refusal changed nothing. Every
+//! table left as ended is held to request 2026-03, and the canonical forms of some sheets to request 2026-04. Ends with 1 at the first difference, or if a
+//! refusal number, an answer, a number of arcs one way, a sort of ended tables or a change to a sheet was never seen, or no inner region of some height was
+//! worked.
 
+use bench::generate::changes::{self, Change, CHANGES};
 use bench::generate::random::Random;
 use bench::generate::{damage, sheets, tables};
 use bench::proved;
 use bench::reference::judge::{accepted, Judged, MOST_EACH_WAY};
+use bench::reference::nesting::alike;
 use bench::reference::sheet::{words, Sheet};
 use bench::reference::table::{self, HEIGHTS};
 use bench::reference::work::Work;
 use bench::reference::{self, Answer};
 use std::collections::{BTreeMap, BTreeSet};
-use std::fmt::Write;
+use std::fmt::{LowerHex, Write};
 use std::process::ExitCode;
 use std::time::Instant;
 
 const CASES: u64 = 1_000_000;
 const SEED: u64 = 20_260;
 const GUARD: usize = 4;
+
+/// Of so many accepted sheets one is held to request 2026-04, and all that have more than so many region words.
+const HELD_TO_2026_04: usize = 8;
+const MANY_REGIONS: usize = 2_000;
 
 /// What was called and how the two differ.
 struct Difference(String);
@@ -43,9 +50,13 @@ const SORTS: [(&str, fn(&Work) -> bool); 11] = [
     ("neither, leaves differ from the reached arcs", |work| !work.spoken_of() && work.leaves != work.reached),
 ];
 
-/// How often each call gave each answer: the number of a route stands for routes of any length. How many sheets there were of each sort, and by the
-/// most arcs that a node has one way, how many accepted ones and how many refused as 10. How many finished tables have a figure above 0 at each height.
-/// How many ended tables there were of each of `SORTS`.
+/// The codes that stand for routes and canonical forms of any length.
+const ROUTE: u32 = 65_536;
+const WRITTEN: u32 = 131_072;
+
+/// How often each call gave each answer. How many sheets there were of each sort, and by the most arcs that a node has one way, how many accepted ones and how
+/// many refused as 10. How many finished tables have a figure above 0 at each height. How many ended tables there were of each of `SORTS`. What was seen of
+/// canonical forms.
 #[derive(Default)]
 struct Tally {
     answers: BTreeMap<(&'static str, u32), u64>,
@@ -54,11 +65,53 @@ struct Tally {
     crowded: BTreeMap<usize, u64>,
     worked: [u64; HEIGHTS],
     ended: [u64; SORTS.len()],
+    forms: Forms,
+}
+
+/// How many sheets were held to request 2026-04, how many of them are no canonical forms, how many have another table than their form, and how many were
+/// renumbered into another sheet. How many sheets that differ by a change have the same canonical form, another one or none.
+#[derive(Default)]
+struct Forms {
+    held: u64,
+    other_than_sheet: u64,
+    other_tables: u64,
+    renumbered: u64,
+    changed: BTreeMap<Change, [u64; 3]>,
+}
+
+impl Forms {
+    fn print(&self) {
+        println!("sheets held to request 2026-04: {}", self.held);
+        println!("of them other than their canonical form: {}", self.other_than_sheet);
+        println!("of them with another table than their canonical form: {}", self.other_tables);
+        println!("of them numbered anew into another sheet: {}", self.renumbered);
+        for (change, [same, other, refused]) in &self.changed {
+            println!("changed, {change:?}: same form {same}, another {other}, refused {refused}");
+        }
+    }
+
+    fn unseen(&self) -> impl Iterator<Item = String> + '_ {
+        let counts = [
+            (self.other_than_sheet, "sheets other than their canonical form"),
+            (self.other_tables, "sheets with another table than their canonical form"),
+            (self.renumbered, "sheets numbered anew into another"),
+        ];
+        let counts = counts.into_iter().filter(|(count, _)| *count == 0).map(|(_, name)| name.to_string());
+        let of = |change: &Change| self.changed.get(change).copied().unwrap_or_default();
+        let same = CHANGES.into_iter().filter(move |change| change.may_leave() && of(change)[0] == 0);
+        let other = CHANGES.into_iter().filter(move |change| of(change)[1] == 0);
+        counts.chain(same.map(|change| format!("{change:?} with the same form"))).chain(other.map(|change| format!("{change:?} with another form")))
+    }
 }
 
 impl Tally {
     fn count(&mut self, call: &'static str, answer: Answer) {
-        *self.answers.entry((call, answer.code().min(65_536))).or_default() += 1;
+        let code = match answer {
+            Answer::Route(_) => ROUTE,
+            Answer::Written(_) => WRITTEN,
+            _ => answer.code(),
+        };
+        *self.answers.entry((call, code)).or_default() += 1;
     }
 
     fn count_ways(&mut self, bytes: &[u8], judged: &Judged) {
@@ -94,7 +147,8 @@ impl Tally {
         for (tables, (sort, _)) in self.ended.iter().zip(SORTS) {
             println!("ended tables, {sort}: {tables}");
         }
-        for call in ["judge", "run", "run_limited", "route"] {
+        self.forms.print();
+        for call in ["judge", "run", "run_limited", "route", "canonical"] {
             let answers = self.answers.iter().filter(|((of, _), _)| *of == call);
             let parts: Vec<String> = answers.map(|((_, code), count)| format!("{} {count}", named(*code))).collect();
             println!("{call}: {}", parts.join(", "));
@@ -102,15 +156,15 @@ impl Tally {
         println!("calls compared: {}", self.answers.values().sum::<u64>());
     }
 
-    /// The numbers, answers, numbers of arcs one way, worked heights and sorts of ended tables that were never seen.
+    /// The numbers, answers, numbers of arcs one way, worked heights, sorts of ended tables and changes that were never seen.
     fn unseen(&self) -> Vec<String> {
-        let wanted = (1..=15).chain(21..=25).chain(256..=259).chain([65_536]);
+        let wanted = (1..=15).chain(21..=25).chain([31]).chain(256..=259).chain([ROUTE, WRITTEN]);
         let answers = wanted.filter(|code| !self.answers.keys().any(|(_, seen)| seen == code)).map(named);
         let seen: BTreeSet<_> = self.accepted.keys().chain(self.crowded.keys()).collect();
         let arcs = (0..=MOST_EACH_WAY + 2).filter(|most| !seen.contains(most)).map(|most| ways(most) + " arcs one way");
         let heights = (0..HEIGHTS).filter(|at| self.worked[*at] == 0).map(|at| format!("workings at height {}", at + 1));
         let sorts = SORTS.iter().zip(self.ended).filter(|(_, tables)| *tables == 0).map(|((sort, _), _)| format!("ended tables, {sort}"));
-        answers.chain(arcs).chain(heights).chain(sorts).collect()
+        answers.chain(arcs).chain(heights).chain(sorts).chain(self.forms.unseen()).collect()
     }
 }
 
@@ -128,39 +182,57 @@ fn named(code: u32) -> String {
         257 => "paused".to_string(),
         258 => "ended".to_string(),
         259 => "no-route".to_string(),
-        65_536 => "route".to_string(),
+        ROUTE => "route".to_string(),
+        WRITTEN => "written".to_string(),
         number => number.to_string(),
     }
 }
 
-/// A slice to be lent, with guard words on both sides.
-struct Lent {
-    words: Vec<u32>,
+/// What is lent: words or bytes.
+trait Item: Copy + PartialEq + LowerHex {
+    fn of(word: u32) -> Self;
 }
 
-impl Lent {
-    fn new(length: usize, random: &mut Random) -> Lent {
+impl Item for u32 {
+    fn of(word: u32) -> u32 {
+        word
+    }
+}
+
+impl Item for u8 {
+    fn of(word: u32) -> u8 {
+        word as u8
+    }
+}
+
+/// A slice to be lent, with guard items on both sides.
+struct Lent<T> {
+    items: Vec<T>,
+}
+
+impl<T: Item> Lent<T> {
+    fn new(length: usize, random: &mut Random) -> Lent<T> {
         let first = random.word();
-        Lent { words: (0..length + 2 * GUARD).map(|at| first.wrapping_add(0x0123_4567 * at as u32)).collect() }
+        Lent { items: (0..length + 2 * GUARD).map(|at| T::of(first.wrapping_add(0x0123_4567u32.wrapping_mul(at as u32)))).collect() }
     }
 
-    fn part(&mut self) -> &mut [u32] {
-        let end = self.words.len() - GUARD;
-        &mut self.words[GUARD..end]
+    fn part(&mut self) -> &mut [T] {
+        let end = self.items.len() - GUARD;
+        &mut self.items[GUARD..end]
     }
 }
 
-/// Makes one call of both programs with equal slices, compares answers and words, and gives the answer and the slice at exit.
-fn compared(
+/// Makes one call of both programs with equal slices, compares answers and items, and gives the answer and the slice at exit.
+fn compared<T: Item>(
     call: &'static str,
     told: impl Fn() -> String,
-    lent: Lent,
+    lent: Lent<T>,
     tally: &mut Tally,
-    of_proved: impl FnOnce(&mut [u32]) -> u32,
-    of_reference: impl FnOnce(&mut [u32]) -> Answer,
-) -> Result<(Answer, Vec<u32>), Difference> {
-    let before = lent.words.clone();
-    let mut expected = Lent { words: lent.words.clone() };
+    of_proved: impl FnOnce(&mut [T]) -> u32,
+    of_reference: impl FnOnce(&mut [T]) -> Answer,
+) -> Result<(Answer, Vec<T>), Difference> {
+    let before = lent.items.clone();
+    let mut expected = Lent { items: lent.items.clone() };
     let mut got = lent;
     let answer = of_reference(expected.part());
     let code = of_proved(got.part());
@@ -168,11 +240,12 @@ fn compared(
     if code != answer.code() {
         return Err(Difference(format!("{call} {}: answered {code}, expected {}", told(), answer.code())));
     }
-    if let Some(at) = (0..before.len()).find(|at| got.words[*at] != expected.words[*at]) {
-        let (found, wanted) = (got.words[at], expected.words[at]);
-        return Err(Difference(format!("{call} {}: word {} is {found:08x}, expected {wanted:08x}", told(), at as i64 - GUARD as i64)));
+    if let Some(at) = (0..before.len()).find(|at| got.items[*at] != expected.items[*at]) {
+        let (found, wanted, digits) = (got.items[at], expected.items[at], 2 * size_of::<T>());
+        let place = at as i64 - GUARD as i64;
+        return Err(Difference(format!("{call} {}: place {place} has {found:0digits$x}, expected {wanted:0digits$x}", told())));
     }
-    if matches!(answer, Answer::Refused(_) | Answer::NoRoute) && got.words != before {
+    if matches!(answer, Answer::Refused(_) | Answer::NoRoute) && got.items != before {
         return Err(Difference(format!("{call} {}: a refusal changed what was lent", told())));
     }
     Ok((answer, got.part().to_vec()))
@@ -189,13 +262,19 @@ impl Trial<'_> {
     fn all(&mut self) -> Outcome {
         let untouched = self.bytes.to_vec();
         let bytes = self.bytes;
-        let nothing = Lent { words: vec![0; 2 * GUARD] };
+        let nothing = Lent { items: vec![0u32; 2 * GUARD] };
         compared("judge", String::new, nothing, self.tally, |_| proved::judge(bytes), |_| reference::judge(bytes))?;
         let judged = accepted(bytes);
         self.tally.count_ways(bytes, &judged);
         match judged {
-            Ok(accepted) => self.accepted(&accepted.sheet)?,
-            Err(_) => self.refused()?,
+            Ok(accepted) => {
+                let finished = self.accepted(&accepted.sheet)?;
+                self.forms(&accepted.sheet, &finished)?;
+            }
+            Err(_) => {
+                self.refused()?;
+                self.canonicals()?;
+            }
         }
         match self.bytes == untouched {
             true => Ok(()),
@@ -209,12 +288,13 @@ impl Trial<'_> {
         self.run(length)?;
         let rounds = self.rounds();
         self.run_limited(rounds, length)?;
-        let table = Lent::new(length, self.random).part().to_vec();
+        let table = Lent::<u32>::new(length, self.random).part().to_vec();
         let buffer = self.random.below(8);
         self.route(&table, node, buffer).map(drop)
     }
 
-    fn accepted(&mut self, sheet: &Sheet) -> Outcome {
+    /// Gives the finished table.
+    fn accepted(&mut self, sheet: &Sheet) -> Result<Vec<u32>, Difference> {
         let length = table::length(sheet.nodes());
         let finished = self.run(length)?;
         self.tally.count_heights(&finished);
@@ -236,7 +316,7 @@ impl Trial<'_> {
             let node = self.node(sheet);
             self.route(&table, node, sheet.nodes())?;
         }
-        Ok(())
+        Ok(finished)
     }
 
     /// Routes out of the finished table, out of damaged ones, out of one of another length, out of one with one inner count and out of that of a hall that
@@ -352,6 +432,99 @@ impl Trial<'_> {
         }
         self.random.below(sheet.nodes()) as u32
     }
+}
+
+/// Request 2026-04.
+impl Trial<'_> {
+    fn canonical(&mut self, room: usize) -> Result<(Answer, Vec<u8>), Difference> {
+        let lent = Lent::new(room, self.random);
+        let bytes = self.bytes;
+        let told = || format!("into {room} bytes, of the sheet {}", hexadecimal(bytes));
+        compared("canonical", told, lent, self.tally, |out| proved::canonical(bytes, out), |out| reference::canonical(bytes, out))
+    }
+
+    /// With no room, one byte too few, more than enough and just enough. Gives the last buffer.
+    fn canonicals(&mut self) -> Result<Vec<u8>, Difference> {
+        let length = self.bytes.len();
+        let longer = length + 1 + self.random.below(9);
+        for room in [0, length.saturating_sub(1), longer] {
+            self.canonical(room)?;
+        }
+        Ok(self.canonical(length)?.1)
+    }
+
+    /// The canonical form of an accepted sheet and, for some, what the request says of it.
+    fn forms(&mut self, sheet: &Sheet, finished: &[u32]) -> Outcome {
+        let form = self.canonicals()?;
+        if !self.random.once_in(HELD_TO_2026_04) && sheet.regions().len() <= MANY_REGIONS {
+            return Ok(());
+        }
+        self.tally.forms.held += 1;
+        self.tally.forms.other_than_sheet += (form != self.bytes) as u64;
+        self.own_form(&form, finished)?;
+        self.renumbered(sheet, &form)?;
+        let change = self.random.pick(&CHANGES);
+        self.changed(change, sheet, &form)
+    }
+
+    /// The same trial of another sheet.
+    fn of<'a>(&'a mut self, bytes: &'a [u8]) -> Trial<'a> {
+        Trial { bytes, random: self.random, tally: self.tally }
+    }
+
+    /// The canonical form that the proved call writes of a sheet, or nothing where it refuses the sheet.
+    fn form_of(&mut self, bytes: &[u8]) -> Result<Option<Vec<u8>>, Difference> {
+        let (answer, form) = self.of(bytes).canonical(bytes.len())?;
+        Ok(matches!(answer, Answer::Written(_)).then_some(form))
+    }
+
+    /// The form is what the linear program writes, is accepted, is its own form and has the sheet's distances.
+    fn own_form(&mut self, form: &[u8], finished: &[u32]) -> Outcome {
+        let mut linear = vec![0; form.len()];
+        reference::canonical_linear(self.bytes, &mut linear);
+        let code = proved::judge(form);
+        if linear != form || code != Answer::Accepted.code() {
+            return Err(Difference(format!("the linear program writes {}; {} is judged {code}", hexadecimal(&linear), hexadecimal(form))));
+        }
+        if self.form_of(form)?.as_deref() != Some(form) {
+            return Err(Difference(format!("{} is not its own canonical form", hexadecimal(form))));
+        }
+        let table = self.of(form).run(finished.len())?;
+        self.tally.forms.other_tables += (table != finished) as u64;
+        match labels(&table).eq(labels(finished)) {
+            true => Ok(()),
+            false => Err(Difference(format!("{} has other distances", hexadecimal(form)))),
+        }
+    }
+
+    /// The sheet with other region numbers has the same form.
+    fn renumbered(&mut self, sheet: &Sheet, form: &[u8]) -> Outcome {
+        let other = sheets::bytes(&changes::renumbered(sheet, self.random));
+        self.tally.forms.renumbered += (other != self.bytes) as u64;
+        match self.form_of(&other)?.as_deref() == Some(form) {
+            true => Ok(()),
+            false => Err(Difference(format!("the renumbered sheet {} has another canonical form", hexadecimal(&other)))),
+        }
+    }
+
+    /// A changed sheet that is accepted has the same form exactly when the two sheets are alike.
+    fn changed(&mut self, change: Change, sheet: &Sheet, form: &[u8]) -> Outcome {
+        let Some(other) = changes::changed(change, sheet, self.random) else { return Ok(()) };
+        let bytes = sheets::bytes(&other);
+        let same = self.form_of(&bytes)?.map(|other| other == form);
+        let at = same.map_or(2, |same| !same as usize);
+        self.tally.forms.changed.entry(change).or_default()[at] += 1;
+        let expected = Sheet::in_order(other).map(|other| alike(sheet, &other));
+        match same.is_none() || same == expected {
+            true => Ok(()),
+            false => Err(Difference(format!("{change:?}, to {}: same form {same:?}, alike {expected:?}", hexadecimal(&bytes)))),
+        }
+    }
+}
+
+/// The words of a table that say the distances.
+fn labels(table: &[u32]) -> impl Iterator<Item = &u32> {
+    table[table::HEADER..].iter().step_by(2)
 }
 
 /// The sheet of a case, and of what sort it is.

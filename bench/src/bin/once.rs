@@ -1,6 +1,6 @@
 //! One call on one sheet of the benchmark, for a count of its instructions: `once CALL HALL DIVISION SPANS [TIMES]`.
 //!
-//! CALL is proved-run, plain-run, dijkstra, proved-judge or plain-judge; the others are named as in the benchmark's table.
+//! CALL is proved-run, plain-run, dijkstra, proved-judge, plain-judge, proved-form or plain-form; the others are named as in the benchmark's table.
 
 use bench::generate::divisions::NESTINGS;
 use bench::generate::halls::SHAPES;
@@ -18,7 +18,7 @@ fn named<T: Copy + Debug>(items: &[T], name: Option<&String>) -> T {
 }
 
 fn usage() -> ! {
-    eprintln!("usage: once proved-run|plain-run|dijkstra|proved-judge|plain-judge HALL DIVISION SPANS [TIMES]");
+    eprintln!("usage: once proved-run|plain-run|dijkstra|proved-judge|plain-judge|proved-form|plain-form HALL DIVISION SPANS [TIMES]");
     eprintln!("halls {SHAPES:?}, divisions {NESTINGS:?}, spans {SPANS:?}");
     std::process::exit(2)
 }
@@ -30,6 +30,7 @@ fn main() {
     let sheet = sheets::regular(shape, named(&NESTINGS, arguments.get(2)), named(&SPANS, arguments.get(3)), shape.full_nodes());
     let times = arguments.get(4).map_or(1, |times| times.parse().unwrap_or_else(|_| usage()));
     let mut table = vec![0; table::length(shape.full_nodes())];
+    let mut out = vec![0; sheet.len()];
     for _ in 0..times {
         let sheet = black_box(&sheet);
         let answer = match call {
@@ -38,6 +39,8 @@ fn main() {
             "dijkstra" => reference::run_dijkstra(sheet, &mut table).code(),
             "proved-judge" => proved::judge(sheet),
             "plain-judge" => reference::judge(sheet).code(),
+            "proved-form" => proved::canonical(sheet, &mut out),
+            "plain-form" => reference::canonical_linear(sheet, &mut out).code(),
             _ => usage(),
         };
         black_box(answer);

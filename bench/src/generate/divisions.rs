@@ -1,6 +1,7 @@
 //! Divisions: the arcs of a hall nested in regions.
 
 use super::random::Random;
+use crate::reference::sheet::{is_leaf, leaf_arc, parent};
 
 /// The most inner regions above a leaf.
 pub const HIGHEST: usize = 15;
@@ -51,6 +52,15 @@ impl Nesting {
 }
 
 impl Division {
+    /// The division that words of kinds 6 and 7 say.
+    pub fn of_words(words: &[u32]) -> Division {
+        let regions = words.iter().map(|word| match is_leaf(*word) {
+            true => (parent(*word), Some(leaf_arc(*word))),
+            false => (parent(*word), None),
+        });
+        Division { regions: std::iter::once((0, None)).chain(regions).collect() }
+    }
+
     fn inner(&mut self, parent: usize) -> usize {
         self.regions.push((parent, None));
         self.regions.len() - 1
@@ -112,8 +122,8 @@ impl Division {
         self.renumber(random);
     }
 
-    /// Leaves out inner regions that hold no leaf, however deep.
-    fn without_childless(&mut self) {
+    /// Leaves out inner regions that hold no leaf, however deep. Each comes after its parent.
+    pub fn without_childless(&mut self) {
         let mut held: Vec<bool> = self.regions.iter().map(|(_, arc)| arc.is_some()).collect();
         held[0] = true;
         for number in (1..self.regions.len()).rev() {
@@ -131,7 +141,7 @@ impl Division {
     }
 
     /// Numbers the regions anew in a random order in which each comes after its parent.
-    fn renumber(&mut self, random: &mut Random) {
+    pub fn renumber(&mut self, random: &mut Random) {
         let mut children = vec![Vec::new(); self.regions.len()];
         for (number, (parent, _)) in self.regions.iter().enumerate().skip(1) {
             children[*parent].push(number);
@@ -161,5 +171,66 @@ impl Division {
             Some(arc) => 7 << 28 | (*parent as u32) << 11 | *arc as u32,
             None => 6 << 28 | *parent as u32,
         })
+    }
+}
+
+/// Changes. They leave the numbers of the regions as they are, so a region may come before its parent until they are numbered anew.
+impl Division {
+    fn numbers(&self, is_wanted: impl Fn(usize) -> bool) -> Vec<usize> {
+        (1..self.regions.len()).filter(|number| is_wanted(*number)).collect()
+    }
+
+    fn leaves(&self) -> Vec<usize> {
+        self.numbers(|number| self.regions[number].1.is_some())
+    }
+
+    fn inner_regions(&self) -> Vec<usize> {
+        self.numbers(|number| self.regions[number].1.is_none())
+    }
+
+    /// Two leaves exchange their arcs.
+    pub fn exchange_leaves(&mut self, random: &mut Random) {
+        let leaves = self.leaves();
+        let (one, other) = (random.pick(&leaves), random.pick(&leaves));
+        let arc = self.regions[one].1;
+        self.regions[one].1 = self.regions[other].1;
+        self.regions[other].1 = arc;
+    }
+
+    /// A leaf is moved into any inner region.
+    pub fn move_leaf(&mut self, random: &mut Random) {
+        let leaf = random.pick(&self.leaves());
+        self.regions[leaf].0 = random.pick(&[vec![0], self.inner_regions()].concat());
+    }
+
+    /// An inner region is moved into one that does not lie in it.
+    pub fn move_inner(&mut self, random: &mut Random) -> Option<()> {
+        let inner = self.inner_regions();
+        let moved = (!inner.is_empty()).then(|| random.pick(&inner))?;
+        let mut within = vec![false; self.regions.len()];
+        within[moved] = true;
+        for number in moved + 1..self.regions.len() {
+            within[number] = within[self.regions[number].0];
+        }
+        let places: Vec<usize> = std::iter::once(0).chain(inner).filter(|number| !within[*number]).collect();
+        self.regions[moved].0 = random.pick(&places);
+        Some(())
+    }
+
+    /// Any region but 0 is put into a new one that takes its place.
+    pub fn add_link(&mut self, random: &mut Random) {
+        let number = 1 + random.below(self.regions.len() - 1);
+        self.regions[number].0 = self.inner(self.regions[number].0);
+    }
+
+    /// An inner region with a single child, where there is one, gives its place to the child.
+    pub fn drop_link(&mut self, random: &mut Random) -> Option<()> {
+        let mut children = vec![0; self.regions.len()];
+        self.regions.iter().skip(1).for_each(|(parent, _)| children[*parent] += 1);
+        let links = self.numbers(|number| children[number] == 1);
+        let dropped = (!links.is_empty()).then(|| random.pick(&links))?;
+        let parent = self.regions[dropped].0;
+        self.regions.iter_mut().skip(1).filter(|region| region.0 == dropped).for_each(|region| region.0 = parent);
+        Some(())
     }
 }

@@ -1,5 +1,6 @@
 //! Sheets and tables for the benchmark and the differential test, all of them made from a seed.
 
+pub mod changes;
 pub mod damage;
 pub mod divisions;
 pub mod halls;

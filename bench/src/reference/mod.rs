@@ -1,7 +1,10 @@
-//! The four calls as a program of its own, written from the paper; it shares nothing with the proved crates.
+//! The five calls as a program of its own, written from the paper; it shares nothing with the proved crates.
 
+pub mod canonical;
 pub mod dijkstra;
 pub mod judge;
+pub mod linear;
+pub mod nesting;
 pub mod procedure;
 pub mod route;
 pub mod sheet;
@@ -9,6 +12,7 @@ pub mod table;
 pub mod work;
 
 use judge::{accepted, Judged};
+use sheet::Sheet;
 
 /// The payload that stands for 'unreached', for the key 'none' and for 'no arc'.
 pub const TOP: u32 = (1 << 28) - 1;
@@ -21,6 +25,7 @@ pub enum Answer {
     Ended,
     NoRoute,
     Route(u32),
+    Written(u32),
     Refused(u32),
 }
 
@@ -34,6 +39,7 @@ impl Answer {
             Answer::Ended => 258,
             Answer::NoRoute => 259,
             Answer::Route(count) => 65_536 + count,
+            Answer::Written(bytes) => 131_072 + bytes,
         }
     }
 }
@@ -52,6 +58,20 @@ pub fn run_limited(bytes: &[u8], rounds: u32, table: &mut [u32]) -> Answer {
 
 pub fn route(bytes: &[u8], table: &[u32], node: u32, buffer: &mut [u32]) -> Answer {
     route_of(accepted(bytes), table, node, buffer)
+}
+
+/// The canonical form by the request's sentence.
+pub fn canonical(bytes: &[u8], out: &mut [u8]) -> Answer {
+    canonical_of(accepted(bytes), bytes.len(), out, |sheet, out| {
+        for (place, word) in out.chunks_exact_mut(4).zip(canonical::words(sheet)) {
+            place.copy_from_slice(&word.to_be_bytes());
+        }
+    })
+}
+
+/// The same, written for speed.
+pub fn canonical_linear(bytes: &[u8], out: &mut [u8]) -> Answer {
+    canonical_of(accepted(bytes), bytes.len(), out, linear::write)
 }
 
 /// Distances and feeding arcs by Dijkstra's procedure, in a table whose counts are 0.
@@ -94,6 +114,18 @@ pub fn route_of(judged: Judged, table: &[u32], node: u32, buffer: &mut [u32]) ->
         Ok(Some(arcs)) => {
             buffer[..arcs.len()].copy_from_slice(&arcs);
             Answer::Route(arcs.len() as u32)
+        }
+    }
+}
+
+/// The form has the sheet's own length.
+fn canonical_of(judged: Judged, length: usize, out: &mut [u8], write: impl FnOnce(&Sheet, &mut [u8])) -> Answer {
+    match judged {
+        Err(number) => Answer::Refused(number),
+        Ok(_) if out.len() < length => Answer::Refused(31),
+        Ok(accepted) => {
+            write(&accepted.sheet, &mut out[..length]);
+            Answer::Written(length as u32)
         }
     }
 }

@@ -67,6 +67,11 @@ impl Sheet {
         counts.iter().flatten().copied().max().unwrap_or(0)
     }
 
+    /// The words of kinds 1 to 5.
+    pub fn before_regions(&self) -> &[u32] {
+        &self.words[..self.regions_at]
+    }
+
     /// The words of regions 1, 2, 3 and so on.
     pub fn regions(&self) -> &[u32] {
         &self.words[self.regions_at..]

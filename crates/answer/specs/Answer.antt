@@ -22,13 +22,14 @@ refusalOf (Input n) = input n
 refusalOf (State n) = state n
 
 -- "A good sheet is answered 'accepted' by the judge, and a run answers 'ended' or 'paused' as its table says." A route is answered by the count of
--- its arcs; "For an unreached node the call answers 'no route'".
+-- its arcs; "For an unreached node the call answers 'no route'". 2026-04: of what is written into a byte buffer, "its byte length is returned".
 pub data Answer : Type 0 where
   accepted : Answer
   ended : Answer
   paused : Answer
   route : ℕ → Answer
   noRoute : Answer
+  written : ℕ → Answer
   refused : Refusal → Answer
 
 -- a refusal, and whether it applies
@@ -53,6 +54,7 @@ isRefused ended = false
 isRefused paused = false
 isRefused (route _) = false
 isRefused noRoute = false
+isRefused (written _) = false
 isRefused (refused _) = true
 
 abbrev pub isRoute : Answer → Bool
@@ -61,4 +63,5 @@ isRoute ended = false
 isRoute paused = false
 isRoute (route _) = true
 isRoute noRoute = false
+isRoute (written _) = false
 isRoute (refused _) = false

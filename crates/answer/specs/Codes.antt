@@ -3,22 +3,24 @@ use Prim.Native.Nat.{ℕ, _+_, _-_}
 use mathlib.Core.Bool.{Bool, _||_}
 use lib.Dec.{ltb, eqb}
 use Rattle.indices.specs.Steps.{if_then_else_}
-use Rattle.answer.specs.Answer.{input, state, numberOf, Answer, accepted, ended, paused, route, noRoute, refused}
+use Rattle.answer.specs.Answer.{input, state, numberOf, Answer, accepted, ended, paused, route, noRoute, written, refused}
 
--- 1 to 99 a refusal, 256 to 259 what has no number of its own, from 65,536 on a route with the count of its arcs
+-- 1 to 99 a refusal, 256 to 259 what has no number of its own, from 65,536 on a route with the count of its arcs, from 131,072 on what is written with the
+-- count of its bytes
 abbrev pub codeOf : Answer → ℕ
 codeOf accepted = 256
 codeOf paused = 257
 codeOf ended = 258
 codeOf noRoute = 259
 codeOf (route arcs) = 65536 + arcs
+codeOf (written bytes) = 131072 + bytes
 codeOf (refused refusal) = numberOf refusal
 
 -- the numbers under "From the state"; the others that a call answers stand under "From the input"
 abbrev pub fromState : ℕ → Bool
 fromState n = eqb n 21 || eqb n 22 || eqb n 23 || eqb n 24 || eqb n 25
 
--- a code read back: every answer of a call is the one that its code says (`judge-told`, `run-told` and `route-told` in crates/pigrozk/proofs/Told.antt)
+-- a code read back: every answer of a call is the one that its code says (crates/pigrozk/proofs/Told.antt)
 unfoldable pub answerOf : ℕ → Answer
 answerOf code =
     if ltb code 100 then refused (if fromState code then state code else input code)
@@ -26,4 +28,5 @@ answerOf code =
     else if eqb code 257 then paused
     else if eqb code 258 then ended
     else if eqb code 259 then noRoute
-    else route (code - 65536)
+    else if ltb code 131072 then route (code - 65536)
+    else written (code - 131072)

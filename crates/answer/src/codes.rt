@@ -2,10 +2,11 @@
 ghost use mathlib.Core.Path.{_≡_};
 ghost use Prim.Native.Nat.{_^_, _<_};
 ghost use Rattle.answer.specs.Answer.{numberOf, refusalOf};
-ghost use Rattle.answer.specs.Said.{judgeSaid, runSaid, routeSaid};
+ghost use Rattle.answer.specs.Said.{judgeSaid, runSaid, routeSaid, copiedSaid};
 ghost use Rattle.answer.specs.Codes.{codeOf};
-ghost use Rattle.answer.specs.Inner.{arcsOf};
+ghost use Rattle.answer.specs.Inner.{figureOf};
 use crate::Fault;
+use crate::copied::Copied;
 use crate::judged::Judged;
 use crate::ran::Ran;
 use crate::routed::Routed;
@@ -20,6 +21,9 @@ const NO_ROUTE: u32 = 259;
 
 // The code of the empty route; that of a longer one is higher by the count of its arcs.
 const ROUTE: u32 = 65536;
+
+// The code of nothing written; that of more is higher by the count of its bytes.
+const WRITTEN: u32 = 131072;
 
 // The number of a refusal.
 pub fn number_of(fault: Fault) -> u8
@@ -51,12 +55,22 @@ pub fn ran_code(ran: Ran) -> u32
 }
 
 pub fn routed_code(routed: Routed) -> u32
-    requires { ⌜ arcsOf (routeSaid routed) < 2 ^ 28 ⌝ }
+    requires { ⌜ figureOf (routeSaid routed) < 2 ^ 28 ⌝ }
     ensures { λ r. ⌜ r ≡ codeOf (routeSaid routed) ⌝ }
 {
     match routed {
         Routed::Route(arcs) => ROUTE + arcs,
         Routed::NoRoute => NO_ROUTE,
         Routed::Refused(fault) => number_of(fault) as u32,
+    }
+}
+
+pub fn copied_code(copied: Copied) -> u32
+    requires { ⌜ figureOf (copiedSaid copied) < 2 ^ 28 ⌝ }
+    ensures { λ r. ⌜ r ≡ codeOf (copiedSaid copied) ⌝ }
+{
+    match copied {
+        Copied::Written(bytes) => WRITTEN + bytes,
+        Copied::Refused(fault) => number_of(fault) as u32,
     }
 }

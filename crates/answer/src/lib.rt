@@ -1,5 +1,6 @@
-// What a call answers: accepted, ended, paused, a route or none, or refused, by fault of the input or of the state.
+// What a call answers: accepted, ended, paused, a route or none, bytes written, or refused, by fault of the input or of the state.
 pub mod codes;
+pub mod copied;
 pub mod judged;
 pub mod ran;
 pub mod routed;

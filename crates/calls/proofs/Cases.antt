@@ -1,17 +1,24 @@
--- Cases of the work of a run (request 2026-03), computed from a sheet's bytes and a table's words: one for each way in which it could be told wrong, so that
--- an edit of a definition is refused here. That runs leave these two tables is computed with the marked cases, in crates/theory_calls.
+-- Cases of the work of a run (request 2026-03) and of the call for the canonical form (2026-04), computed from a sheet's bytes and a table's words: one for
+-- each way in which they could be told wrong, so that an edit of a definition is refused here. That runs leave these two tables is computed with the marked
+-- cases, in crates/theory_calls.
 use Prim.Native.Nat.{ℕ}
 use mathlib.Core.Bool.{true, false, false≢true}
 use mathlib.Core.List.{List, [], _∷_, _++_, map}
 use mathlib.Core.Path.{_≡_, refl}
 use native.Mathlib.Omega.{arith}
 use lib.ListN.{replicate}
-use Rattle.indices.specs.Tests.{all, count, lead}
-use Rattle.sheet.specs.Words.{word, kind, payload, top}
+use Rattle.indices.specs.Columns.{column}
+use Rattle.indices.specs.Tests.{all, any, count, lead, least}
+use Rattle.sheet.specs.Words.{word, kind, payload, top, bytesOf}
 use Rattle.sheet.specs.Sections.{spansFrom, arcsFrom, regionWords}
 use Rattle.sheet.specs.Arcs.{tail}
-use Rattle.sheet.specs.Regions.{leafWord, parentWord}
-use Rattle.sheet.proofs.Samples.{bytesOf, hallA, patient, onesBelow, byTwos, oneNode}
+use Rattle.sheet.specs.Regions.{leafWord, parentWord, arcWord}
+use Rattle.sheet.proofs.Samples.{hallA, patient, onesBelow, byTwos, oneNode}
+use Rattle.answer.specs.Answer.{input, accepted, written, refused, lowest}
+use Rattle.procedure.specs.OfSheet.{divisionOf}
+use Rattle.canonical_form.specs.Numbering.{sooner, ancestor, holds, lowestArc, pathFor, path, newNumber, oldNumber}
+use Rattle.canonical_form.specs.Canonical.{newWord, frontWords, newWords, canonical}
+use Rattle.calls.specs.Canonical.{canonicalCall}
 use Rattle.calls.specs.Work.{allSpansOne, leavesOnRoot, reachedArcs, dividedUp, Work}
 
 -- The status word, and the words of the counts where no region is higher than 2: rounds, leaves, inner regions at heights 1 and 2 and at the thirteen
@@ -86,3 +93,17 @@ cases = record {
   };
   waiting = refl;
 }
+
+-- 2026-04: the call on the one-node hall, whose canonical form has twelve bytes: a buffer that is a byte short, one that fits, one with a byte more; what is
+-- written leaves the rest, a refusal leaves all
+record CopyCases : Type 0 where
+  short : lowest (canonicalCall (bytesOf oneNode) (replicate 11 7) .later) accepted ≡ refused (input 31)
+  fits : lowest (canonicalCall (bytesOf oneNode) (replicate 12 7) .later) accepted ≡ accepted
+  answered : canonicalCall (bytesOf oneNode) (replicate 13 7) .good ≡ written 12
+  filled : canonicalCall (bytesOf oneNode) (replicate 13 7) .leaves (written 12) ≡ bytesOf oneNode ++ (7 ∷ [])
+  kept : canonicalCall (bytesOf oneNode) (replicate 13 7) .leaves (refused (input 31)) ≡ replicate 13 7
+
+copy-cases : CopyCases
+unfolding any count lead least column word kind payload top spansFrom arcsFrom regionWords leafWord parentWord arcWord divisionOf sooner ancestor holds
+    lowestArc pathFor path newNumber oldNumber newWord frontWords newWords canonical
+copy-cases = record { short = refl; fits = refl; answered = refl; filled = refl; kept = refl }

@@ -12,15 +12,16 @@ use Rattle.indices.specs.Columns.{at}
 use Rattle.indices.specs.Steps.{if_then_else_}
 use Rattle.indices.proofs.Columns.{column-is}
 use Rattle.indices.proofs.Steps.{lt-or-le}
-use Rattle.sheet.specs.Words.{kindOf, payloadOf, payloads}
-use Rattle.procedure.specs.Table.{tableWord, statusWord, countWords, headerLength, nodeWords, tableOf, countsLength}
+use Rattle.sheet.specs.Words.{kindOf, payloadOf, payloads, wordOf}
+use Rattle.sheet.proofs.Bytes.{payload-word, kind-word}
+use Rattle.procedure.specs.Table.{statusWord, countWords, headerLength, nodeWords, tableOf, countsLength}
 use Rattle.calls.specs.Tables.{tableLength, kindIn, payloadIn, statusIn, countIn, labelIn, predecessorIn, labelsIn, predecessorsIn}
 
 -- THE WORDS OF THE NODES
 module _ (labels predecessors : List ℕ) where
   -- the two words of node v
   abbrev pub nodePair : ℕ → List ℕ
-  nodePair v = tableWord 9 (at labels v) ∷ tableWord 10 (at predecessors v) ∷ []
+  nodePair v = wordOf 9 (at labels v) ∷ wordOf 10 (at predecessors v) ∷ []
 
   pub no-node-words : nodeWords labels predecessors 0 ≡ []
   unfolding nodeWords
@@ -50,18 +51,10 @@ module _ (labels predecessors : List ℕ) where
       List·getD-append W (nodePair n) 0 (2 * v + j) (let in-front : 2 * v + j < length W = omega arith in in-front) ∙ node-word-at n v j lt lj)
       (eq-or-lt-of-le (le-of-suc-le-suc l)))
 
--- the payload of a table word
-pub payload-word : (kind payload : ℕ) → payload < 268435456 → payloadOf (tableWord kind payload) ≡ payload
-payload-word kind payload l = omega arith
-
--- and its kind
-pub kind-word : (kind payload : ℕ) → payload < 268435456 → kindOf (tableWord kind payload) ≡ kind
-kind-word kind payload l = omega arith
-
 -- THE WORDS OF THE COUNTS
 -- the two words of a count
 abbrev pub countPair : ℕ → List ℕ
-countPair c = tableWord 11 (c / payloads) ∷ tableWord 11 (c % payloads) ∷ []
+countPair c = wordOf 11 (c / payloads) ∷ wordOf 11 (c % payloads) ∷ []
 
 pub count-words-length : (counts : List ℕ) → length (countWords counts) ≡ 2 * length counts
 count-words-length [] = refl
@@ -113,7 +106,7 @@ module _ (ended : Bool) (counts labels predecessors : List ℕ) (n : ℕ) where
       at-kind false = refl
 
   -- kind and payload of the word at a place
-  read-as : {i j : ℕ} (kind payload : ℕ) → i ≡ j → at table j ≡ tableWord kind payload → payload < 268435456
+  read-as : {i j : ℕ} (kind payload : ℕ) → i ≡ j → at table j ≡ wordOf kind payload → payload < 268435456
       → (kindIn table i ≡ kind) × (payloadIn table i ≡ payload)
   read-as kind payload same e small =
       let word = ap (at table) same ∙ e in (ap kindOf word ∙ kind-word kind payload small, ap payloadOf word ∙ payload-word kind payload small)

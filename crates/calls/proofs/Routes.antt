@@ -12,7 +12,8 @@ use Rattle.indices.specs.Steps.{if_then_else_}
 use Rattle.indices.proofs.Tests.{and-left, and-right}
 use Rattle.sheet.specs.Words.{top}
 use Rattle.sheet.specs.Sections.{nodeCount}
-use Rattle.answer.specs.Answer.{Refusal, numberOf, input, state, Answer, accepted, ended, paused, route, noRoute, refused, Case, _when_, isRefused, lowest}
+use Rattle.answer.specs.Answer.{Refusal, numberOf, input, state, Case, _when_, isRefused, lowest}
+use Rattle.answer.specs.Answer.{Answer, accepted, ended, paused, route, noRoute, written, refused}
 use Rattle.answer.proofs.Lowest.{lowest-append, lowest-clear, lowest-stop}
 use Rattle.judgement.specs.Judgement.{formRefusals, countRefusals, arcRefusals, divisionRefusals, refusalsUnder, refusals, judgement, Accepted}
 use Rattle.procedure.specs.OfSheet.{graphOf}
@@ -29,6 +30,7 @@ rank ended = 26
 rank paused = 26
 rank (route n) = 26
 rank noRoute = 26
+rank (written n) = 26
 
 answered-rank : (a : Answer) → isRefused a ≡ false → 24 < rank a
 answered-rank accepted e = omega arith
@@ -36,6 +38,7 @@ answered-rank ended e = omega arith
 answered-rank paused e = omega arith
 answered-rank (route n) e = omega arith
 answered-rank noRoute e = omega arith
+answered-rank (written n) e = omega arith
 answered-rank (refused r) e = absurd (true≢false e)
 
 -- the input is at fault
@@ -50,6 +53,7 @@ byInput ended = false
 byInput paused = false
 byInput (route _) = false
 byInput noRoute = false
+byInput (written _) = false
 
 answered-not : (a : Answer) → isRefused a ≡ false → byInput a ≡ false
 answered-not accepted e = refl
@@ -57,6 +61,7 @@ answered-not ended e = refl
 answered-not paused e = refl
 answered-not (route n) e = refl
 answered-not noRoute e = refl
+answered-not (written _) e = refl
 answered-not (refused r) e = absurd (true≢false e)
 
 -- every refusal of the list is of the input

@@ -1,15 +1,18 @@
 // Tries each case of standard input, a line of hexadecimal digits in which spaces are passed over: CALL NUMBER WORDS SIZE SHEET TABLE. The first four are
-// words of eight digits. CALL is 1 to judge, 2 to run to the end, 3 to run for at most NUMBER rounds, 4 for the route to node NUMBER, 5 for the listing.
-// WORDS words are lent, as the table of a run or the buffer of a route. SHEET has SIZE bytes. TABLE, for a route alone, is the rest of the line.
-// For a listing, what `marks` prints is printed; for another case the answer's word and, where a lent word has changed, the lent words up to the last
-// changed one; for a line that is no case `unreadable`.
+// words of eight digits. CALL is 1 to judge, 2 to run to the end, 3 to run for at most NUMBER rounds, 4 for the route to node NUMBER, 5 for the listing,
+// 6 for the canonical form. WORDS words are lent, as the table of a run or the buffer of a route; for the canonical form as many bytes. SHEET has SIZE
+// bytes. TABLE, for a route alone, is the rest of the line.
+// For a listing, what `marks` prints is printed; for another case the answer's word and, where what is lent has changed, the lent words or bytes up to the
+// last changed one; for a line that is no case `unreadable`.
 ghost use Prim.Native.Nat.{_≤_};
 ghost use lib.ListN.{length};
 ghost use Rattle.io.specs.Counts.{Counts};
 use answer::Fault;
+use answer::copied::Copied;
 use answer::ran::Ran;
 use answer::routed::Routed;
 use cases_lent::FILLING;
+use cases_lent::bytes::FILLING_BYTE;
 use judge::Judged;
 use libc::STDIN_FILENO;
 use libc::STDOUT_FILENO;
@@ -19,6 +22,9 @@ const ROOM: usize = 65552;
 
 // The most words of a table, and the most that are lent.
 const MOST_WORDS: usize = 4096;
+
+// The most bytes that are lent: more than the longest sheet has.
+const MOST_BYTES: usize = 33792;
 
 // Stands for the number of digits read where a line holds another sign or is too long. It is odd, and more than there is room for.
 const NO_DIGITS: usize = usize::MAX;
@@ -37,6 +43,8 @@ const PAUSED: u32 = 262144;
 const NO_ROUTE: u32 = 327680;
 
 const ROUTE: u32 = 393216;
+
+const WRITTEN: u32 = 458752;
 
 fn fault_word(fault: Fault) -> u32 {
     match fault {
@@ -65,6 +73,13 @@ fn word_of_routed(routed: Routed) -> u32 {
         Routed::Route(arcs) => ROUTE + arcs % 65536,
         Routed::NoRoute => NO_ROUTE,
         Routed::Refused(fault) => fault_word(fault),
+    }
+}
+
+fn word_of_copied(copied: Copied) -> u32 {
+    match copied {
+        Copied::Written(bytes) => WRITTEN + bytes % 65536,
+        Copied::Refused(fault) => fault_word(fault),
     }
 }
 
@@ -142,11 +157,52 @@ fn print_lent(call: u32, number: u32, words: usize, sheet: &[u8], bytes: &[u8], 
     print_answer(word, lent);
 }
 
-fn print_call(call: u32, number: u32, words: usize, sheet: &[u8], bytes: &[u8])
+fn print_filled(call: u32, number: u32, words: usize, sheet: &[u8], bytes: &[u8])
     requires { ⌜ words ≤ 4096 ⌝ }
 {
     let mut lent = [FILLING; MOST_WORDS];
     print_lent(call, number, words, sheet, bytes, &mut lent);
+}
+
+fn print_byte(byte: u8) {
+    io::print_hex(STDOUT_FILENO, byte as u64, 2);
+}
+
+fn print_bytes(bytes: &[u8]) {
+    let mut i = 0;
+    while i < bytes.len() {
+        print_byte(bytes[i]);
+        i += 1;
+    }
+}
+
+// Prints the answer's word and, where a lent byte has changed, the lent bytes up to the last changed one.
+fn print_copied(word: u32, lent: &[u8]) {
+    print_word(word);
+    let used = cases_lent::bytes::used(lent);
+    if used > 0 {
+        io::write_all(STDOUT_FILENO, b" ");
+        print_bytes(&lent[0..used]);
+    }
+    io::write_all(STDOUT_FILENO, b"\n");
+}
+
+// Lends the first bytes.
+fn print_lent_bytes(bytes: usize, sheet: &[u8], lent: &mut [u8])
+    requires { ⌜ bytes ≤ length (now lent) ⌝ }
+{
+    let copied = canonical::canonical(sheet, &mut lent[0..bytes]);
+    print_copied(word_of_copied(copied), lent);
+}
+
+// Prints what is answered to a case of the canonical form, and answers whether there is room for the bytes lent.
+fn print_canonical(bytes: usize, sheet: &[u8]) -> bool {
+    if bytes > MOST_BYTES {
+        return false;
+    }
+    let mut lent = [FILLING_BYTE; MOST_BYTES];
+    print_lent_bytes(bytes, sheet, &mut lent);
+    true
 }
 
 fn print_listing(sheet: &[u8]) {
@@ -155,21 +211,30 @@ fn print_listing(sheet: &[u8]) {
     report::print_report(sheet, &mut table, &mut out);
 }
 
+// Prints what is answered to a case of another call, and answers whether there is room for the words lent.
+fn print_call(call: u32, number: u32, words: usize, sheet: &[u8], bytes: &[u8]) -> bool {
+    if words > MOST_WORDS {
+        return false;
+    }
+    if call == 5 {
+        print_listing(sheet);
+    } else {
+        print_filled(call, number, words, sheet, bytes);
+    }
+    true
+}
+
 // Whether there is such a call, and so many bytes can follow its sheet: for a route whole words for which there is room, and else none.
 fn is_case(call: u32, bytes: usize) -> bool {
     if call == 4 {
         return bytes % 4 == 0 && bytes / 4 <= MOST_WORDS;
     }
-    1 <= call && call <= 5 && bytes == 0
+    1 <= call && call <= 6 && bytes == 0
 }
 
 // Prints what is answered to a case, given as its bytes, and answers whether it is one.
 fn print_case(case: &[u8]) -> bool {
     if case.len() < 16 {
-        return false;
-    }
-    let words = sheet::word_at(case, 2) as usize;
-    if words > MOST_WORDS {
         return false;
     }
     let size = sheet::word_at(case, 3) as usize;
@@ -181,9 +246,9 @@ fn print_case(case: &[u8]) -> bool {
     if !is_case(call, case.len() - end) {
         return false;
     }
-    if call == 5 {
-        print_listing(&case[16..end]);
-        return true;
+    let words = sheet::word_at(case, 2) as usize;
+    if call == 6 {
+        return print_canonical(words, &case[16..end]);
     }
     print_call(
         call,
@@ -191,8 +256,7 @@ fn print_case(case: &[u8]) -> bool {
         words,
         &case[16..end],
         &case[end..],
-    );
-    true
+    )
 }
 
 // Prints what is answered to a line.

@@ -1,4 +1,4 @@
--- The words that the test program lends to a call, and how many of them the call has used. Definitions.
+-- What the test program lends to a call, words or bytes, and how much of it the call has used. Definitions.
 use Prim.Native.Nat.{ℕ, zero, suc}
 use mathlib.Core.List.{List}
 use lib.ListN.{length}
@@ -10,11 +10,15 @@ use Rattle.indices.specs.Columns.{at}
 abbrev pub filling : ℕ
 filling = 3318072773
 
--- how many of the first n words there are up to the last that is another one
-unfoldable pub usedBelow : List ℕ → ℕ → ℕ
-usedBelow words zero = 0
-usedBelow words (suc n) = if eqb (at words n) filling then usedBelow words n else suc n
+-- one of its bytes, which are all the same
+abbrev pub fillingByte : ℕ
+fillingByte = 197
 
--- how many words there are up to it
-unfoldable pub used : List ℕ → ℕ
-used words = usedBelow words (length words)
+-- how many of the first n there are up to the last that is not f
+unfoldable pub usedBelow : ℕ → List ℕ → ℕ → ℕ
+usedBelow f lent zero = 0
+usedBelow f lent (suc n) = if eqb (at lent n) f then usedBelow f lent n else suc n
+
+-- how many there are up to it
+unfoldable pub used : ℕ → List ℕ → ℕ
+used f lent = usedBelow f lent (length lent)

@@ -1,15 +1,17 @@
-// The words that the test program lends to a call.
+// The words and the bytes that the test program lends to a call.
+pub mod bytes;
+
 ghost use mathlib.Core.Path.{_≡_};
 ghost use Prim.Native.Nat.{_≤_};
 ghost use lib.ListN.{length};
-ghost use Rattle.cases_lent.specs.Used.{used as usedWords};
+ghost use Rattle.cases_lent.specs.Used.{filling, used as usedOf};
 
-// The word that they hold before the call, of a kind that no answer has.
+// The word that lent words hold before the call, of a kind that no answer has.
 pub const FILLING: u32 = 3318072773;
 
 // How many words there are up to the last one that holds another. The second promise follows from the first.
 pub fn used(words: &[u32]) -> usize
-    ensures { λ r. ⌜ (r ≡ usedWords (now (words .entry))) × (r ≤ length (now (words .entry))) ⌝ }
+    ensures { λ r. ⌜ (r ≡ usedOf filling (now (words .entry))) × (r ≤ length (now (words .entry))) ⌝ }
 {
     let mut n = words.len();
     while n > 0 {

@@ -1,8 +1,10 @@
 pub mod Tests
 pub mod Most
+pub mod Least
 pub mod Totals
 pub mod Tally
 pub mod Steps
 pub mod Pigeonhole
+pub mod Renumbering
 pub mod Columns
 pub mod Entries

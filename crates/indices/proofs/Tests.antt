@@ -9,9 +9,18 @@ use native.Mathlib.Omega.{arith}
 use borrow.Author.Tests.{eq-eqb, ne-eqb, lt-ltb, le-ltb, not-true, not-false}
 use lib.Dec.{ltb, eqb}
 use Rattle.indices.specs.Tests.{all, any, count, lead}
-use Rattle.indices.proofs.Steps.{by-equal}
+use Rattle.indices.proofs.Steps.{by-equal, by-truth}
 
 -- TRUTH VALUES
+pub same-truth : (a b : Bool) → (a ≡ true → b ≡ true) → (b ≡ true → a ≡ true) → a ≡ b
+same-truth true b f g = sym (f refl)
+same-truth false true f g = g refl
+same-truth false false f g = refl
+
+pub never : (a : Bool) → (a ≡ true → ⊥) → a ≡ false
+never true f = absurd (f refl)
+never false f = refl
+
 pub or-left : (a b : Bool) → a || b ≡ false → a ≡ false
 or-left true b e = e
 or-left false b e = refl
@@ -42,6 +51,11 @@ and-right false b e = absurd (true≢false (sym e))
 
 pub and-both : (a b : Bool) → a ≡ true → b ≡ true → a && b ≡ true
 and-both a b e h = rw e h
+
+-- the second part matters only where the first holds
+pub and-same : (a b b′ : Bool) → (a ≡ true → b ≡ b′) → a && b ≡ a && b′
+and-same true b b′ h = h refl
+and-same false b b′ h = refl
 
 -- a disjunction is an implication from the first part's failure
 pub or-then : (a b : Bool) → a || b ≡ true → a ≡ false → b ≡ true
@@ -75,6 +89,13 @@ any-at p zero i e l = absurd (not-suc-le-zero l)
 any-at p (suc n) i e l =
     ⊎-elim (λ q. rw (q) (or-right (any p n) (p n) e)) (λ lt. any-at p n i (or-left (any p n) (p n) e) lt)
     (eq-or-lt-of-le (le-of-suc-le-suc l))
+
+-- an index that passes, where there is one
+pub any-found : (p : ℕ → Bool) (n : ℕ) → any p n ≡ true → (i : ℕ) × (i < n) × (p i ≡ true)
+unfolding any
+any-found p zero h = absurd (true≢false (sym h))
+any-found p (suc n) h =
+    by-truth (any p n) (λ e. let w = any-found p n e in (w .0, omega (arith, w .1), w .2)) (λ e. (n, omega arith, or-then (any p n) (p n) h e))
 
 -- none passes if each does not
 pub any-false : (p : ℕ → Bool) (n : ℕ) → ((i : ℕ) → i < n → p i ≡ false) → any p n ≡ false
@@ -286,3 +307,15 @@ lead-before p (suc n) (suc i) l h = at (p 0) (lead-before (λ k. p (suc k)) n i 
     at : (b : Bool) → lead (λ k. p (suc k)) n ≤ i → cond b (suc (lead (λ k. p (suc k)) n)) 0 ≤ suc i
     at true l = omega arith
     at false l = omega arith
+
+-- what stands before it passes
+pub lead-true : (p : ℕ → Bool) (n i : ℕ) → i < lead p n → p i ≡ true
+lead-true p n i l =
+    by-truth (p i) (λ e. e) (λ e. absurd (let late = lead-before p n i (omega (arith, lead-le p n)) e in omega arith))
+
+-- the first index that passes is found, where some index i passes
+pub first-passing : (p : ℕ → Bool) (n i : ℕ) → i < n → p i ≡ true → (lead (λ k. not (p k)) n < n) × (p (lead (λ k. not (p k)) n) ≡ true)
+first-passing p n i l h =
+    let miss : ℕ → Bool = λ k. not (p k) in
+    let soon : lead miss n ≤ i = lead-before miss n i l (ap not h) in
+    (omega arith, not-false (p (lead miss n)) (lead-false miss n (omega arith)))

@@ -1,7 +1,9 @@
 -- Columns: lists of numbers, read by index. Definitions.
 use Prim.Native.Nat.{ℕ, zero, suc}
+use mathlib.Core.Bool.{Bool}
 use mathlib.Core.List.{List, [], _∷_}
 use lib.ListN.{getD}
+use Rattle.indices.specs.Steps.{if_then_else_}
 
 -- the entry at i, as a slice is read
 abbrev pub at : List ℕ → ℕ → ℕ
@@ -11,3 +13,8 @@ at column i = getD column i 0
 unfoldable pub column : ℕ → (ℕ → ℕ) → List ℕ
 column zero f = []
 column (suc n) f = f 0 ∷ column n (λ i. f (suc i))
+
+-- the entries that pass the test, in order
+unfoldable pub passing : (ℕ → Bool) → List ℕ → List ℕ
+passing test [] = []
+passing test (x ∷ xs) = let rest = passing test xs in if test x then x ∷ rest else rest

@@ -1,5 +1,5 @@
 -- Tests and figures over the indices below a bound. Each is computed. Definitions.
-use Prim.Native.Nat.{ℕ, zero, suc, _+_, max}
+use Prim.Native.Nat.{ℕ, zero, suc, _+_, max, min}
 use mathlib.Core.Bool.{Bool, true, false, _&&_, _||_}
 use Rattle.indices.specs.Steps.{if_then_else_}
 
@@ -27,6 +27,11 @@ lead p (suc n) = if p 0 then suc (lead (λ k. p (suc k)) n) else 0
 unfoldable pub most : (ℕ → ℕ) → ℕ → ℕ
 most f zero = 0
 most f (suc n) = max (most f n) (f n)
+
+-- the least value at an index below n, and the limit where there is none below it
+unfoldable pub least : ℕ → (ℕ → ℕ) → ℕ → ℕ
+least limit f zero = limit
+least limit f (suc n) = min (least limit f n) (f n)
 
 -- f 0 + f 1 + .. + f (n - 1)
 unfoldable pub total : (ℕ → ℕ) → ℕ → ℕ

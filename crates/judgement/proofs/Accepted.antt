@@ -1,4 +1,4 @@
--- What an accepted sheet ensures: none of the refusals applies to it, and what each of them says then.
+-- A sheet is accepted just where none of the refusals applies to it; and what each of them says then.
 use Prim.Native.Nat.{ℕ, suc, _<_, _≤_}
 use mathlib.Core.Bool.{Bool, true, false, _||_}
 use mathlib.Core.List.{List}
@@ -16,32 +16,36 @@ use Rattle.sheet.specs.Arcs.{tail, head, arcLength, endOf}
 use Rattle.sheet.specs.Inner.{Nesting}
 use Rattle.sheet.specs.Regions.{regionCount, leafWord, parentWord, arcWord, isLeaf, parent, height}
 use Rattle.answer.proofs.Lowest.{clear-of}
-use Rattle.judgement.specs.Form.{wrongFront, noRegionWord, outOfOrder, nodesOutside, sourceOutside, spanOutside, spansOutside, tooMany}
+use Rattle.judgement.specs.Form.{wrongSize, wrongFront, noRegionWord, outOfOrder, bitSet, nodesOutside, sourceOutside, spanOutside, spansOutside, tooMany}
 use Rattle.judgement.specs.Arcs.{endsOutside, tooLong, lengthsOutside, endsAt, tooManyAtNode}
 use Rattle.judgement.specs.Division.{wrongParents, noSuchArc, leafOfArc, notOneLeaf, wrongLeaves, childOf, childless, childlessRegions, spansDiffer}
 use Rattle.judgement.specs.Judgement.{formRefusals, countRefusals, arcRefusals, divisionRefusals, refusalsUnder, refusals, judgement, Accepted}
 use Rattle.judgement.proofs.Parents as parents
 use Rattle.judgement.proofs.Clear as clear
 
--- no refusal applies, one field for each that says something of later calls
-record NoRefusal (b : List ℕ) : Type 0 where
-  order : outOfOrder b ≡ false
-  nodes : nodesOutside b ≡ false
-  source : sourceOutside b ≡ false
-  spans : spansOutside b ≡ false
-  many : tooMany b ≡ false
-  ends : endsOutside b ≡ false
-  lengths : lengthsOutside b ≡ false
-  degrees : tooManyAtNode mostArcsEachWay b ≡ false
-  parents : wrongParents (regionWords b) ≡ false
-  leaves : wrongLeaves (regionWords b) (arcCount b) ≡ false
-  children : childlessRegions (regionWords b) ≡ false
-  height : spansDiffer (regionWords b) (spanCount b) ≡ false
+-- no refusal applies, a field for each
+pub record NoRefusal (b : List ℕ) : Type 0 where
+  pub size : wrongSize b ≡ false
+  pub order : outOfOrder b ≡ false
+  pub bits : bitSet b ≡ false
+  pub nodes : nodesOutside b ≡ false
+  pub source : sourceOutside b ≡ false
+  pub spans : spansOutside b ≡ false
+  pub many : tooMany b ≡ false
+  pub ends : endsOutside b ≡ false
+  pub lengths : lengthsOutside b ≡ false
+  pub degrees : tooManyAtNode mostArcsEachWay b ≡ false
+  pub parents : wrongParents (regionWords b) ≡ false
+  pub leaves : wrongLeaves (regionWords b) (arcCount b) ≡ false
+  pub children : childlessRegions (regionWords b) ≡ false
+  pub height : spansDiffer (regionWords b) (spanCount b) ≡ false
 
-none-applies : (b : List ℕ) → Accepted b → NoRefusal b
+pub none-applies : (b : List ℕ) → Accepted b → NoRefusal b
 unfolding judgement refusalsUnder formRefusals countRefusals arcRefusals divisionRefusals
 none-applies b ok = let free = clear-of (refusals b) ok in record {
+  size = free 1;
   order = free 2;
+  bits = free 3;
   nodes = free 4;
   source = free 5;
   spans = free 6;
@@ -54,6 +58,26 @@ none-applies b ok = let free = clear-of (refusals b) ok in record {
   children = free 13;
   height = free 14;
 }
+
+pub none-accepts : (b : List ℕ) → NoRefusal b → Accepted b
+unfolding judgement refusalsUnder formRefusals countRefusals arcRefusals divisionRefusals
+none-accepts b none =
+    rw (
+      none .size,
+      none .order,
+      none .bits,
+      none .nodes,
+      none .source,
+      none .spans,
+      none .many,
+      none .ends,
+      none .lengths,
+      none .degrees,
+      none .parents,
+      none .leaves,
+      none .children,
+      none .height,
+    )
 
 module _ (b : List ℕ) (ok : Accepted b) where
   none : NoRefusal b

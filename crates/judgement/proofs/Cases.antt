@@ -3,12 +3,12 @@ use mathlib.Core.Path.{_≡_, refl}
 use mathlib.Core.List.{[], _∷_}
 use Rattle.indices.specs.Tests.{any, count, lead, most}
 use Rattle.sheet.specs.Limits.{mostArcsBefore}
-use Rattle.sheet.specs.Words.{word, kind, payload, top}
+use Rattle.sheet.specs.Words.{word, kind, payload, top, bytesOf}
 use Rattle.sheet.specs.Sections.{spansFrom, arcsFrom, regionWords}
 use Rattle.sheet.specs.Arcs.{tail, head, arcLength}
 use Rattle.sheet.specs.Heights.{heightIn, heightOf}
 use Rattle.sheet.specs.Regions.{leafWord, parentWord, arcWord}
-use Rattle.sheet.proofs.Samples.{bytesOf, turntable, fiveIn, fiveOut, flatHall}
+use Rattle.sheet.proofs.Samples.{turntable, fiveIn, fiveOut, flatHall}
 use Rattle.answer.specs.Answer.{input, accepted, refused}
 use Rattle.judgement.specs.Form.{wrongSize, outOfOrder, bitSet, nodesOutside, sourceOutside, spansOutside, tooMany}
 use Rattle.judgement.specs.Arcs.{endsOutside, lengthsOutside, crowdedNodes, tooManyAtNode}

@@ -5,7 +5,7 @@ use mathlib.Core.List.{List, _++_}
 use lib.ListN.{length, drop}
 use Rattle.indices.specs.Steps.{if_then_else_}
 use Rattle.sheet.specs.Sections.{nodeCount, spanCount}
-use Rattle.answer.specs.Answer.{numberOf, Answer, accepted, ended, paused, route, noRoute, refused, isRefused}
+use Rattle.answer.specs.Answer.{numberOf, Answer, accepted, ended, paused, route, noRoute, written, refused, isRefused}
 use Rattle.judgement.specs.Judgement.{judgement}
 use Rattle.procedure.specs.Procedure.{enoughRounds}
 use Rattle.calls.specs.Tables.{tableLength}
@@ -20,6 +20,7 @@ textOf ended listing = listing
 textOf paused listing = listing
 textOf (route n) listing = listing
 textOf noRoute listing = listing
+textOf (written n) listing = listing
 
 -- the table of the run to its end
 abbrev pub endTable : List ℕ → List ℕ

@@ -1,2 +1,2 @@
-pub mod RouteLength
+pub mod Figures
 pub mod Told

@@ -1,22 +1,26 @@
 -- The code of a call's answer says the answer: a code below 100 is a refusal, and its number tells whose.
-use Prim.Native.Nat.{ℕ, _+_, _-_}
+use Prim.Native.Nat.{ℕ, _+_, _-_, _<_}
 use native.Mathlib.Omega.{arith}
 use mathlib.Core.Bool.{Bool, true, false, cond, not, _&&_}
 use mathlib.Core.Path.{_≡_, refl, ap, _∙_}
 use mathlib.Core.List.{List, [], _∷_}
-use borrow.Author.Tests.{le-ltb, ne-eqb, not-true}
+use borrow.Author.Tests.{lt-ltb, le-ltb, ne-eqb, not-true}
 use lib.ListN.{length}
 use lib.Dec.{ltb, eqb}
 use Rattle.indices.specs.Steps.{if_then_else_}
+use Rattle.indices.proofs.Steps.{by-truth}
 use Rattle.indices.proofs.Tests.{and-left, and-right}
 use Rattle.sheet.specs.Words.{top}
-use Rattle.answer.specs.Answer.{Refusal, input, state, Answer, accepted, ended, paused, route, noRoute, refused, Case, lowest}
+use Rattle.answer.specs.Answer.{Refusal, input, state, Answer, accepted, ended, paused, route, noRoute, written, refused, Case, lowest}
 use Rattle.judgement.specs.Judgement.{formRefusals, countRefusals, arcRefusals, divisionRefusals, refusalsUnder, refusals, judgement}
 use Rattle.calls.specs.Calls.{callRefusals}
 use Rattle.calls.specs.Tables.{statusIn, labelIn}
 use Rattle.calls.specs.Runs.{runCall, runAnswer, runTable}
 use Rattle.calls.specs.Routes.{tableRefusals, routeTo, foundRoute, routeCall, routeAnswer}
 use Rattle.answer.specs.Codes.{codeOf, fromState, answerOf}
+use Rattle.canonical_form.specs.Canonical.{canonical}
+use Rattle.calls.specs.Canonical.{canonicalCall, canonicalAnswer}
+use Rattle.pigrozk.proofs.Figures.{answered-accepted, way-within}
 
 -- equal answers have one code
 pub same-code : {code : ℕ} {a same : Answer} → code ≡ codeOf a → a ≡ same → code ≡ codeOf same
@@ -45,9 +49,10 @@ refusal-told (state n) e =
     let low : ltb n 100 ≡ true = and-right (fromState n) _ e in
     rw (low, ours)
 
-count-told : (n : ℕ) → Told (route n)
+-- a count in an answer: behind what has no number of its own
+route-figure-told : (n : ℕ) → n < 65536 → Told (route n)
 unfolding answerOf
-count-told n =
+route-figure-told n few =
     let back : 65536 + n - 65536 ≡ n = omega arith in
     rw (
       le-ltb (65536 + n) 100 (omega arith),
@@ -55,41 +60,62 @@ count-told n =
       ne-eqb (65536 + n) 257 (omega arith),
       ne-eqb (65536 + n) 258 (omega arith),
       ne-eqb (65536 + n) 259 (omega arith),
+      lt-ltb (65536 + n) 131072 (omega arith),
       back,
     )
 
-lowest-told : (cs : List Case) (a : Answer) → allInRow cs ≡ true → Told a → Told (lowest cs a)
-lowest-told [] a rows told = told
+written-figure-told : (n : ℕ) → Told (written n)
+unfolding answerOf
+written-figure-told n =
+    let back : 131072 + n - 131072 ≡ n = omega arith in
+    rw (
+      le-ltb (131072 + n) 100 (omega arith),
+      ne-eqb (131072 + n) 256 (omega arith),
+      ne-eqb (131072 + n) 257 (omega arith),
+      ne-eqb (131072 + n) 258 (omega arith),
+      ne-eqb (131072 + n) 259 (omega arith),
+      le-ltb (131072 + n) 131072 (omega arith),
+      back,
+    )
+
+-- the answer is asked for where no case applies
+lowest-told : (cs : List Case) (a : Answer) → allInRow cs ≡ true → (lowest cs accepted ≡ accepted → Told a) → Told (lowest cs a)
+lowest-told [] a rows told = told refl
 lowest-told (c ∷ cs) a rows told =
     let row = inRow (c .refusal) in
-    at (c .applies) (refusal-told (c .refusal) (and-left row _ rows)) (lowest-told cs a (and-right row _ rows) told)
-  where
-    at : (t : Bool) → Told (refused (c .refusal)) → Told (lowest cs a) → Told (cond t (refused (c .refusal)) (lowest cs a))
-    at true this rest = this
-    at false this rest = rest
+    by-truth (c .applies)
+    (λ h. rw h (refusal-told (c .refusal) (and-left row _ rows)))
+    (λ h. rw h (lowest-told cs a (and-right row _ rows) (λ clear. told (rw h clear))))
 
 pub judge-told : (b : List ℕ) → Told (judgement b)
 unfolding judgement refusalsUnder formRefusals countRefusals arcRefusals divisionRefusals answerOf
-judge-told b = lowest-told (refusals b) accepted refl refl
+judge-told b = lowest-told (refusals b) accepted refl (λ _. refl)
 
 pub run-told : (b : List ℕ) (k : ℕ) (table : List ℕ) → Told (runAnswer b k table)
 unfolding runAnswer refusalsUnder formRefusals countRefusals arcRefusals divisionRefusals answerOf
-run-told b k table = lowest-told (callRefusals (refusals b) (runCall b k table)) _ refl (at (eqb (statusIn (runTable b k)) 1))
+run-told b k table = lowest-told (callRefusals (refusals b) (runCall b k table)) _ refl (λ _. at (eqb (statusIn (runTable b k)) 1))
   where
     at : (over : Bool) → Told (if over then ended else paused)
     at true = refl
     at false = refl
 
 module _ (b table : List ℕ) (node : ℕ) (buffer : List ℕ) where
-  found-told : Told (foundRoute b table node buffer)
+  found-told : length (routeTo b table node) < 65536 → Told (foundRoute b table node buffer)
   unfolding foundRoute answerOf
-  found-told = at (eqb (labelIn table node) top) (ltb (length buffer) (length (routeTo b table node)))
+  found-told few = at (eqb (labelIn table node) top) (ltb (length buffer) (length (routeTo b table node)))
     where
       at : (u s : Bool) → Told (if u then noRoute else cond s (refused (state 25)) (route (length (routeTo b table node))))
       at true s = refl
       at false true = refl
-      at false false = count-told (length (routeTo b table node))
+      at false false = route-figure-told (length (routeTo b table node)) few
 
   pub route-told : Told (routeAnswer b table node buffer)
   unfolding routeAnswer tableRefusals refusalsUnder formRefusals countRefusals arcRefusals divisionRefusals
-  route-told = lowest-told (callRefusals (refusals b) (routeCall b table node buffer)) _ refl found-told
+  route-told =
+      let call = routeCall b table node buffer in
+      lowest-told (callRefusals (refusals b) call) _ refl
+      (λ clear. found-told (omega (arith, way-within b table node buffer (answered-accepted b call clear))))
+
+pub canonical-told : (b out : List ℕ) → Told (canonicalAnswer b out)
+unfolding canonicalAnswer refusalsUnder formRefusals countRefusals arcRefusals divisionRefusals
+canonical-told b out = lowest-told (callRefusals (refusals b) (canonicalCall b out)) _ refl (λ _. written-figure-told (length (canonical b)))

@@ -1,4 +1,4 @@
-// The library for C and Rust: the four calls, each answered by one number.
+// The library for C and Rust: the five calls, each answered by one number.
 ghost use mathlib.Core.Path.{_≡_};
 ghost use lib.ListN.{length};
 ghost use Rattle.sheet.specs.Sections.{nodeCount};
@@ -8,6 +8,7 @@ ghost use Rattle.procedure.specs.Procedure.{enoughRounds};
 ghost use Rattle.calls.specs.Tables.{tableLength, statusSays, statusIn};
 ghost use Rattle.calls.specs.Runs.{runAnswer, tableAfter, Delivered};
 ghost use Rattle.calls.specs.Routes.{routeAnswer, bufferAfter, TableKnown};
+ghost use Rattle.calls.specs.Canonical.{canonicalAnswer, outAfter};
 ghost use Rattle.answer.specs.Codes.{codeOf};
 
 // Judges a sheet.
@@ -51,4 +52,13 @@ pub extern "C" fn pigrozk_route(sheet: &[u8], table: &[u32], node: u32, buffer: 
         × TableKnown (now (sheet .entry)) (now (table .entry)) (routeAnswer (now (sheet .entry)) (now (table .entry)) node (now (buffer .entry))) ⌝ }
 {
     answer::codes::routed_code(route::route(sheet, table, node, buffer))
+}
+
+// Writes the canonical form of a sheet at the front of `out`: the answer's code, and every byte of `out` afterwards.
+#[no_mangle]
+pub extern "C" fn pigrozk_canonical(sheet: &[u8], out: &mut [u8]) -> u32
+    ensures { λ r. ⌜ (r ≡ codeOf (canonicalAnswer (now (sheet .entry)) (now (out .entry))))
+        × (now (out .exit) ≡ outAfter (now (sheet .entry)) (now (out .entry))) ⌝ }
+{
+    answer::codes::copied_code(canonical::canonical(sheet, out))
 }

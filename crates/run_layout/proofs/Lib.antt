@@ -1,3 +1,3 @@
 mod Fronts
 pub mod Laying
-mod Represented
+pub mod Represented

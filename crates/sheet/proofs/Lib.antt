@@ -3,3 +3,5 @@ pub mod Handed
 pub mod Bounds
 pub mod Regions
 pub mod Samples
+pub mod Bytes
+pub mod RegionWords

@@ -4,10 +4,9 @@ ghost use mathlib.Core.List.{[], _∷_};
 ghost use Prim.Native.Nat.{_+_, _^_, _<_};
 ghost use lib.ListN.{length, set};
 ghost use lib.Seq.{sets};
-ghost use Rattle.procedure.specs.Table.{tableWord, statusWord, countWords};
-ghost use Rattle.sheet.specs.Words.{payloads};
+ghost use Rattle.procedure.specs.Table.{statusWord, countWords};
+ghost use Rattle.sheet.specs.Words.{payloads, wordOf};
 use sheet::COUNT_BASE;
-use sheet::PAYLOADS;
 
 // How many words the counts take, and how many stand before those of the nodes: these, and the status.
 pub const COUNT_WORDS: usize = 2 * run_counts::array::COUNTS;
@@ -23,35 +22,27 @@ pub const PREDECESSOR_KIND: u32 = 10;
 
 pub const COUNT_KIND: u32 = 11;
 
-// A word of the given kind.
-fn word(kind: u32, payload: u32) -> u32
-    requires { ⌜ (kind < 16) × (payload < payloads) ⌝ }
-    ensures { λ w. ⌜ w ≡ tableWord kind payload ⌝ }
-{
-    kind * PAYLOADS + payload
-}
-
 pub fn status_word(ended: bool) -> u32
     ensures { λ w. ⌜ w ≡ statusWord ended ⌝ }
 {
     if ended {
-        return word(STATUS_KIND, 1);
+        return sheet::word_of(STATUS_KIND, 1);
     }
-    word(STATUS_KIND, 0)
+    sheet::word_of(STATUS_KIND, 0)
 }
 
 pub fn label_word(label: u32) -> u32
     requires { ⌜ label < payloads ⌝ }
-    ensures { λ w. ⌜ w ≡ tableWord 9 label ⌝ }
+    ensures { λ w. ⌜ w ≡ wordOf 9 label ⌝ }
 {
-    word(LABEL_KIND, label)
+    sheet::word_of(LABEL_KIND, label)
 }
 
 pub fn predecessor_word(predecessor: u32) -> u32
     requires { ⌜ predecessor < payloads ⌝ }
-    ensures { λ w. ⌜ w ≡ tableWord 10 predecessor ⌝ }
+    ensures { λ w. ⌜ w ≡ wordOf 10 predecessor ⌝ }
 {
-    word(PREDECESSOR_KIND, predecessor)
+    sheet::word_of(PREDECESSOR_KIND, predecessor)
 }
 
 // Writes a word at place i.
@@ -78,5 +69,10 @@ pub fn write_count(table: &mut [u32], i: usize, count: u64)
 {
     let high = (count / COUNT_BASE) as u32;
     let low = (count % COUNT_BASE) as u32;
-    write_pair(table, i, word(COUNT_KIND, high), word(COUNT_KIND, low));
+    write_pair(
+        table,
+        i,
+        sheet::word_of(COUNT_KIND, high),
+        sheet::word_of(COUNT_KIND, low),
+    );
 }

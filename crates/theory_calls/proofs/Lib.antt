@@ -6,5 +6,6 @@ pub mod Finished
 pub mod Correct
 pub mod Work
 pub mod Marked
+pub mod Canonical
 pub mod AsBefore
 pub mod AddsUp

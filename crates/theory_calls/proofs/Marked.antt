@@ -7,14 +7,14 @@ use mathlib.Core.Path.{_≡_, refl}
 use lib.ListN.{replicate}
 use Rattle.indices.specs.Columns.{column}
 use Rattle.indices.specs.Steps.{if_then_else_, upTo, times}
-use Rattle.indices.specs.Tests.{all, any, count, lead, most}
-use Rattle.sheet.specs.Words.{word, kind, payload, top}
+use Rattle.indices.specs.Tests.{all, any, count, lead, most, least}
+use Rattle.sheet.specs.Words.{word, kind, payload, top, bytesOf}
 use Rattle.sheet.specs.Sections.{spansFrom, arcsFrom, regionWords}
 use Rattle.sheet.specs.Arcs.{tail, head, arcLength}
 use Rattle.sheet.specs.Heights.{heightIn, heightOf}
 use Rattle.sheet.specs.Regions.{leafWord, parentWord, arcWord}
-use Rattle.sheet.proofs.Samples.{bytesOf, mostOfHallA, hallA, patient, onesBelow, byTwos, oneNode, uneven, turntable, fiveIn, fiveOut}
-use Rattle.answer.specs.Answer.{input, state, Answer, accepted, ended, paused, route, refused}
+use Rattle.sheet.proofs.Samples.{mostOfHallA, hallA, patient, onesBelow, byTwos, oneNode, uneven, turntable, fiveIn, fiveOut}
+use Rattle.answer.specs.Answer.{input, state, Answer, accepted, ended, paused, route, written, refused}
 use Rattle.judgement.specs.Form.{wrongSize, outOfOrder, bitSet, nodesOutside, sourceOutside, spansOutside, tooMany}
 use Rattle.judgement.specs.Arcs.{endsOutside, lengthsOutside, crowdedNodes, tooManyAtNode}
 use Rattle.judgement.specs.Division.{wrongParents, wrongLeaves, childlessRegions, spansDiffer}
@@ -43,20 +43,24 @@ use Rattle.procedure.specs.Procedure.{
 }
 use Rattle.procedure.specs.Table.{nodeWords, tableOf}
 use Rattle.procedure.specs.Routes.{followed}
+use Rattle.canonical_form.specs.Numbering.{sooner, ancestor, holds, lowestArc, pathFor, path, newNumber, oldNumber}
+use Rattle.canonical_form.specs.Canonical.{newWord, frontWords, newWords, canonical}
+use Rattle.canonical_form.proofs.Cases.{neatHallA, renumbered, tied, tiedRenumbered}
 use Rattle.theory_shortest.specs.TableTest.{leadsBack, sourceTest, unfedTest, fedTest, relaxedTest, ledTest, settled?}
-use Rattle.calls.specs.Tables.{tableLength, wrongLength, statusSays, statusIn, roundsIn, leavesIn, labelsIn, predecessorsIn}
+use Rattle.calls.specs.Tables.{tableLength, wrongLength, statusSays, statusIn, roundsIn, leavesIn, predecessorIn, labelsIn, predecessorsIn}
 use Rattle.calls.specs.Work.{allSpansOne, leavesOnRoot, reachedArcs}
 use Rattle.calls.specs.Runs.{runAnswer, runTable, tableAfter}
 use Rattle.calls.specs.Routes.{nodeOutside, wrongNode, isPaused, malformed, notShortest, tableRefusals, routeTo, foundRoute, routeAnswer, leftBy, bufferAfter}
 use Rattle.calls.specs.AsBefore.{tableBefore}
+use Rattle.calls.specs.Canonical.{canonicalAnswer, outAfter}
 use Rattle.calls.proofs.Cases.{header, byTwosEnded, patientPaused}
 use Rattle.listing.specs.Text.{ascii, lastDigits, decimal}
 use Rattle.listing.specs.Listing.{cell, spaced, status, counted, levels, inner, statusLine, nodeLine, nodeLines, listingOf, refusedLine}
 use Rattle.listing.specs.Printed.{printed}
 
 -- a call as a case names it: to judge a sheet, given by its words; to run it for at most so many rounds, with a table lent; to read the route to a node
--- out of a table, with a buffer lent; what `marks` does, to run a sheet to its end and print; to run it as it was before request 2026-02; and to run it
--- and look at the work done
+-- out of a table, with a buffer lent; what `marks` does, to run a sheet to its end and print; to run it as it was before request 2026-02; to run it and
+-- look at the work done; to write its canonical form into a buffer of bytes
 pub data Task : Type 0 where
   judge : List ℕ → Task
   run : List ℕ → ℕ → List ℕ → Task
@@ -64,6 +68,7 @@ pub data Task : Type 0 where
   print : List ℕ → Task
   runBefore : List ℕ → ℕ → Task
   work : List ℕ → ℕ → Task
+  copy : List ℕ → List ℕ → Task
 
 -- a condition as a figure: 1 where it holds
 abbrev figure : Bool → ℕ
@@ -73,7 +78,7 @@ figure holds = if holds then 1 else 0
 abbrev workIn : List ℕ → List ℕ → List ℕ
 workIn b table = figure (allSpansOne b) ∷ figure (leavesOnRoot b) ∷ roundsIn table ∷ leavesIn table ∷ reachedArcs b table ∷ []
 
--- what comes of it: the answer, and the words of what was lent, the bytes printed, or the figures of the work
+-- what comes of it: the answer, and the words or bytes of what was lent, the bytes printed, or the figures of the work
 record Outcome : Type 0 where
   answer : Answer
   words : List ℕ
@@ -83,6 +88,7 @@ outcome (judge ws) = record { answer = judgement (bytesOf ws); words = [] }
 outcome (run ws k table) = record { answer = runAnswer (bytesOf ws) k table; words = tableAfter (bytesOf ws) k table }
 outcome (runBefore ws k) = let table = tableBefore (bytesOf ws) k in record { answer = statusSays (statusIn table); words = table }
 outcome (work ws k) = let table = runTable (bytesOf ws) k in record { answer = statusSays (statusIn table); words = workIn (bytesOf ws) table }
+outcome (copy ws out) = record { answer = canonicalAnswer (bytesOf ws) out; words = outAfter (bytesOf ws) out }
 outcome (print ws) = record { answer = judgement (bytesOf ws); words = printed (bytesOf ws) }
 outcome (readRoute ws table node buffer) =
     record { answer = routeAnswer (bytesOf ws) table node buffer; words = bufferAfter (bytesOf ws) table node buffer }
@@ -237,9 +243,42 @@ rows =
     ∷ run byTwos enoughRounds (blank 5) is ended leaving byTwosEnded
     -- no arc at all
     ∷ work oneNode enoughRounds is ended leaving (1 ∷ 1 ∷ 0 ∷ 0 ∷ 0 ∷ [])
+    -- 2026-04: "It fills the front of a lent byte buffer, the rest stays, and its byte length is returned."
+    ∷ copy hallA (replicate 74 7) is written 72 leaving (bytesOf neatHallA ++ (7 ∷ 7 ∷ []))
+    ∷ copy renumbered (replicate 72 7) is written 72 leaving bytesOf neatHallA
+    ∷ copy oneNode (replicate 13 7) is written 12 leaving (bytesOf oneNode ++ (7 ∷ []))
+    -- "31, output buffer shorter than what is to be written, after 14"
+    ∷ copy hallA (replicate 71 7) is refused (input 31) leaving replicate 71 7
+    ∷ copy oneNode [] is refused (input 31)
+    ∷ copy spanless (7 ∷ []) is refused (input 14) leaving (7 ∷ [])
+    -- "the same nesting under other region numbers": another table, with the distances of hall A
+    ∷ print renumbered is accepted leaving (
+    ascii "ended rounds 2 leaves 4 inner 2 2 updates 10\n"
+    ++ ascii "0 0 -\n"
+    ++ ascii "1 3 2\n"
+    ++ ascii "2 1 1\n"
+    ++ ascii "3 8 3\n"
+    )
     ∷ []
 
-pub marked : map (λ row. outcome (row .task)) rows ≡ map (λ row. row .expected) rows
+-- Where ties decide (2026-04): hall A and the same nesting under other numbers, and both with arc 0 shortened, all accepted; how many rounds the first two
+-- take, and which arc feeds node 1 in the others.
+pub record Ties : Type 0 where
+  pub hall-a-accepted : judgement (bytesOf hallA) ≡ accepted
+  pub renumbered-accepted : judgement (bytesOf renumbered) ≡ accepted
+  pub tied-accepted : judgement (bytesOf tied) ≡ accepted
+  pub tied-renumbered-accepted : judgement (bytesOf tiedRenumbered) ≡ accepted
+  pub rounds : roundsIn (runTable (bytesOf hallA) enoughRounds) ≡ 3
+  pub rounds-renumbered : roundsIn (runTable (bytesOf renumbered) enoughRounds) ≡ 2
+  pub feeding : predecessorIn (runTable (bytesOf tied) enoughRounds) 1 ≡ 0
+  pub feeding-renumbered : predecessorIn (runTable (bytesOf tiedRenumbered) enoughRounds) 1 ≡ 2
+
+-- all of it is computed
+record Computed : Type 0 where
+  each-row : map (λ row. outcome (row .task)) rows ≡ map (λ row. row .expected) rows
+  tied-halls : Ties
+
+computed : Computed
 unfolding any count lead most upTo times column word kind payload top spansFrom arcsFrom regionWords tail head arcLength heightIn heightOf leafWord
     parentWord arcWord judgement refusalsUnder formRefusals countRefusals arcRefusals divisionRefusals wrongSize outOfOrder bitSet nodesOutside
     sourceOutside spansOutside tooMany endsOutside lengthsOutside crowdedNodes tooManyAtNode wrongParents wrongLeaves childlessRegions spansDiffer leafOf
@@ -248,4 +287,23 @@ unfolding any count lead most upTo times column word kind payload top spansFrom 
     wrongLength runAnswer runTable tableAfter tableBefore all labelsIn predecessorsIn followed leadsBack sourceTest unfedTest fedTest relaxedTest ledTest
     settled? nodeOutside wrongNode isPaused malformed notShortest tableRefusals routeTo foundRoute routeAnswer leftBy bufferAfter lastDigits decimal cell
     spaced status counted levels inner statusLine nodeLine nodeLines listingOf refusedLine printed allSpansOne leavesOnRoot reachedArcs
-marked = refl
+    least sooner ancestor holds lowestArc pathFor path newNumber oldNumber newWord frontWords newWords canonical canonicalAnswer outAfter
+computed = record {
+  each-row = refl;
+  tied-halls = record {
+    hall-a-accepted = refl;
+    renumbered-accepted = refl;
+    tied-accepted = refl;
+    tied-renumbered-accepted = refl;
+    rounds = refl;
+    rounds-renumbered = refl;
+    feeding = refl;
+    feeding-renumbered = refl;
+  };
+}
+
+pub marked : map (λ row. outcome (row .task)) rows ≡ map (λ row. row .expected) rows
+marked = computed .each-row
+
+pub ties : Ties
+ties = computed .tied-halls

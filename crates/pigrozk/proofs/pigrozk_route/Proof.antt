@@ -1,7 +1,7 @@
 -- `pigrozk_route` meets its contract: the code of the route reader's answer, which counts few arcs.
 use borrow.Author.Needs.{needs}
 use Rattle.calls.proofs.Routes.{table-known}
-use Rattle.pigrozk.proofs.RouteLength.{few-arcs}
+use Rattle.pigrozk.proofs.Figures.{few-arcs}
 use Rattle.pigrozk.proofs.Told.{same-code}
 use Rattle.pigrozk.proofs.pigrozk_route.Statement.{statement}
 use Rattle.pigrozk.proofs.pigrozk_route.Tie as tie

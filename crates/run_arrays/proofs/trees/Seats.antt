@@ -32,7 +32,7 @@ module _ (d : Division) where
   -- the tree of the next region begins where this one's ends
   pub start-next : (r : ℕ) → treeStart d (suc r) ≡ treeStart d r + 2 * childCount d r
   unfolding treeStart childCount
-  start-next r = omega (arith, count-sum (underBelow d r) (isChild d r) (underBelow d (suc r)) (regions d) (λ c. split (ltb 0 c) (parent d c)))
+  start-next r = omega (arith, count-sum (underBelow d r) (isChild d r) (underBelow d (suc r)) (regions d) (λ c _. split (ltb 0 c) (parent d c)))
     where
       split : (b : Bool) (p : ℕ) → cond (b && ltb p (suc r)) 1 0 ≡ cond (b && ltb p r) 1 0 + cond (b && eqb p r) 1 0
       split false p = refl

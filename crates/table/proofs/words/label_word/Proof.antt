@@ -4,4 +4,4 @@ use Rattle.table.proofs.words.label_word.Statement.{statement}
 use Rattle.table.proofs.words.label_word.Tie as tie
 
 pub label-word-spec : {M : Type 1} → statement M
-label-word-spec = tie.close (tie.spec (λ c κs. search needs) (λ c. c .word .ensures))
+label-word-spec = tie.close (tie.spec (λ c κs. search needs) (λ c. c .word-of .ensures))

@@ -8,6 +8,6 @@ status-word-spec =
     tie.close
     (tie.spec
     (λ c κs. search needs)
-    (λ c. rw (c .before .if1 .taken) (c .word .ensures))
+    (λ c. rw (c .before .if1 .taken) (c .word-of .ensures))
     (λ c κs. search needs)
-    (λ c. rw (c .before .if1 .left) (c .word2 .ensures)))
+    (λ c. rw (c .before .if1 .left) (c .word-of2 .ensures)))

@@ -14,6 +14,6 @@ write-count-spec =
     (λ c κs. search needs)
     (λ c. search needs)
     (λ c.
-    let high : tie.After-word = search needs in
-    let low : tie.After-word2 = search needs in
-    rw (← high .word .ensures, ← low .word2 .ensures) (c .before .before .write-pair .ensures)))
+    let high : tie.After-word-of = search needs in
+    let low : tie.After-word-of2 = search needs in
+    rw (← high .word-of .ensures, ← low .word-of2 .ensures) (c .before .before .write-pair .ensures)))

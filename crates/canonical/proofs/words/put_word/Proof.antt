@@ -1,0 +1,27 @@
+-- `put_word` meets its contract: four stores.
+use borrow.Author.Needs.{needs}
+use native.Mathlib.Omega.{arith}
+use lib.ListN.{length-set}
+use Rattle.canonical.specs.Words.{wordPut}
+use Rattle.canonical.proofs.words.put_word.Statement.{statement}
+use Rattle.canonical.proofs.words.put_word.Tie as tie
+
+pub put-word-spec : {M : Type 1} → statement M
+unfolding wordPut
+put-word-spec =
+    tie.close
+    (tie.spec
+    (λ c. search needs)
+    (λ c. search needs)
+    (λ c. search needs)
+    (λ c. search needs)
+    (λ c. search needs)
+    (λ c. simp length-set (omega arith))
+    (λ c. search needs)
+    (λ c. search needs)
+    (λ c. simp length-set (omega arith))
+    (λ c. search needs)
+    (λ c. search needs)
+    (λ c. simp length-set (omega arith))
+    (λ c. search needs)
+    (λ c. search needs))

@@ -1,0 +1,10 @@
+pub mod Cases
+pub mod Dictionary
+pub mod Numbering
+pub mod Preorder
+pub mod Invariance
+pub mod Proper
+pub mod Form
+pub mod Accepted
+pub mod Shared
+pub mod Canonical

@@ -1,0 +1,4 @@
+pub mod Numbering
+pub mod Canonical
+pub mod Alike
+pub mod Inner

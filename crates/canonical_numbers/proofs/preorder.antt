@@ -1,0 +1,6 @@
+mod Counted
+mod Sizes
+mod Chains
+mod Rises
+mod Climbs
+mod Numbering
