@@ -1,4 +1,5 @@
--- The canonical form of an accepted sheet: it is accepted, is its own canonical form, and two sheets have the same exactly when they are alike.
+-- The canonical form of an accepted sheet: two sheets have the same exactly when they are alike, so it is its own, and its regions have the numbers that
+-- they would get.
 use Prim.Native.Nat.{ℕ, suc, _+_, _<_}
 use mathlib.Core.Path.{_≡_, refl, sym, ap, subst, _∙_}
 use mathlib.Core.Logic.{_↔_}
