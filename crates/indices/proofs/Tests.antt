@@ -109,7 +109,7 @@ unfolding any
 any-ext p q zero h = refl
 any-ext p q (suc n) h = rw (any-ext p q n (λ i l. h i (omega arith)), h n (omega arith))
 
-or-assoc : (a b c : Bool) → (a || b) || c ≡ a || (b || c)
+pub or-assoc : (a b c : Bool) → (a || b) || c ≡ a || (b || c)
 or-assoc true b c = refl
 or-assoc false b c = refl
 

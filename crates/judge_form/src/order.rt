@@ -1,62 +1,60 @@
 // Refusal 2: whether the kinds of a sheet's words are in order.
 ghost use mathlib.Core.Path.{_≡_};
 ghost use Rattle.judgement.specs.Form.{outOfOrder};
-ghost use Rattle.judge_form.specs.Kinds.{regionKind, arcOrRegion, mayFollow, mayEnd};
+ghost use Rattle.judgement.specs.Kinds.{mayBegin, mayFollow, mayEnd};
 use sheet::Cursor;
 use sheet::Step;
 
-// Whether the kind is 6 or 7: one test, whichever of the two it is.
-fn region_kind(kind: u32) -> bool
-    ensures { λ r. ⌜ r ≡ regionKind kind ⌝ }
+// Whether a sheet may begin with a word of that kind.
+fn may_begin(kind: u32) -> bool
+    ensures { λ r. ⌜ r ≡ mayBegin kind ⌝ }
 {
-    kind / 2 == 3
+    kind == 1
 }
 
-fn arc_or_region(kind: u32) -> bool
-    ensures { λ r. ⌜ r ≡ arcOrRegion kind ⌝ }
-{
-    if kind == 4 {
-        return true;
-    }
-    region_kind(kind)
-}
-
-// Whether a word may follow one of kind `before`, 0 standing for the front of the sheet.
+// Whether a word of that kind may stand right after one of kind `before`: a case for each kind, in the order of the sheet's description, beside its own words.
 fn may_follow(before: u32, kind: u32) -> bool
     ensures { λ r. ⌜ r ≡ mayFollow before kind ⌝ }
 {
     match before {
-        0 => kind == 1,
+        // kind 1, once: the node count n, 1 to 1,024
         1 => kind == 2,
-        2 | 3 => {
-            if kind == 3 {
-                return true;
-            }
-            arc_or_region(kind)
-        }
+        // kind 2, once: the source node
+        2 => (kind == 3) | (kind == 4) | (kind == 6) | (kind == 7),
+        // kind 3, up to 15 times: the span, 1 to 1,000,000, for heights 1, 2, 3 and so on
+        3 => (kind == 3) | (kind == 4) | (kind == 6) | (kind == 7),
+        // kinds 4 and 5 in pairs, up to 2,048 pairs, one arc each. Kind 4: bits 19 to 10 the tail node, bits 9 to 0 the head, bits 27 to 20 zero.
         4 => kind == 5,
-        5 => arc_or_region(kind),
-        6 | 7 => region_kind(kind),
+        // kinds 4 and 5 in pairs, up to 2,048 pairs, one arc each. .. Kind 5: the length in hundredths of a second, 0 to 262,143
+        5 => (kind == 4) | (kind == 6) | (kind == 7),
+        // kinds 6 and 7 in any mixture, up to 4,094. Kind 6: an inner region, payload its parent.
+        6 => (kind == 6) | (kind == 7),
+        // kinds 6 and 7 in any mixture, up to 4,094. .. Kind 7: a leaf, bits 22 to 11 its parent, bits 10 to 0 its arc, bits 27 to 23 zero.
+        7 => (kind == 6) | (kind == 7),
         _ => false,
     }
 }
 
 // Whether a sheet may end after a word of that kind.
-fn may_end(before: u32) -> bool
-    ensures { λ r. ⌜ r ≡ mayEnd before ⌝ }
+fn may_end(kind: u32) -> bool
+    ensures { λ r. ⌜ r ≡ mayEnd kind ⌝ }
 {
-    match before {
-        0 | 1 | 4 => false,
-        _ => true,
-    }
+    (kind == 2) | (kind == 3) | (kind == 5) | (kind == 6) | (kind == 7)
 }
 
 // Refusal 2: kinds out of order, read word by word from the front.
 pub fn out_of_order(s: &[u8]) -> bool
     ensures { λ r. ⌜ r ≡ outOfOrder (now (s .entry)) ⌝ }
 {
-    let mut cursor = Cursor { place: 0 };
-    let mut before: u32 = 0;
+    let front = Cursor { place: 0 };
+    let Step::Word(first, second) = sheet_reader::word_after(s, front) else {
+        return true;
+    };
+    let mut before = sheet::kind_of(first);
+    if !may_begin(before) {
+        return true;
+    }
+    let mut cursor = second;
     loop {
         let Step::Word(word, next) = sheet_reader::word_after(s, cursor) else {
             return !may_end(before);

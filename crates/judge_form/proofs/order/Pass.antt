@@ -1,19 +1,21 @@
--- The pass over the kinds: what is left of it decides as the whole does.
-use Prim.Native.Nat.{ℕ, zero, suc, _+_, _-_, _<_, _≤_}
-use mathlib.Core.Bool.{Bool, true, false, not, _&&_}
+-- The pass over the kinds, word by word: of the words that are passed none says no.
+use Prim.Native.Nat.{ℕ, _+_, _-_, _<_, _≤_}
+use mathlib.Core.Bool.{true, false, not, or-true}
 use mathlib.Core.List.{List}
 use mathlib.Core.Path.{_≡_, refl, sym, ap, _∙_}
-use borrow.Author.Tests.{ltb-true, ltb-false, not-false}
+use borrow.Author.Tests.{ltb-true, ltb-false, eq-eqb, ne-eqb}
 use native.Mathlib.Omega.{arith}
 use lib.Dec.{ltb}
+use Rattle.indices.specs.Tests.{any}
 use Rattle.indices.proofs.Steps.{by-truth}
+use Rattle.indices.proofs.Tests.{any-none, any-more, any-hit}
 use Rattle.sheet.specs.declared.Cursor.{Cursor}
 use Rattle.sheet.specs.declared.Step.the-variants.{Word, End}
 use Rattle.sheet.specs.Words.{words, word, kindOf, kind}
 use Rattle.sheet.specs.Inner.{stepAt}
 use Rattle.judgement.specs.Form.{outOfOrder}
-use Rattle.judge_form.specs.Kinds.{mayFollow, mayEnd, followOn}
-use Rattle.judge_form.proofs.order.Order.{in-order}
+use Rattle.judgement.specs.Kinds.{mayBegin, mayFollow, mayEnd, wrongFirst, wrongNeighbours, wrongKinds}
+use Rattle.judgement.proofs.Order.{by-kinds}
 
 -- a step of the cursor
 pub record Stepped (b : List ℕ) (c : Cursor) (w : ℕ) (next : Cursor) : Type 0 where
@@ -42,65 +44,59 @@ step-end b c e =
     (λ h. let some : Word (word b (c .place)) (record { place = c .place + 1 }) ≡ End = rw h at e in let z : _≡_ {A = ℕ} 0 1 = cc in absurd (omega arith))
     (λ h. ltb-false (c .place) (words b) h)
 
-follow-ext : (before : ℕ) (kinds kinds′ : ℕ → ℕ) (n : ℕ) → ((i : ℕ) → kinds i ≡ kinds′ i) → followOn before kinds n ≡ followOn before kinds′ n
-unfolding followOn
-follow-ext before kinds kinds′ zero h = refl
-follow-ext before kinds kinds′ (suc n) h = rw (h 0) (ap (λ (r : Bool). mayFollow before (kinds′ 0) && r)
-    (follow-ext (kinds′ 0) (λ i. kinds (suc i)) (λ i. kinds′ (suc i)) n (λ i. h (suc i))))
-
-unrolled : (before : ℕ) (kinds : ℕ → ℕ) (n : ℕ) → followOn before kinds (suc n) ≡ mayFollow before (kinds 0) && followOn (kinds 0) (λ i. kinds (suc i)) n
-unfolding followOn
-unrolled before kinds n = refl
-
--- the words from `at` on, after one of kind `before`, are in order
-unfoldable pub rest : List ℕ → ℕ → ℕ → Bool
-rest b before place = followOn before (λ i. kind b (place + i)) (words b - place)
-
--- what is left of the pass
-pub record Passing (b : List ℕ) (before at : ℕ) : Type 0 where
+-- The words before place `at`, one at least: none of them says no, and the last of them is of kind `before`.
+pub record Passed (b : List ℕ) (before at : ℕ) : Type 0 where
+  pub some : 0 < at
   pub inside : at ≤ words b
-  pub same : rest b before at ≡ not (outOfOrder b)
+  pub first : wrongFirst b ≡ false
+  pub none : any (wrongNeighbours b) (at - 1) ≡ false
+  pub last : before ≡ kind b (at - 1)
 
-pub pass-start : (b : List ℕ) → Passing b 0 0
-unfolding rest
-pass-start b = record {
+-- a sheet without a word, and a first word with which no sheet begins
+pub pass-empty : (b : List ℕ) → words b ≤ 0 → outOfOrder b ≡ true
+unfolding wrongKinds
+pass-empty b l = rw (by-kinds b, eq-eqb (words b) 0 (omega arith))
+
+pub pass-front : (b : List ℕ) → mayBegin (kind b 0) ≡ false → outOfOrder b ≡ true
+unfolding wrongKinds
+pass-front b bad = rw (by-kinds b, bad, or-true)
+
+-- a first word with which one may begin
+pub pass-start : (b : List ℕ) → 0 < words b → mayBegin (kind b 0) ≡ true → Passed b (kind b 0) 1
+pass-start b l ok = record {
+  some = omega arith;
   inside = omega arith;
-  same = follow-ext 0 (λ i. kind b (0 + i)) (kind b) (words b - 0) (λ i. ap (kind b) (omega arith)) ∙ ap (followOn 0 (kind b)) (omega arith) ∙ in-order b;
+  first = rw (ne-eqb (words b) 0 (λ e. omega arith), ok);
+  none = any-none (wrongNeighbours b);
+  last = refl;
 }
 
-step-rest : (b : List ℕ) (before at : ℕ) → at < words b → rest b before at ≡ mayFollow before (kind b at) && rest b (kind b at) (at + 1)
-unfolding rest
-step-rest b before at l = go (words b - (at + 1)) refl
-  where
-    here : at + 0 ≡ at
-    here = omega arith
+module _ {b : List ℕ} {before at : ℕ} (p : Passed b before at) where
+  -- the last word that is passed and the next one
+  here : wrongNeighbours b (at - 1) ≡ not (mayFollow before (kind b at))
+  here = let next : at - 1 + 1 ≡ at = omega (arith, p .some) in rw (p .last, next)
 
-    go : (m : ℕ) → words b - (at + 1) ≡ m
-        → followOn before (λ i. kind b (at + i)) (words b - at) ≡ mayFollow before (kind b at) && followOn (kind b at) (λ i. kind b (at + 1 + i))
-        (words b - (at + 1))
-    go m e =
-        let more : words b - at ≡ suc m = omega arith in
-        rw (e, more, unrolled before (λ i. kind b (at + i)) m, here)
-        (ap (λ (r : Bool). mayFollow before (kind b at) && r)
-        (follow-ext (kind b at) (λ i. kind b (at + suc i)) (λ i. kind b (at + 1 + i)) m (λ i. ap (kind b) (omega arith))))
-
-module _ {b : List ℕ} {before at : ℕ} (p : Passing b before at) where
   -- a word that may follow
-  pub pass-on : at < words b → mayFollow before (kind b at) ≡ true → Passing b (kind b at) (at + 1)
-  pass-on l ok = record {
-    inside = omega arith;
-    same = sym (step-rest b before at l ∙ ap (λ (t : Bool). t && rest b (kind b at) (at + 1)) ok) ∙ p .same;
-  }
+  pub pass-on : at < words b → mayFollow before (kind b at) ≡ true → Passed b (kind b at) (at + 1)
+  pass-on l ok =
+      let place : at + 1 - 1 ≡ at = omega arith in
+      let next : at - 1 + 1 ≡ at = omega (arith, p .some) in record {
+        some = omega arith;
+        inside = omega arith;
+        first = p .first;
+        none = rw (place, ← next) (any-more (wrongNeighbours b) (at - 1) (p .none) (here ∙ ap not ok));
+        last = rw place;
+      }
 
   -- a word that may not
   pub pass-stop : at < words b → mayFollow before (kind b at) ≡ false → outOfOrder b ≡ true
+  unfolding wrongKinds
   pass-stop l bad =
-      not-false (outOfOrder b) (sym (p .same) ∙ step-rest b before at l ∙ ap (λ (t : Bool). t && rest b (kind b at) (at + 1)) bad)
+      rw (by-kinds b, any-hit (wrongNeighbours b) (at - 1) (words b - 1) (omega (arith, p .some)) (here ∙ ap not bad), or-true)
 
   -- the end
   pub pass-end : words b ≤ at → not (mayEnd before) ≡ outOfOrder b
-  unfolding rest followOn
+  unfolding wrongKinds
   pass-end l =
-      let none : words b - at ≡ 0 = omega arith in
-      let same : mayEnd before ≡ not (outOfOrder b) = rw none at (p .same) in
-      rw same (by-truth (outOfOrder b) (λ h. rw h) (λ h. rw h))
+      let place : words b - 1 ≡ at - 1 = omega (arith, p .inside) in
+      rw (by-kinds b, place, p .first, p .none, p .last)

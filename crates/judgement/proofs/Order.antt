@@ -1,55 +1,42 @@
--- Words of which each may follow the one before it are in the order of the sheet: the spans, the arcs in pairs, and then region words alone.
+-- Words of which each may follow the one before it are in the order of the sheet: the spans, the arcs in pairs, and then region words alone. So refusal 2
+-- applies just where the front, some neighbouring pair or the end says no.
 -- By recursion on the words from the back of the order to its front.
 use Prim.Native.Nat.{ℕ, zero, suc, _+_, _-_, _*_, _/_, _<_, _≤_}
 use mathlib.Core.Bool.{Bool, true, false, not, _&&_, _||_, or-true}
 use mathlib.Core.List.{List}
 use mathlib.Core.Path.{_≡_, refl, sym, ap, _∙_}
-use borrow.Author.Tests.{eqb-true, ne-eqb, lt-ltb, le-ltb}
+use borrow.Author.Tests.{eqb-true, eq-eqb, ne-eqb, lt-ltb, le-ltb}
 use native.Mathlib.Omega.{arith}
 use lib.Dec.{eqb}
 use Rattle.indices.specs.Tests.{any, lead}
-use Rattle.indices.proofs.Steps.{by-equal, by-truth}
-use Rattle.indices.proofs.Tests.{any-ext, any-front, lead-ext, and-left, and-right}
+use Rattle.indices.proofs.Steps.{by-truth}
+use Rattle.indices.proofs.Tests.{or-assoc, any-ext, any-front, lead-ext, and-left, and-right}
 use Rattle.sheet.specs.Words.{words, kind}
 use Rattle.sheet.specs.Sections.{isSpan, spansFrom, spanCount, isArc, arcsFrom, arcsAt, arcCount, regionWords}
 use Rattle.sheet.proofs.Bounds.{region-words, region-kind}
 use Rattle.judgement.specs.Form.{noRegionWord, outOfOrder}
-use Rattle.judge_form.specs.Kinds.{regionKind, arcOrRegion, mayFollow, mayEnd, followOn}
+use Rattle.judgement.specs.Kinds.{mayBegin, mayFollow, mayEnd, wrongNeighbours, wrongKinds}
+
+-- n words, whose kinds are given, after one of kind `before`: each may follow the one before it, and the sheet may end
+unfoldable followOn : ℕ → (ℕ → ℕ) → ℕ → Bool
+followOn before kinds zero = mayEnd before
+followOn before kinds (suc n) = mayFollow before (kinds 0) && followOn (kinds 0) (λ i. kinds (suc i)) n
 
 -- to prove P of a kind that is one of two, prove it of each
 by-kind {ℓ} : {P : Type ℓ} (k m n : ℕ) → eqb k m || eqb k n ≡ true → (k ≡ m → P) → (k ≡ n → P) → P
 by-kind k m n e one other = by-truth (eqb k m) (λ h. one (eqb-true k m h)) (λ h. other (eqb-true k n (rw h at e)))
 
 -- REGION WORDS
-pub region-follows : (before k : ℕ) → regionKind before ≡ true → mayFollow before k ≡ regionKind k
+unfoldable regionKind : ℕ → Bool
+regionKind k = eqb k 6 || eqb k 7
+
+region-follows : (before k : ℕ) → regionKind before ≡ true → mayFollow before k ≡ regionKind k
 unfolding mayFollow regionKind
 region-follows before k e = by-kind before 6 7 e (λ six. rw six) (λ seven. rw seven)
 
 region-ends : (before : ℕ) → regionKind before ≡ true → mayEnd before ≡ true
 unfolding mayEnd regionKind
 region-ends before e = by-kind before 6 7 e (λ six. rw six) (λ seven. rw seven)
-
--- a kind that is 6 or 7
-pub region-before : (before : ℕ) → 4 ≤ before → before < 8 → (before ≡ 4 → ⊥) → (before ≡ 5 → ⊥) → regionKind before ≡ true
-unfolding regionKind
-region-before before low high four five = by-equal before 6 (λ six. rw six) (λ other. let seven : before ≡ 7 = omega arith in rw seven)
-
--- a kind that no sheet has
-pub none-follows : (before k : ℕ) → 8 ≤ before → mayFollow before k ≡ false
-unfolding mayFollow
-none-follows before k l = rw (
-  other 0 (omega arith),
-  other 1 (omega arith),
-  other 2 (omega arith),
-  other 3 (omega arith),
-  other 4 (omega arith),
-  other 5 (omega arith),
-  other 6 (omega arith),
-  other 7 (omega arith),
-)
-  where
-    other : (n : ℕ) → n < 8 → eqb before n ≡ false
-    other n small = ne-eqb before n (λ e. omega arith)
 
 -- n words are all region words
 abbrev regionsOnly : (ℕ → ℕ) → ℕ → Bool
@@ -66,17 +53,21 @@ after-region before kinds (suc n) e =
     (by-truth (regionKind (kinds 0)) (λ h. rw h (after-region (kinds 0) (λ i. kinds (suc i)) n h)) (λ h. rw h))
 
 -- ARCS
+arc-follows : (k : ℕ) → mayFollow 5 k ≡ eqb k 4 || regionKind k
+unfolding mayFollow regionKind
+arc-follows k = or-assoc (eqb k 4) (eqb k 6) (eqb k 7)
+
 abbrev arcAt : (ℕ → ℕ) → ℕ → Bool
 arcAt kinds a = eqb (kinds (2 * a)) 4 && eqb (kinds (2 * a + 1)) 5
 
 -- how many arcs stand at the front of n words, and that all behind them are region words
-unfoldable pub arcsLead : (ℕ → ℕ) → ℕ → ℕ
+unfoldable arcsLead : (ℕ → ℕ) → ℕ → ℕ
 arcsLead kinds n = lead (arcAt kinds) (n / 2)
 
-unfoldable pub arcsThenRegions : (ℕ → ℕ) → ℕ → Bool
+unfoldable arcsThenRegions : (ℕ → ℕ) → ℕ → Bool
 arcsThenRegions kinds n = regionsOnly (λ i. kinds (2 * arcsLead kinds n + i)) (n - 2 * arcsLead kinds n)
 
-pub arcs-ext : (kinds kinds′ : ℕ → ℕ) (n n′ : ℕ) → n ≡ n′ → ((i : ℕ) → kinds i ≡ kinds′ i) → arcsThenRegions kinds n ≡ arcsThenRegions kinds′ n′
+arcs-ext : (kinds kinds′ : ℕ → ℕ) (n n′ : ℕ) → n ≡ n′ → ((i : ℕ) → kinds i ≡ kinds′ i) → arcsThenRegions kinds n ≡ arcsThenRegions kinds′ n′
 unfolding arcsThenRegions arcsLead
 arcs-ext kinds kinds′ n n′ e h =
     rw (e, lead-ext (arcAt kinds) (arcAt kinds′) (n′ / 2) (λ a l. rw (h (2 * a), h (2 * a + 1))))
@@ -118,24 +109,31 @@ unfolding arcsLead lead
 lead-zero kinds n e = let half : suc (suc n) / 2 ≡ suc (n / 2) = omega arith in rw (half, e)
 
 -- one word after an arc
-last-word : (k : ℕ) → arcOrRegion k && mayEnd k ≡ regionKind k
-unfolding arcOrRegion mayEnd
+last-word : (k : ℕ) → mayFollow 5 k && mayEnd k ≡ regionKind k
+unfolding mayEnd
 last-word k =
-    by-truth (regionKind k) (λ h. rw (h, or-true) (region-ends k h))
-    (λ h. by-truth (eqb k 4) (λ four. rw (h, eqb-true k 4 four)) (λ other. rw (h, other)))
+    rw (arc-follows k)
+    (by-truth (regionKind k) (λ h. rw (h, or-true) (region-ends k h))
+    (λ h. by-truth (eqb k 4) (λ four. rw (h, eqb-true k 4 four)) (λ other. rw (h, other))))
+
+-- an arc's length follows its ends
+after-ends : (k : ℕ) → mayFollow 4 k ≡ eqb k 5
+unfolding mayFollow
+after-ends k = refl
 
 -- where no arc stands at the front, two words and more are in order if they are region words
 no-arc : (kinds : ℕ → ℕ) (n : ℕ) → arcAt kinds 0 ≡ false → followOn 5 kinds (suc (suc n)) ≡ regionsOnly kinds (suc (suc n))
-unfolding followOn mayFollow arcOrRegion
+unfolding followOn
 no-arc kinds n e =
-    rw (regions-front kinds (suc n))
+    rw (arc-follows (kinds 0), regions-front kinds (suc n))
     (by-truth (regionKind (kinds 0)) (λ h. rw (h, or-true) (after-region (kinds 0) (λ i. kinds (suc i)) (suc n) h))
     (λ h. by-truth (eqb (kinds 0) 4)
-    (λ four. let unpaired : eqb (kinds 1) 5 ≡ false = rw four at e in rw (h, eqb-true (kinds 0) 4 four, unpaired)) (λ other. rw (h, other))))
+    (λ four. let unpaired : eqb (kinds 1) 5 ≡ false = rw four at e in rw (h, eqb-true (kinds 0) 4 four, after-ends (kinds 1), unpaired))
+    (λ other. rw (h, other))))
 
 -- an arc at the front, and the words behind it
 arc-first : (kinds : ℕ → ℕ) (n : ℕ) → arcAt kinds 0 ≡ true → followOn 5 kinds (suc (suc n)) ≡ followOn 5 (λ i. kinds (suc (suc i))) n
-unfolding followOn mayFollow arcOrRegion
+unfolding followOn mayFollow
 arc-first kinds n e =
     let four : kinds 0 ≡ 4 = eqb-true (kinds 0) 4 (and-left (eqb (kinds 0) 4) (eqb (kinds 1) 5) e) in
     let five : kinds 1 ≡ 5 = eqb-true (kinds 1) 5 (and-right (eqb (kinds 0) 4) (eqb (kinds 1) 5) e) in
@@ -150,7 +148,7 @@ unfolding any
 regions-one kinds = by-truth (regionKind (kinds 0)) (λ h. rw h) (λ h. rw h)
 
 after-arc : (kinds : ℕ → ℕ) (n : ℕ) → followOn 5 kinds n ≡ arcsThenRegions kinds n
-unfolding followOn mayFollow mayEnd any
+unfolding followOn mayEnd any
 after-arc kinds zero = sym (arcs-none kinds 0 (lead-short kinds .0))
 after-arc kinds (suc zero) = last-word (kinds 0) ∙ regions-one kinds ∙ sym (arcs-none kinds 1 (lead-short kinds .1))
 after-arc kinds (suc (suc n)) =
@@ -165,13 +163,12 @@ spansLead kinds n = lead (λ i. eqb (kinds i) 3) n
 unfoldable spansThenArcs : (ℕ → ℕ) → ℕ → Bool
 spansThenArcs kinds n = arcsThenRegions (λ i. kinds (spansLead kinds n + i)) (n - spansLead kinds n)
 
-pub span-follows : (before k : ℕ) → eqb before 2 || eqb before 3 ≡ true → mayFollow before k ≡ eqb k 3 || arcOrRegion k
+span-follows : (before k : ℕ) → eqb before 2 || eqb before 3 ≡ true → mayFollow before k ≡ eqb k 3 || mayFollow 5 k
 unfolding mayFollow
-span-follows before k e = by-kind before 2 3 e (λ two. rw two) (λ three. rw three)
-
--- a kind that is 2 or 3
-pub span-before : (before : ℕ) → before < 4 → (before ≡ 0 → ⊥) → (before ≡ 1 → ⊥) → eqb before 2 || eqb before 3 ≡ true
-span-before before high zero′ one = by-equal before 2 (λ two. rw two) (λ other. let three : before ≡ 3 = omega arith in rw three)
+span-follows before k e = by-kind before 2 3 e (λ two. rw two grouped) (λ three. rw three grouped)
+  where
+    grouped : eqb k 3 || eqb k 4 || eqb k 6 || eqb k 7 ≡ eqb k 3 || (eqb k 4 || eqb k 6 || eqb k 7)
+    grouped = by-truth (eqb k 3) (λ h. rw h) (λ h. rw h)
 
 span-ends : (before : ℕ) → eqb before 2 || eqb before 3 ≡ true → mayEnd before ≡ true
 unfolding mayEnd
@@ -201,7 +198,7 @@ spans-one kinds n e =
     (arcs-ext (λ i. kinds (suc rest + i)) (λ i. kinds (suc (rest + i))) (suc n - suc rest) (n - rest) (omega arith) (λ i. ap kinds (omega arith)))
 
 after-span : (before : ℕ) (kinds : ℕ → ℕ) (n : ℕ) → eqb before 2 || eqb before 3 ≡ true → followOn before kinds n ≡ spansThenArcs kinds n
-unfolding followOn mayFollow mayEnd
+unfolding followOn mayEnd
 after-span before kinds zero e = span-ends before e ∙ sym (spans-none kinds 0 (lead-no-words kinds))
 after-span before kinds (suc n) e =
     rw (span-follows before (kinds 0) e)
@@ -210,26 +207,35 @@ after-span before kinds (suc n) e =
     (λ h. rw h (sym (spans-none kinds (suc n) (lead-no-span kinds n h)))))
 
 -- THE WHOLE SHEET
--- a sheet may not end at its front or after kind 1, and after a kind above that it may, but for kind 4
-pub front-ends-not : (before : ℕ) → before < 2 → mayEnd before ≡ false
-unfolding mayEnd
-front-ends-not before l = by-equal before 0 (λ front. rw front) (λ other. let one : before ≡ 1 = omega arith in rw one)
-
-pub later-ends : (before : ℕ) → 2 ≤ before → (before ≡ 4 → ⊥) → mayEnd before ≡ true
-unfolding mayEnd
-later-ends before l four = rw (ne-eqb before 0 (λ e. omega arith), ne-eqb before 1 (λ e. omega arith), ne-eqb before 4 four)
-
-from-front : (kinds : ℕ → ℕ) (n : ℕ) → followOn 0 kinds (suc (suc n)) ≡ eqb (kinds 0) 1 && (eqb (kinds 1) 2 && spansThenArcs (λ i. kinds (suc (suc i))) n)
-unfolding followOn mayFollow
+from-front : (kinds : ℕ → ℕ) (n : ℕ)
+    → mayBegin (kinds 0) && followOn (kinds 0) (λ i. kinds (suc i)) (suc n) ≡ eqb (kinds 0) 1 && (eqb (kinds 1) 2 && spansThenArcs (λ i. kinds (suc (suc i))) n)
+unfolding followOn mayBegin mayFollow
 from-front kinds n =
     by-truth (eqb (kinds 0) 1)
     (λ h. let one : kinds 0 ≡ 1 = eqb-true (kinds 0) 1 h in
     by-truth (eqb (kinds 1) 2) (λ two. rw (one, two) (after-span (kinds 1) (λ i. kinds (suc (suc i))) n (rw two))) (λ other. rw (one, other)))
     (λ h. rw h)
 
-too-short : (kinds : ℕ → ℕ) → (followOn 0 kinds 0 ≡ false) × (followOn 0 kinds 1 ≡ false)
-unfolding followOn mayFollow mayEnd
-too-short kinds = (refl, by-truth (eqb (kinds 0) 1) (λ h. rw (eqb-true (kinds 0) 1 h)) (λ h. rw h))
+-- a single word
+too-short : (kinds : ℕ → ℕ) → mayBegin (kinds 0) && followOn (kinds 0) (λ i. kinds (suc i)) 0 ≡ false
+unfolding followOn mayBegin mayEnd
+too-short kinds = by-truth (eqb (kinds 0) 1) (λ h. rw (eqb-true (kinds 0) 1 h)) (λ h. rw h)
+
+-- the neighbouring pairs of n + 1 words, and their end
+abbrev wrong : (ℕ → ℕ) → ℕ → Bool
+wrong kinds i = not (mayFollow (kinds i) (kinds (i + 1)))
+
+by-pairs : (kinds : ℕ → ℕ) (n : ℕ) → followOn (kinds 0) (λ i. kinds (suc i)) n ≡ not (any (wrong kinds) n) && mayEnd (kinds n)
+unfolding followOn any
+by-pairs kinds zero = refl
+by-pairs kinds (suc n) =
+    rw (
+      by-pairs (λ i. kinds (suc i)) n,
+      any-front (wrong kinds) n,
+      any-ext (λ i. wrong kinds (suc i)) (wrong (λ i. kinds (suc i))) n
+          (λ i l. ap (λ (j : ℕ). not (mayFollow (kinds (suc i)) (kinds j))) (omega arith)),
+    )
+    (by-truth (mayFollow (kinds 0) (kinds 1)) (λ h. rw h) (λ h. rw h))
 
 short : (b : List ℕ) → words b < 2 → not (outOfOrder b) ≡ false
 unfolding outOfOrder
@@ -274,11 +280,39 @@ module _ (b : List ℕ) where
       (arcs-ext (λ i. kind b (suc (suc (spanCount b + i)))) (λ i. kind b (arcsAt b + i)) (n - spanCount b) (words b - arcsAt b) (omega arith)
       (λ i. ap (kind b) (omega arith)) ∙ region-part (omega arith))
 
-  -- each word may follow the one before it, and the sheet may end, just where refusal 2 does not apply
-  pub in-order : followOn 0 (kind b) (words b) ≡ not (outOfOrder b)
-  in-order = at (words b) refl
+  -- the test of the whole sheet, word by word from its front
+  word-by-word : (n : ℕ) → words b ≡ suc n → not (wrongKinds b) ≡ mayBegin (kind b 0) && followOn (kind b 0) (λ i. kind b (suc i)) n
+  unfolding wrongKinds
+  word-by-word n e =
+      let less : words b - 1 ≡ n = omega arith in
+      rw (ne-eqb (words b) 0 (λ none. omega arith), less, by-pairs (kind b) n) (at (mayBegin (kind b 0)) (any (wrongNeighbours b) n) (mayEnd (kind b n)))
     where
-      at : (m : ℕ) → words b ≡ m → followOn 0 (kind b) m ≡ not (outOfOrder b)
-      at zero e = too-short (kind b) .0 ∙ sym (short b (omega arith))
-      at (suc zero) e = too-short (kind b) .1 ∙ sym (short b (omega arith))
-      at (suc (suc n)) e = from-front (kind b) n ∙ ap (λ (r : Bool). eqb (kind b 0) 1 && (eqb (kind b 1) 2 && r)) (sections n e) ∙ sym (long b (omega arith))
+      at : (x y z : Bool) → not (false || not x || y || not z) ≡ x && (not y && z)
+      at true true z = refl
+      at true false true = refl
+      at true false false = refl
+      at false y z = refl
+
+  no-word : words b ≡ 0 → not (wrongKinds b) ≡ false
+  unfolding wrongKinds
+  no-word e = rw (eq-eqb (words b) 0 e)
+
+  same-not : not (outOfOrder b) ≡ not (wrongKinds b)
+  same-not = at (words b) refl
+    where
+      at : (m : ℕ) → words b ≡ m → not (outOfOrder b) ≡ not (wrongKinds b)
+      at zero e = short b (omega arith) ∙ sym (no-word e)
+      at (suc zero) e = short b (omega arith) ∙ sym (word-by-word 0 e ∙ too-short (kind b))
+      at (suc (suc n)) e =
+          long b (omega arith) ∙ ap (λ (r : Bool). eqb (kind b 0) 1 && (eqb (kind b 1) 2 && r)) (sym (sections n e))
+          ∙ sym (word-by-word (suc n) e ∙ from-front (kind b) n)
+
+  -- refusal 2 applies just where the front, some neighbouring pair or the end says no
+  pub by-kinds : outOfOrder b ≡ wrongKinds b
+  by-kinds = same (outOfOrder b) (wrongKinds b) same-not
+    where
+      same : (x y : Bool) → not x ≡ not y → x ≡ y
+      same true true e = refl
+      same true false e = sym e
+      same false true e = sym e
+      same false false e = refl

@@ -1,0 +1,155 @@
+"""Holds docs/KINDS.md, the page for the class, to the program, to the definition and to the paper's order of kinds.
+
+The cases of the program (crates/judge_form/src/order.rt), of the definition (crates/judgement/specs/Kinds.antt) and of the page have to be the same, each
+beside the same words of the description, and to name a kind exactly where the order of tests/paper.py lets it follow. Each sheet on the page has to be read as
+the page says. Run it by `python3 tests/kinds.py`: it prints what is wrong and exits with 1, or how many cases and sheets it has found.
+"""
+import re
+import sys
+from itertools import product
+from pathlib import Path
+
+from paper import Lists, judge
+from sheets import HALL_A, packed
+
+ROOT = Path(__file__).resolve().parent.parent
+CODE = (ROOT / 'crates/judge_form/src/order.rt').read_text()
+DEFINITION = (ROOT / 'crates/judgement/specs/Kinds.antt').read_text()
+PAGE = (ROOT / 'docs/KINDS.md').read_text()
+
+
+def kinds_in(test):
+    """The kinds that a test names, each by an equation."""
+    return [int(kind) for kind in re.findall(r'(?:kind ==|eqb k) (\d+)', test)]
+
+
+def listed(kinds):
+    return ', '.join(map(str, kinds))
+
+
+def rows(heading):
+    """The cells of the rows of the table whose first cell of the head is given."""
+    table = re.search(r'^\| %s \|.*\n\|[-:|]+\|\n((?:\|.*\n)+)' % re.escape(heading), PAGE, flags=re.M)
+    return [[cell.strip() for cell in re.split(r'(?<!\\)\|', line)[1:-1]] for line in table[1].splitlines()]
+
+
+# The cases: a kind, the description's words, the kinds that may follow.
+
+def cases_in_code():
+    return [(int(kind), words, kinds_in(test)) for words, kind, test in re.findall(r'// (.*)\n +(\d+) => (.*),\n', CODE)]
+
+
+def cases_in_definition():
+    return [(int(kind), words, kinds_in(test)) for words, kind, test in re.findall(r'-- "(.*)"\n +if eqb before (\d+) then (.*) else\n', DEFINITION)]
+
+
+def cases_on_page():
+    return [(int(case.strip('`').split()[0]), words, kinds_in(case)) for words, _, case in rows("the sheet's description")]
+
+
+def arms_on_page():
+    """The cases of the page as the program spells them, and the list of kinds beside each."""
+    return [(case.strip('`').replace('\\|', '|') + ',', kinds) for _, kinds, case in rows("the sheet's description")]
+
+
+def named_first_and_last():
+    """The kinds with which a sheet may begin, and after which it may end, in the program and in the definition."""
+    bodies = [re.search(r'fn %s.*?{\n(.*?)\n}' % name, CODE, flags=re.S)[1] for name in ('may_begin', 'may_end')]
+    clauses = [re.search(r'^%s k = (.*)$' % name, DEFINITION, flags=re.M)[1] for name in ('mayBegin', 'mayEnd')]
+    return [kinds_in(test) for test in bodies], [kinds_in(test) for test in clauses]
+
+
+def in_order(most):
+    """The strings of up to so many kinds that refusal 2 of tests/paper.py does not refuse."""
+    strings = (kinds for size in range(1, most + 1) for kinds in product(range(16) if size < 4 else range(1, 8), repeat=size))
+    return [kinds for kinds in strings if judge(packed([kind << 28 for kind in kinds])) not in (1, 2)]
+
+
+# Reading a sheet by the cases.
+
+def reading(words, cases, first, last):
+    """The rows of a sheet read word by word, up to the first no."""
+    before = None
+    for place, word in enumerate(words):
+        kind = word >> 28
+        named = first if before is None else cases.get(before, [])
+        yield place, word, kind, before, named, kind in named
+        if kind not in named:
+            return
+        before = kind
+    yield None, None, None, before, last, before in last
+
+
+def row_of(place, word, kind, before, named, _):
+    if place is None:
+        return ['', 'the end', '', str(before), 'yes: a sheet may end after kind %d' % before]
+    if before is None:
+        return [str(place), '`%08x`' % word, str(kind), 'the front', 'yes: a sheet begins with kind %s' % listed(named)]
+    return [str(place), '`%08x`' % word, str(kind), str(before), 'yes: ' + listed(named)]
+
+
+def stop_of(place, _, kind, before, named, yes):
+    if yes:
+        return 'nowhere'
+    if place is None:
+        return 'the end: a sheet may not end after kind %d' % before
+    if before is None:
+        return 'word %d: a sheet does not begin with kind %d' % (place, kind)
+    return 'word %d: kind %d right after %d, which names %s' % (place, kind, before, listed(named))
+
+
+def words_in(text):
+    """The words of a sheet as the page writes it."""
+    added = [int(word, 16) for word in ' '.join(re.findall('`([0-9a-f ]+)`', text)).split()]
+    return HALL_A + added if text.startswith('hall A') else added
+
+
+def shows(before, after, text):
+    """Whether a sheet that 2 does not refuse has the one kind right after the other: at the word that is named, or anywhere."""
+    words = words_in(text)
+    kinds = ['the front'] + [str(kind) for kind in Lists(packed(words)).kinds] + ['the end']
+    place = re.search(r'word (\d+)', text)
+    pairs = list(zip(kinds, kinds[1:]))
+    return judge(packed(words)) not in (1, 2) and (before, after) in ([pairs[int(place[1])]] if place else pairs)
+
+
+def main():
+    wrong = []
+
+    def hold(right, text):
+        if not right:
+            wrong.append(text)
+
+    code = cases_in_code()
+    cases = {kind: after for kind, _, after in code}
+    (first, last), by_definition = named_first_and_last()
+    hold(code == cases_in_definition(), 'the cases of the program are not those of the definition')
+    hold(code == cases_on_page(), 'the cases of the program are not those of the page')
+    hold([first, last] == by_definition, 'the first and last kinds of the program are not those of the definition')
+    hold(all(arm in CODE and kinds == listed(kinds_in(arm)) for arm, kinds in arms_on_page()), 'a case of the page is spelled or listed otherwise')
+
+    strings = in_order(6)
+    pairs = {pair for kinds in strings for pair in zip(kinds, kinds[1:])}
+    hold(list(cases) == list(range(1, 8)), 'the cases are not those of kinds 1 to 7, in order')
+    hold(pairs == {(kind, after) for kind, named in cases.items() for after in named}, 'the cases name other pairs than the order has')
+    hold([first, last] == [sorted({kinds[end] for kinds in strings}) for end in (0, -1)], 'the cases name other first or last kinds than the order has')
+
+    hold([row_of(*step) for step in reading(HALL_A, cases, first, last)] == rows('word'), 'hall A is read otherwise')
+    stops = rows('sheet')
+    for text, where in stops:
+        words = words_in(text)
+        hold(judge(packed(words)) == 2, '%s is not refused with 2' % text)
+        hold(stop_of(*list(reading(words, cases, first, last))[-1]) == where, '%s: the reading stops elsewhere' % text)
+    shown = rows('right after')
+    for before, after, text in shown:
+        hold(shows(before, after, text), '%s does not show %s right after %s' % (text, after, before))
+    wanted = {(str(kind), str(after)) for kind, after in pairs} | {('the front', str(kind)) for kind in first} | {(str(kind), 'the end') for kind in last}
+    hold(len(shown) == len(wanted) and {(before, after) for before, after, _ in shown} == wanted, 'the page shows other pairs than the order has')
+
+    if wrong:
+        sys.exit('\n'.join(wrong))
+    print('%d cases that name %d pairs, %d sheets in order and %d out of order: as the page says' % (len(code), len(pairs), len(shown), len(stops)))
+
+
+if __name__ == '__main__':
+    main()
