@@ -7,6 +7,9 @@ use bench::reference::judge::{accepted, accepted_within, Judged};
 use bench::reference::table::{self, HEADER, HEIGHTS};
 use bench::reference::{self, Answer, TOP};
 
+/// The change requests that have vectors.
+const REQUESTS: [&str; 5] = ["2026-01", "2026-02", "2026-03", "2026-04", "2026-05"];
+
 fn lines(name: &str) -> Vec<Vec<String>> {
     let path = format!("{}/../tests/{name}_vectors.txt", env!("CARGO_MANIFEST_DIR"));
     let text = std::fs::read_to_string(&path).unwrap_or_else(|error| panic!("{path}: {error}"));
@@ -87,8 +90,9 @@ fn each_before_2026_01(name: &str, holds: impl Fn(Era, &[String])) {
     }
 }
 
-/// The cases of a call among those of a request hold by today's judge.
-fn each_of_a_request(request: &str, era: Era, call: &str, holds: impl Fn(Era, &[String])) {
+/// The cases of a call among those of a request hold by today's judge. Since request 2026-02 their tables are level by level.
+fn each_of_a_request(request: &str, call: &str, holds: impl Fn(Era, &[String])) {
+    let era = Era { judge: accepted, one_inner: request < "2026-02" };
     let lines = lines(request);
     let cases: Vec<_> = lines.iter().filter(|case| case[0] == call).collect();
     assert!(!cases.is_empty());
@@ -96,10 +100,12 @@ fn each_of_a_request(request: &str, era: Era, call: &str, holds: impl Fn(Era, &[
 }
 
 fn each_of_the_requests(call: &str, holds: impl Fn(Era, &[String])) {
-    each_of_a_request("2026-01", Era { judge: accepted, one_inner: true }, call, &holds);
-    each_of_a_request("2026-02", Era { judge: accepted, one_inner: false }, call, &holds);
-    each_of_a_request("2026-03", Era { judge: accepted, one_inner: false }, call, &holds);
-    each_of_a_request("2026-04", Era { judge: accepted, one_inner: false }, call, &holds);
+    each_since("2026-01", call, holds);
+}
+
+/// The same from the request on that brought the call.
+fn each_since(first: &str, call: &str, holds: impl Fn(Era, &[String])) {
+    REQUESTS.into_iter().filter(|request| *request >= first).for_each(|request| each_of_a_request(request, call, &holds));
 }
 
 fn judge_holds(era: Era, case: &[String]) {
@@ -202,7 +208,7 @@ fn canonical_agrees() {
             assert_eq!(out[expected.len()..], before[expected.len()..], "{}", case[0]);
         }
     };
-    each_of_a_request("2026-04", Era { judge: accepted, one_inner: false }, "canonical", holds);
+    each_since("2026-04", "canonical", holds);
 }
 
 #[test]

@@ -1,15 +1,16 @@
 //! The five proved calls against the independent program, on generated sheets: `differential [CASES] [SEED]`.
 //!
 //! Compared are the answers, every word or byte of the tables and buffers lent and of what lies around them, and that a refusal changed nothing. Every
-//! table left as ended is held to request 2026-03, and the canonical forms of some sheets to request 2026-04. Ends with 1 at the first difference, or if a
-//! refusal number, an answer, a number of arcs one way, a sort of ended tables or a change to a sheet was never seen, or no inner region of some height was
-//! worked.
+//! table left as ended is held to request 2026-03, the canonical forms of some sheets to request 2026-04, and every refusal with 2 to the list of cases of
+//! request 2026-05. Ends with 1 at the first difference, or if a refusal number, an answer, a number of arcs one way, a sort of ended tables, a change to a
+//! sheet or two kinds next to each other were never seen, or no inner region of some height was worked.
 
 use bench::generate::changes::{self, Change, CHANGES};
 use bench::generate::random::Random;
-use bench::generate::{damage, sheets, tables};
+use bench::generate::{damage, kinds, sheets, tables};
 use bench::proved;
 use bench::reference::judge::{accepted, Judged, MOST_EACH_WAY};
+use bench::reference::neighbours::{self, Place, PLACES};
 use bench::reference::nesting::alike;
 use bench::reference::sheet::{words, Sheet};
 use bench::reference::table::{self, HEIGHTS};
@@ -56,7 +57,7 @@ const WRITTEN: u32 = 131_072;
 
 /// How often each call gave each answer. How many sheets there were of each sort, and by the most arcs that a node has one way, how many accepted ones and how
 /// many refused as 10. How many finished tables have a figure above 0 at each height. How many ended tables there were of each of `SORTS`. What was seen of
-/// canonical forms.
+/// canonical forms, and of kinds.
 #[derive(Default)]
 struct Tally {
     answers: BTreeMap<(&'static str, u32), u64>,
@@ -66,6 +67,7 @@ struct Tally {
     worked: [u64; HEIGHTS],
     ended: [u64; SORTS.len()],
     forms: Forms,
+    kinds: Kinds,
 }
 
 /// How many sheets were held to request 2026-04, how many of them are no canonical forms, how many have another table than their form, and how many were
@@ -101,6 +103,71 @@ impl Forms {
         let same = CHANGES.into_iter().filter(move |change| change.may_leave() && of(change)[0] == 0);
         let other = CHANGES.into_iter().filter(move |change| of(change)[1] == 0);
         counts.chain(same.map(|change| format!("{change:?} with the same form"))).chain(other.map(|change| format!("{change:?} with another form")))
+    }
+}
+
+/// How often each first kind, each pair of neighbouring kinds and each last kind was seen.
+struct Seen([u64; PLACES]);
+
+impl Default for Seen {
+    fn default() -> Seen {
+        Seen([0; PLACES])
+    }
+}
+
+impl Seen {
+    fn count(&mut self, place: Place) {
+        self.0[place.number()] += 1;
+    }
+
+    fn of(&self, place: Place) -> u64 {
+        self.0[place.number()]
+    }
+}
+
+/// What has to be seen: a name, what was, and what of it is asked for.
+type Wanted<'a> = (&'static str, &'a Seen, fn(Place) -> bool);
+
+/// Request 2026-05: what was seen in sheets that are not refused with 1 or 2, in those refused with 2, and in these where it alone is not in order.
+#[derive(Default)]
+struct Kinds {
+    in_order: Seen,
+    refused: Seen,
+    alone: Seen,
+}
+
+impl Kinds {
+    fn count(&mut self, words: &[u32], refused: bool) {
+        let seen = if refused { &mut self.refused } else { &mut self.in_order };
+        neighbours::places(words).for_each(|place| seen.count(place));
+        let mut wrong = neighbours::places(words).filter(|place| !place.is_allowed());
+        if let (Some(place), None) = (wrong.next(), wrong.next()) {
+            self.alone.count(place);
+        }
+    }
+
+    /// A kind without a case is never alone in not being in order: it is wrong where it comes and where the next one does.
+    fn wanted(&self) -> [Wanted<'_>; 3] {
+        [
+            ("in order", &self.in_order, Place::is_allowed),
+            ("refused with 2", &self.refused, |_| true),
+            ("alone not in order", &self.alone, |place| !place.is_allowed() && place.has_cases()),
+        ]
+    }
+
+    fn print(&self) {
+        for (name, seen, is_wanted) in self.wanted() {
+            let counts: Vec<u64> = Place::all().filter(|place| is_wanted(*place)).map(|place| seen.of(place)).collect();
+            let least = counts.iter().min().copied().unwrap_or_default();
+            println!("first kinds, pairs of neighbouring kinds and last kinds, {name}: {}, each seen {least} times or more", counts.len());
+        }
+    }
+
+    fn unseen(&self) -> impl Iterator<Item = String> + '_ {
+        self.wanted().into_iter().flat_map(|(name, seen, is_wanted)| {
+            let unseen = Place::all().filter(move |place| is_wanted(*place) && seen.of(*place) == 0);
+            unseen.map(move |place| format!("kinds {name}, {place:?}"))
+        })
     }
 }
 
@@ -148,6 +215,7 @@ impl Tally {
             println!("ended tables, {sort}: {tables}");
         }
         self.forms.print();
+        self.kinds.print();
         for call in ["judge", "run", "run_limited", "route", "canonical"] {
             let answers = self.answers.iter().filter(|((of, _), _)| *of == call);
             let parts: Vec<String> = answers.map(|((_, code), count)| format!("{} {count}", named(*code))).collect();
@@ -156,7 +224,7 @@ impl Tally {
         println!("calls compared: {}", self.answers.values().sum::<u64>());
     }
 
-    /// The numbers, answers, numbers of arcs one way, worked heights, sorts of ended tables and changes that were never seen.
+    /// The numbers, answers, numbers of arcs one way, worked heights, sorts of ended tables, changes and neighbouring kinds that were never seen.
     fn unseen(&self) -> Vec<String> {
         let wanted = (1..=15).chain(21..=25).chain([31]).chain(256..=259).chain([ROUTE, WRITTEN]);
         let answers = wanted.filter(|code| !self.answers.keys().any(|(_, seen)| seen == code)).map(named);
@@ -164,7 +232,7 @@ impl Tally {
         let arcs = (0..=MOST_EACH_WAY + 2).filter(|most| !seen.contains(most)).map(|most| ways(most) + " arcs one way");
         let heights = (0..HEIGHTS).filter(|at| self.worked[*at] == 0).map(|at| format!("workings at height {}", at + 1));
         let sorts = SORTS.iter().zip(self.ended).filter(|(_, tables)| *tables == 0).map(|((sort, _), _)| format!("ended tables, {sort}"));
-        answers.chain(arcs).chain(heights).chain(sorts).chain(self.forms.unseen()).collect()
+        answers.chain(arcs).chain(heights).chain(sorts).chain(self.forms.unseen()).chain(self.kinds.unseen()).collect()
     }
 }
 
@@ -263,7 +331,8 @@ impl Trial<'_> {
         let untouched = self.bytes.to_vec();
         let bytes = self.bytes;
         let nothing = Lent { items: vec![0u32; 2 * GUARD] };
-        compared("judge", String::new, nothing, self.tally, |_| proved::judge(bytes), |_| reference::judge(bytes))?;
+        let (answer, _) = compared("judge", String::new, nothing, self.tally, |_| proved::judge(bytes), |_| reference::judge(bytes))?;
+        self.neighbours(answer)?;
         let judged = accepted(bytes);
         self.tally.count_ways(bytes, &judged);
         match judged {
@@ -279,6 +348,21 @@ impl Trial<'_> {
         match self.bytes == untouched {
             true => Ok(()),
             false => Err(Difference("the sheet itself was changed".to_string())),
+        }
+    }
+
+    /// Request 2026-05: a sheet that is not refused with 1 is refused with 2 exactly where the list of cases says no.
+    fn neighbours(&mut self, judged: Answer) -> Outcome {
+        if judged == Answer::Refused(1) {
+            return Ok(());
+        }
+        let words = words(self.bytes);
+        let refused = judged == Answer::Refused(2);
+        self.tally.kinds.count(&words, refused);
+        let wrong = neighbours::places(&words).find(|place| !place.is_allowed());
+        match neighbours::in_order(&words) != refused {
+            true => Ok(()),
+            false => Err(Difference(format!("judge: answered {}, the first not in order by the list is {wrong:?}", judged.code()))),
         }
     }
 
@@ -530,11 +614,12 @@ fn labels(table: &[u32]) -> impl Iterator<Item = &u32> {
 /// The sheet of a case, and of what sort it is.
 fn sheet_of(random: &mut Random) -> (&'static str, Vec<u8>) {
     match random.below(1000) {
-        0..=449 => ("accepted, any shape", sheets::bytes(&sheets::any(random))),
-        450 if random.once_in(3) => ("accepted, full size", sheets::bytes(&sheets::full(random))),
-        451 if random.once_in(3) => ("damaged, full size", damage::damaged(sheets::full(random), random)),
-        450..=899 => ("damaged", damage::damaged(sheets::any(random), random)),
-        900..=929 => ("accepted, flat, spans near the arcs", sheets::bytes(&sheets::flat(random))),
+        0..=434 => ("accepted, any shape", sheets::bytes(&sheets::any(random))),
+        435 if random.once_in(3) => ("accepted, full size", sheets::bytes(&sheets::full(random))),
+        436 if random.once_in(3) => ("damaged, full size", damage::damaged(sheets::full(random), random)),
+        435..=869 => ("damaged", damage::damaged(sheets::any(random), random)),
+        870..=899 => ("accepted, flat, spans near the arcs", sheets::bytes(&sheets::flat(random))),
+        900..=929 => ("kinds along the order", sheets::bytes(&kinds::words(random))),
         _ => ("noise", sheets::noise(random)),
     }
 }

@@ -4,6 +4,7 @@ pub mod changes;
 pub mod damage;
 pub mod divisions;
 pub mod halls;
+pub mod kinds;
 pub mod random;
 pub mod sheets;
 pub mod tables;

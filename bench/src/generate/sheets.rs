@@ -94,13 +94,19 @@ fn ordered_noise(random: &mut Random) -> Vec<u32> {
     let mut kinds = vec![1, 2];
     kinds.extend(vec![3; random.below(4)]);
     kinds.extend([4, 5].repeat(random.below(4)));
-    kinds.extend((0..random.below(8)).map(|_| 6 + random.below(2) as u32));
-    let whole = random.once_in(4);
-    let small = 1 + random.below(16);
-    kinds.iter().map(|kind| kind << 28 | if whole { random.word() >> 4 } else { noise_payload(*kind, small, random) }).collect()
+    kinds.extend((0..random.below(8)).map(|_| 6 + random.below(2)));
+    with_payloads(&kinds, random)
 }
 
-fn noise_payload(kind: u32, small: usize, random: &mut Random) -> u32 {
+/// Words of these kinds, with payloads that are small or anything.
+pub fn with_payloads(kinds: &[usize], random: &mut Random) -> Vec<u32> {
+    let whole = random.once_in(4);
+    let small = 1 + random.below(16);
+    let mut payload = |kind| if whole { random.word() >> 4 } else { noise_payload(kind, small, random) };
+    kinds.iter().map(|kind| (*kind as u32) << 28 | payload(*kind)).collect()
+}
+
+fn noise_payload(kind: usize, small: usize, random: &mut Random) -> u32 {
     let (first, second) = (random.below(small) as u32, random.below(small) as u32);
     match kind {
         4 => first << 10 | second,

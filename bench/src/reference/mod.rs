@@ -4,6 +4,7 @@ pub mod canonical;
 pub mod dijkstra;
 pub mod judge;
 pub mod linear;
+pub mod neighbours;
 pub mod nesting;
 pub mod procedure;
 pub mod route;
