@@ -1,9 +1,9 @@
 """The cases of the canonical form, the paper's neat copy: a sheet and the length of the byte buffer lent, and the bytes written or the refusal expected.
 
-What is expected comes from tests/canonical.py. It has to agree with every line for this call of tests/2026-04_vectors.txt and with each
-answer that a case states. Every copy that is expected is held to the request's sentences, read off the words of sheet and copy: it is
-accepted and its own copy, it is as long as its sheet and has its distances, and of all sheets of the cases two have the same copy exactly
-when they share nodes, source, spans, arcs and nesting. Otherwise the script stops.
+What is expected comes from tests/canonical.py. It has to agree with every line for this call of the vectors of change requests, from
+tests/2026-04_vectors.txt on, and with each answer that a case states. Every copy that is expected is held to the sentences of request
+2026-04, read off the words of sheet and copy: it is accepted and its own copy, it is as long as its sheet and has its distances, and of
+all sheets of the cases two have the same copy exactly when they share nodes, source, spans, arcs and nesting. Otherwise the script stops.
 """
 import sys
 from collections import Counter
@@ -11,7 +11,7 @@ from functools import cache
 from itertools import product
 
 from canonical import alike, copied, form, is_neat, nesting, shared, without_single_children
-from cases import bytes_in, case_of, change_fields, counted, line_of, lines_of, name_in, with_bytes
+from cases import bytes_in, case_of, change_fields, counted, line_of, lines_of, name_in, vectors_since, with_bytes
 from line_cases import BYTES as MOST_ROOM
 from paper import Lists, applies, judge
 from procedure import HEADER, Hall, distances, tables
@@ -275,8 +275,8 @@ FAMILIES = [
 ]
 
 
-def fourth_change_vectors():
-    for sheet, room, answer, copy in change_fields('2026-04', 'canonical'):
+def stated_by(request):
+    for sheet, room, answer, copy in change_fields(request, 'canonical'):
         yield (bytes_in(sheet), int(room)), with_bytes(name_in(answer), bytes_in(copy))
 
 
@@ -368,6 +368,6 @@ def hold_copies(lines):
 
 
 def lines():
-    found = lines_of(([], [], [fourth_change_vectors]), FAMILIES, answered, kind, line_of_copy)
+    found = lines_of(([], [], vectors_since('2026-04', stated_by)), FAMILIES, answered, kind, line_of_copy)
     hold_copies(found)
     return found

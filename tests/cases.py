@@ -12,6 +12,9 @@ MOST_BYTES = 6_500_000
 # The vectors of the base paper were made when a node had at most two arcs each way.
 BASE_EACH_WAY = 2
 
+# The change requests. Each has its vectors in a file of its own.
+REQUESTS = ['2026-01', '2026-02', '2026-03', '2026-04', '2026-05']
+
 # The answers, numbered from 0 as the program numbers them.
 ANSWERS = ['refused input', 'refused state', 'accepted', 'ended', 'paused', 'no route', 'route', 'written']
 
@@ -27,6 +30,19 @@ def change_fields(request, call):
         name, *fields = line.split()
         if name == call:
             yield fields
+
+
+def vectors_of(request, stated_by, *form):
+    """The family of the vectors of a request. `stated_by` gives its cases; where tables had another form, it is also told what leads to today's."""
+    def family():
+        return stated_by(request, *form)
+    family.__name__ = 'vectors of ' + request
+    return family
+
+
+def vectors_since(first, stated_by):
+    """The families of the vectors of a request and of all after it."""
+    return [vectors_of(request, stated_by) for request in REQUESTS if request >= first]
 
 
 def bytes_in(digits):

@@ -1,12 +1,12 @@
 """The cases of the judge: a sheet, and the answer expected to it.
 
-The judge of tests/paper.py has to agree with every line of tests/judge_vectors.txt, with the limit of that time, and of
-tests/2026-01_vectors.txt to tests/2026-04_vectors.txt, and with each answer that a case states; otherwise the script stops.
+The judge of tests/paper.py has to agree with every line of tests/judge_vectors.txt, with the limit of that time, and of the vectors of
+every change request, from tests/2026-01_vectors.txt on, and with each answer that a case states; otherwise the script stops.
 """
 import sys
 from itertools import product
 
-from cases import bytes_in, case_of, change_fields, data, lines_of
+from cases import bytes_in, case_of, change_fields, data, lines_of, vectors_of, vectors_since
 from paper import MOST_EACH_WAY, applies, judge
 from sheets import (
     FAULTS, HALL_A, WIDE, Chance, alternate, chain, changed, damaged, each_way, flat, halving, inner, leaf, many_chains, one_deep, packed,
@@ -168,6 +168,76 @@ def order():
             yield packed(HALL_A[:at] + [word] + HALL_A[at:]), 2
 
 
+# Request 2026-05: which kinds may follow each kind, one case per kind, in the order of the sheet's description; which come first and last.
+MAY_FOLLOW = {
+    '1': '2',
+    '2': '3467',
+    '3': '3467',
+    '4': '5',
+    '5': '467',
+    '6': '67',
+    '7': '67',
+}
+FIRST, LAST = '1', '23567'
+
+# By kind, the shortest front that leads to it, and the shortest end that leads on from it where it may not come last.
+FRONTS = {'1': '1', '2': '12', '3': '123', '4': '124', '5': '1245', '6': '126', '7': '127'}
+ENDS = {'1': '2', '4': '5'}
+
+ALL_KINDS = '0123456789abcdef'
+
+
+def let_through(listed):
+    """Whether the front, every two neighbours and the end of these kinds are in order by the list of cases."""
+    if not listed:
+        return False
+    return listed[0] in FIRST and listed[-1] in LAST and all(after in MAY_FOLLOW.get(kind, '') for kind, after in zip(listed, listed[1:]))
+
+
+def far(listed):
+    """A sheet of these kinds that gets far: one node, spans of 1, regions and leaves in the last inner region, leaves of one arc after the other."""
+    words, above, regions, leaves = [], 0, 0, 0
+    for kind in listed:
+        regions += kind in '67'
+        if kind == '6':
+            words.append(inner(above))
+            above = regions
+        elif kind == '7':
+            words.append(leaf(above, leaves))
+            leaves += 1
+        else:
+            words.append(int(kind, 16) << 28 | (kind in '13'))
+    return packed(words)
+
+
+def strings(kinds, lengths):
+    """All strings of kinds of these lengths."""
+    return [''.join(listed) for length in lengths for listed in product(kinds, repeat=length)]
+
+
+def next_to_each_other():
+    """Every kind after each kind of a sheet, whatever comes before that, and at the front; then the shortest end."""
+    places = ['', '1'] + [FRONTS[kind] + after for kind, following in MAY_FOLLOW.items() for after in following]
+    return [place + kind + ENDS.get(kind, '') for place in places for kind in ALL_KINDS]
+
+
+def in_sections():
+    """Kinds in order as the description has them: up to three spans, two arcs and three regions."""
+    return ['12' + '3' * spans + '45' * arcs + regions for spans in range(4) for arcs in range(3) for regions in strings('67', range(4))]
+
+
+def neighbours():
+    """2 exactly where the list of cases says no. Where it says yes, 4 if all payloads are 0, which is no number of nodes."""
+    for listed in in_sections():
+        if not let_through(listed):
+            sys.exit('in order, but not by the list of cases: %s' % listed)
+    some = strings(ALL_KINDS, range(3)) + ['12' + listed for listed in strings('34567', range(5))]
+    for listed in next_to_each_other() + in_sections() + some:
+        yield packed([int(kind, 16) << 28 for kind in listed]), 4 if let_through(listed) else 2
+    for listed in next_to_each_other() + in_sections():
+        yield far(listed), None if let_through(listed) else 2
+
+
 def cuts():
     """Hall A cut after each byte, and 1 to 7 bytes of the highest values."""
     sheet = packed(HALL_A)
@@ -275,7 +345,7 @@ def random_wide():
 
 FAMILIES = [
     marked, nodes_and_sources, spans, heights, arc_ends, degrees, bits, parents, leaves, childless_regions, kinds, order, cuts, pairs,
-    wide_pairs, full_size, large, large_wide, random_sheets, random_wide,
+    wide_pairs, full_size, large, large_wide, random_sheets, random_wide, neighbours,
 ]
 
 
@@ -290,22 +360,6 @@ def stated_by(request):
         yield bytes_in(digits), int(answer)
 
 
-def first_change_vectors():
-    return stated_by('2026-01')
-
-
-def second_change_vectors():
-    return stated_by('2026-02')
-
-
-def third_change_vectors():
-    return stated_by('2026-03')
-
-
-def fourth_change_vectors():
-    return stated_by('2026-04')
-
-
 def said(answer):
     return 'refused input %d' % answer if answer else 'accepted'
 
@@ -317,4 +371,4 @@ def answered(family, most_each_way=MOST_EACH_WAY):
 
 
 def lines():
-    return lines_of(([vectors], [first_change_vectors], [second_change_vectors, third_change_vectors, fourth_change_vectors]), FAMILIES, answered)
+    return lines_of(([vectors], [vectors_of('2026-01', stated_by)], vectors_since('2026-02', stated_by)), FAMILIES, answered)

@@ -1,11 +1,11 @@
 """The cases of the listing: a sheet, and what `marks` prints of it.
 
 What is expected comes from tests/procedure.py. It has to agree with every line of tests/marks_vectors.txt, with the limit of that time, and
-of tests/2026-01_vectors.txt to tests/2026-04_vectors.txt, where tests/before.py says how with the older ones, and with each text that a
-case states, and what is printed of an ended run has to be shortest. Otherwise the script stops.
+of the vectors of every change request, from tests/2026-01_vectors.txt on, where tests/before.py says how with the older ones, and with each
+text that a case states, and what is printed of an ended run has to be shortest. Otherwise the script stops.
 """
 from before import listing_before
-from cases import bytes_in, case_of, change_fields, data, lines_of
+from cases import bytes_in, case_of, change_fields, data, lines_of, vectors_of, vectors_since
 from paper import MOST_EACH_WAY
 from procedure import printed
 from sheets import (
@@ -107,22 +107,6 @@ def stated_by(request):
         yield bytes_in(digits), text.replace('_', ' ').replace('|', '\n').rstrip('\n')
 
 
-def first_change_vectors():
-    return stated_by('2026-01')
-
-
-def second_change_vectors():
-    return stated_by('2026-02')
-
-
-def third_change_vectors():
-    return stated_by('2026-03')
-
-
-def fourth_change_vectors():
-    return stated_by('2026-04')
-
-
 def answered(family, most_each_way=MOST_EACH_WAY):
     """The cases of a family with the texts expected and stated."""
     for sheet, stated in family():
@@ -134,5 +118,5 @@ def kind(text):
 
 
 def lines():
-    vectors_by_request = [vectors], [first_change_vectors], [second_change_vectors, third_change_vectors, fourth_change_vectors]
+    vectors_by_request = [vectors], [vectors_of('2026-01', stated_by)], vectors_since('2026-02', stated_by)
     return lines_of(vectors_by_request, FAMILIES, answered, kind, str, listing_before)

@@ -1,13 +1,13 @@
 """The cases of the route reader: a sheet, a table's words, a node and the buffer's length, and the route, 'no route' or the refusal expected.
 
 What is expected comes from the route reader of tests/procedure.py. It has to agree with every line of tests/route_vectors.txt, with the
-limit of that time, and of tests/2026-01_vectors.txt to tests/2026-04_vectors.txt, where tests/before.py says how with the older ones, and
-with each answer that a case states; otherwise the script stops.
+limit of that time, and of the vectors of every change request, from tests/2026-01_vectors.txt on, where tests/before.py says how with the
+older ones, and with each answer that a case states; otherwise the script stops.
 """
 import sys
 
 from before import MORE, table_before, table_since
-from cases import bytes_in, case_of, change_fields, data, lines_of, stated_in, with_words, words_in
+from cases import bytes_in, case_of, change_fields, data, lines_of, stated_in, vectors_of, vectors_since, with_words, words_in
 from paper import MOST_EACH_WAY
 from procedure import COUNTS, HEADER, NONE, Hall, distances, route, table_of, table_size, tables
 from sheets import (
@@ -380,22 +380,6 @@ def stated_by(request, table=lambda words: words):
         yield (bytes_in(sheet), table(words_in(words)), int(node), int(room)), stated_in(answer, words_in(arcs))
 
 
-def first_change_vectors():
-    return stated_by('2026-01', table_since)
-
-
-def second_change_vectors():
-    return stated_by('2026-02')
-
-
-def third_change_vectors():
-    return stated_by('2026-03')
-
-
-def fourth_change_vectors():
-    return stated_by('2026-04')
-
-
 def said(answer):
     if answer[0] == 'route':
         return with_words('route %d' % len(answer[1]), answer[1])
@@ -414,4 +398,4 @@ def kind(answer):
 
 
 def lines():
-    return lines_of(([vectors], [first_change_vectors], [second_change_vectors, third_change_vectors, fourth_change_vectors]), FAMILIES, answered, kind)
+    return lines_of(([vectors], [vectors_of('2026-01', stated_by, table_since)], vectors_since('2026-02', stated_by)), FAMILIES, answered, kind)

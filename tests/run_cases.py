@@ -1,15 +1,17 @@
 """The cases of a run: a sheet, a limit of rounds (None for none) and the table's length, and the answer and the table expected, or the refusal.
 
 What is expected comes from tests/procedure.py. It has to agree with every line of tests/limited_vectors.txt and tests/marks_vectors.txt,
-with the limit of that time, and of tests/2026-01_vectors.txt to tests/2026-04_vectors.txt, where tests/before.py says how with the older
-ones, and with each answer that a case states; every ended table has to hold the distances found a second way, and as much work as
-tests/work.py says, and on small halls the run without heaps has to make the same tables. Otherwise the script stops.
+with the limit of that time, and of the vectors of every change request, from tests/2026-01_vectors.txt on, where tests/before.py says how
+with the older ones, and with each answer that a case states; every ended table has to hold the distances found a second way, and as much
+work as tests/work.py says, and on small halls the run without heaps has to make the same tables. Otherwise the script stops.
 """
 import sys
 from collections import Counter
 
 from before import MORE, answer_before, listing_before
-from cases import BASE_EACH_WAY, bytes_in, case_of, change_fields, counted, data, lines_of, stated_in, with_words, words_in
+from cases import (
+    BASE_EACH_WAY, bytes_in, case_of, change_fields, counted, data, lines_of, stated_in, vectors_of, vectors_since, with_words, words_in,
+)
 from paper import MOST_EACH_WAY, judge
 from procedure import (
     COUNTS, HEADER, MOST_HEIGHT, NONE, Hall, PlainRun, Run, counts_of, distances, printed, shortest, table_of, table_refusal, table_size, tables,
@@ -372,27 +374,11 @@ def limited_vectors():
         yield bytes_in(sheet), [(int(limit), int(length) + MORE, stated_in(answer, words_in(words)))]
 
 
-def stated_by(request, more):
+def stated_by(request, more=0):
     """Where a limited run has ended, the run to the end has the same answer. Tables are longer by so many words."""
     for sheet, limit, length, answer, words in change_fields(request, 'run'):
         for rounds in (int(limit), None) if answer == 'ended' else (int(limit),):
             yield bytes_in(sheet), [(rounds, int(length) + more, stated_in(answer, words_in(words)))]
-
-
-def first_change_vectors():
-    return stated_by('2026-01', MORE)
-
-
-def second_change_vectors():
-    return stated_by('2026-02', 0)
-
-
-def third_change_vectors():
-    return stated_by('2026-03', 0)
-
-
-def fourth_change_vectors():
-    return stated_by('2026-04', 0)
 
 
 def marks_vectors():
@@ -509,7 +495,7 @@ def hold_work(lines):
 
 
 def lines():
-    vectors = [limited_vectors, marks_vectors], [first_change_vectors], [second_change_vectors, third_change_vectors, fourth_change_vectors]
+    vectors = [limited_vectors, marks_vectors], [vectors_of('2026-01', stated_by, MORE)], vectors_since('2026-02', stated_by)
     found = lines_of(vectors, FAMILIES, answered, before=answer_before)
     hold_work(found)
     return found
