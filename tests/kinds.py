@@ -113,42 +113,66 @@ def shows(before, after, text):
     return judge(packed(words)) not in (1, 2) and (before, after) in ([pairs[int(place[1])]] if place else pairs)
 
 
-def main():
-    wrong = []
+def wrong_cases(code, first_and_last):
+    """Where the cases of the program, of the definition and of the page differ."""
+    by_code, by_definition = first_and_last
+    if code != cases_in_definition():
+        yield 'the cases of the program are not those of the definition'
+    if code != cases_on_page():
+        yield 'the cases of the program are not those of the page'
+    if by_code != by_definition:
+        yield 'the first and last kinds of the program are not those of the definition'
+    for arm, kinds in arms_on_page():
+        if arm not in CODE or kinds != listed(kinds_in(arm)):
+            yield 'the page spells or lists it otherwise: ' + arm
 
-    def hold(right, text):
-        if not right:
-            wrong.append(text)
 
-    code = cases_in_code()
-    cases = {kind: after for kind, _, after in code}
-    (first, last), by_definition = named_first_and_last()
-    hold(code == cases_in_definition(), 'the cases of the program are not those of the definition')
-    hold(code == cases_on_page(), 'the cases of the program are not those of the page')
-    hold([first, last] == by_definition, 'the first and last kinds of the program are not those of the definition')
-    hold(all(arm in CODE and kinds == listed(kinds_in(arm)) for arm, kinds in arms_on_page()), 'a case of the page is spelled or listed otherwise')
-
-    strings = in_order(6)
+def wrong_order(cases, first, last, strings):
+    """Where the cases differ from the order of kinds in sheets that refusal 2 does not refuse."""
     pairs = {pair for kinds in strings for pair in zip(kinds, kinds[1:])}
-    hold(list(cases) == list(range(1, 8)), 'the cases are not those of kinds 1 to 7, in order')
-    hold(pairs == {(kind, after) for kind, named in cases.items() for after in named}, 'the cases name other pairs than the order has')
-    hold([first, last] == [sorted({kinds[end] for kinds in strings}) for end in (0, -1)], 'the cases name other first or last kinds than the order has')
+    if list(cases) != list(range(1, 8)):
+        yield 'the cases are not those of kinds 1 to 7, in this order'
+    if pairs != {(kind, after) for kind, named in cases.items() for after in named}:
+        yield 'the cases name other pairs than the order has'
+    if [first, last] != [sorted({kinds[end] for kinds in strings}) for end in (0, -1)]:
+        yield 'the cases name other first or last kinds than the order has'
 
-    hold([row_of(*step) for step in reading(HALL_A, cases, first, last)] == rows('word'), 'hall A is read otherwise')
-    stops = rows('sheet')
-    for text, where in stops:
+
+def wrong_readings(cases, first, last):
+    """Where a sheet of the page is not read as it says."""
+    if [row_of(*step) for step in reading(HALL_A, cases, first, last)] != rows('word'):
+        yield 'hall A is read otherwise'
+    for text, where in rows('sheet'):
         words = words_in(text)
-        hold(judge(packed(words)) == 2, '%s is not refused with 2' % text)
-        hold(stop_of(*list(reading(words, cases, first, last))[-1]) == where, '%s: the reading stops elsewhere' % text)
+        if judge(packed(words)) != 2:
+            yield '%s is not refused with 2' % text
+        if stop_of(*list(reading(words, cases, first, last))[-1]) != where:
+            yield '%s: the reading stops elsewhere' % text
+
+
+def wrong_witnesses(cases, first, last):
+    """Where the page has no sheet for a yes, or one that does not show it."""
     shown = rows('right after')
     for before, after, text in shown:
-        hold(shows(before, after, text), '%s does not show %s right after %s' % (text, after, before))
-    wanted = {(str(kind), str(after)) for kind, after in pairs} | {('the front', str(kind)) for kind in first} | {(str(kind), 'the end') for kind in last}
-    hold(len(shown) == len(wanted) and {(before, after) for before, after, _ in shown} == wanted, 'the page shows other pairs than the order has')
+        if not shows(before, after, text):
+            yield '%s does not show %s right after %s' % (text, after, before)
+    wanted = [('the front', kind) for kind in first] + [(kind, after) for kind in cases for after in cases[kind]] + [(kind, 'the end') for kind in last]
+    if [(before, after) for before, after, _ in shown] != [(str(before), str(after)) for before, after in wanted]:
+        yield 'the page shows other pairs than the cases name'
 
+
+def main():
+    code, (by_code, by_definition) = cases_in_code(), named_first_and_last()
+    cases, (first, last) = {kind: after for kind, _, after in code}, by_code
+    wrong = [
+        *wrong_cases(code, (by_code, by_definition)), *wrong_order(cases, first, last, in_order(6)),
+        *wrong_readings(cases, first, last), *wrong_witnesses(cases, first, last),
+    ]
     if wrong:
         sys.exit('\n'.join(wrong))
-    print('%d cases that name %d pairs, %d sheets in order and %d out of order: as the page says' % (len(code), len(pairs), len(shown), len(stops)))
+    pairs = sum(map(len, cases.values()))
+    print('%d cases that name %d pairs, %d sheets in order and %d out of order: as the page says'
+          % (len(code), pairs, len(rows('right after')), len(rows('sheet'))))
 
 
 if __name__ == '__main__':
