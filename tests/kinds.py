@@ -1,8 +1,10 @@
 """Holds docs/KINDS.md, the page for the class, to the program, to the definition and to the paper's order of kinds.
 
-The cases of the program (crates/judge_form/src/order.rt), of the definition (crates/judgement/specs/Kinds.antt) and of the page have to be the same, each
-beside the same words of the description, and to name a kind exactly where the order of tests/paper.py lets it follow. Each sheet on the page has to be read as
-the page says. Run it by `python3 tests/kinds.py`: it prints what is wrong and exits with 1, or how many cases and sheets it has found.
+The cases of the program (crates/judge_form/src/order.rt), of the definition (crates/judgement/specs/Kinds.antt) and of the page have to be
+the same and in the same order, each beside its words of the description, and to name a kind exactly where the order of tests/paper.py lets it
+follow. Each sheet on the page has to be read as the page says, and the orders of which it says that no sheet is accepted have to be those that
+no accepted sheet has, among the samples and random ones. Run it by `python3 tests/kinds.py`: it prints what is wrong and exits with 1, or how
+many cases and sheets it has found.
 """
 import re
 import sys
@@ -10,12 +12,32 @@ from itertools import product
 from pathlib import Path
 
 from paper import Lists, judge
-from sheets import HALL_A, packed
+from sheets import HALL_A, Chance, packed, random_words
 
 ROOT = Path(__file__).resolve().parent.parent
 CODE = (ROOT / 'crates/judge_form/src/order.rt').read_text()
 DEFINITION = (ROOT / 'crates/judgement/specs/Kinds.antt').read_text()
 PAGE = (ROOT / 'docs/KINDS.md').read_text()
+
+# The sheet's description, the paper's own words, by kind: one line, or two kinds in one line.
+NODES, SOURCE = 'kind 1, once: the node count n, 1 to 1,024', 'kind 2, once: the source node'
+SPANS = 'kind 3, up to 15 times: the span, 1 to 1,000,000, for heights 1, 2, 3 and so on'
+ARCS = (
+    'kinds 4 and 5 in pairs, up to 2,048 pairs, one arc each.',
+    'Kind 4: bits 19 to 10 the tail node, bits 9 to 0 the head, bits 27 to 20 zero.', 'Kind 5: the length in hundredths of a second, 0 to 262,143',
+)
+REGIONS = (
+    'kinds 6 and 7 in any mixture, up to 4,094.',
+    'Kind 6: an inner region, payload its parent.', 'Kind 7: a leaf, bits 22 to 11 its parent, bits 10 to 0 its arc, bits 27 to 23 zero.',
+)
+
+
+def by_kind(both, first, second):
+    """The words of each of two kinds, with dots for those of the other."""
+    return [' '.join((both, first, '..')), ' '.join((both, '..', second))]
+
+
+DESCRIPTION = [NODES, SOURCE, SPANS, *by_kind(*ARCS), *by_kind(*REGIONS)]
 
 
 def kinds_in(test):
@@ -107,21 +129,25 @@ def words_in(text):
 def shows(before, after, text):
     """Whether a sheet that 2 does not refuse has the one kind right after the other: at the word that is named, or anywhere."""
     words = words_in(text)
-    kinds = ['the front'] + [str(kind) for kind in Lists(packed(words)).kinds] + ['the end']
     place = re.search(r'word (\d+)', text)
-    pairs = list(zip(kinds, kinds[1:]))
-    return judge(packed(words)) not in (1, 2) and (before, after) in ([pairs[int(place[1])]] if place else pairs)
+    there = words[max(int(place[1]) - 1, 0):int(place[1]) + 1] if place else words
+    return judge(packed(words)) not in (1, 2) and (before, after) in places_in(packed(there))
 
 
 def wrong_cases(code, first_and_last):
     """Where the cases of the program, of the definition and of the page differ."""
     by_code, by_definition = first_and_last
+    if [words for _, words, _ in code] != DESCRIPTION:
+        yield 'the words above the cases are not the description'
     if code != cases_in_definition():
         yield 'the cases of the program are not those of the definition'
     if code != cases_on_page():
         yield 'the cases of the program are not those of the page'
     if by_code != by_definition:
         yield 'the first and last kinds of the program are not those of the definition'
+    spoken = re.search(r'A sheet begins with kind (\d) .*? It may end after kinds ([\d, and]+) \(', PAGE, flags=re.S)
+    if [[int(kind) for kind in re.findall(r'\d', text)] for text in spoken.groups()] != by_code:
+        yield 'the page says otherwise how a sheet begins and ends'
     for arm, kinds in arms_on_page():
         if arm not in CODE or kinds != listed(kinds_in(arm)):
             yield 'the page spells or lists it otherwise: ' + arm
@@ -150,13 +176,44 @@ def wrong_readings(cases, first, last):
             yield '%s: the reading stops elsewhere' % text
 
 
+def places_in(sheet):
+    """The neighbours in a sheet, its front and its end among them."""
+    kinds = ['the front'] + [str(int(kind, 16)) for kind in Lists(sheet).kinds] + ['the end']
+    return set(zip(kinds, kinds[1:]))
+
+
+def samples():
+    for path in (ROOT / 'samples').glob('*.hex'):
+        yield bytes.fromhex(''.join(re.sub('#.*', '', path.read_text()).split()))
+
+
+def never_accepted():
+    """The neighbours of which the page says that no accepted sheet has them."""
+    for text, _ in rows('in order, but no such sheet is accepted'):
+        for kinds, before in re.findall(r'([\d, or]+) right after (\d)', text):
+            yield from ((before, after) for after in re.findall(r'\d', kinds))
+        yield from ((before, 'the end') for before in re.findall(r'an end after (\d)', text))
+
+
+def wrong_never_accepted(shown):
+    """Where an accepted sheet has what the page says that none has, or no accepted sample has another of those that are in order, `shown`."""
+    never, chance = set(never_accepted()), Chance(5)
+    found = [places_in(sheet) for sheet in samples() if judge(sheet) == 0]
+    if set().union(*found) != shown - never:
+        yield 'the accepted samples have other neighbours than the page says'
+    for sheet in (packed(random_words(chance, 8)) for _ in range(2000)):
+        if judge(sheet) == 0 and places_in(sheet) & never:
+            yield 'accepted: ' + sheet.hex()
+
+
 def wrong_witnesses(cases, first, last):
     """Where the page has no sheet for a yes, or one that does not show it."""
     shown = rows('right after')
     for before, after, text in shown:
         if not shows(before, after, text):
             yield '%s does not show %s right after %s' % (text, after, before)
-    wanted = [('the front', kind) for kind in first] + [(kind, after) for kind in cases for after in cases[kind]] + [(kind, 'the end') for kind in last]
+    pairs = [(kind, after) for kind, named in cases.items() for after in named]
+    wanted = [('the front', kind) for kind in first] + pairs + [(kind, 'the end') for kind in last]
     if [(before, after) for before, after, _ in shown] != [(str(before), str(after)) for before, after in wanted]:
         yield 'the page shows other pairs than the cases name'
 
@@ -167,6 +224,7 @@ def main():
     wrong = [
         *wrong_cases(code, (by_code, by_definition)), *wrong_order(cases, first, last, in_order(6)),
         *wrong_readings(cases, first, last), *wrong_witnesses(cases, first, last),
+        *wrong_never_accepted({(before, after) for before, after, _ in rows('right after')}),
     ]
     if wrong:
         sys.exit('\n'.join(wrong))

@@ -23,11 +23,11 @@ fn may_follow(before: u32, kind: u32) -> bool
         2 => (kind == 3) | (kind == 4) | (kind == 6) | (kind == 7),
         // kind 3, up to 15 times: the span, 1 to 1,000,000, for heights 1, 2, 3 and so on
         3 => (kind == 3) | (kind == 4) | (kind == 6) | (kind == 7),
-        // kinds 4 and 5 in pairs, up to 2,048 pairs, one arc each. Kind 4: bits 19 to 10 the tail node, bits 9 to 0 the head, bits 27 to 20 zero.
+        // kinds 4 and 5 in pairs, up to 2,048 pairs, one arc each. Kind 4: bits 19 to 10 the tail node, bits 9 to 0 the head, bits 27 to 20 zero. ..
         4 => kind == 5,
         // kinds 4 and 5 in pairs, up to 2,048 pairs, one arc each. .. Kind 5: the length in hundredths of a second, 0 to 262,143
         5 => (kind == 4) | (kind == 6) | (kind == 7),
-        // kinds 6 and 7 in any mixture, up to 4,094. Kind 6: an inner region, payload its parent.
+        // kinds 6 and 7 in any mixture, up to 4,094. Kind 6: an inner region, payload its parent. ..
         6 => (kind == 6) | (kind == 7),
         // kinds 6 and 7 in any mixture, up to 4,094. .. Kind 7: a leaf, bits 22 to 11 its parent, bits 10 to 0 its arc, bits 27 to 23 zero.
         7 => (kind == 6) | (kind == 7),

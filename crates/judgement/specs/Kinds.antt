@@ -12,7 +12,7 @@ use Rattle.indices.specs.Tests.{any}
 use Rattle.sheet.specs.Words.{words, kind}
 use Rattle.judgement.specs.Form.{wrongSize, outOfOrder}
 
--- the kinds with which a sheet may begin
+-- "A sheet is read word by word from its front, in this order": the kinds with which a sheet may begin
 unfoldable pub mayBegin : ℕ → Bool
 mayBegin k = eqb k 1
 
@@ -26,17 +26,17 @@ mayFollow before k =
     if eqb before 2 then eqb k 3 || eqb k 4 || eqb k 6 || eqb k 7 else
     -- "kind 3, up to 15 times: the span, 1 to 1,000,000, for heights 1, 2, 3 and so on"
     if eqb before 3 then eqb k 3 || eqb k 4 || eqb k 6 || eqb k 7 else
-    -- "kinds 4 and 5 in pairs, up to 2,048 pairs, one arc each. Kind 4: bits 19 to 10 the tail node, bits 9 to 0 the head, bits 27 to 20 zero."
+    -- "kinds 4 and 5 in pairs, up to 2,048 pairs, one arc each. Kind 4: bits 19 to 10 the tail node, bits 9 to 0 the head, bits 27 to 20 zero. .."
     if eqb before 4 then eqb k 5 else
     -- "kinds 4 and 5 in pairs, up to 2,048 pairs, one arc each. .. Kind 5: the length in hundredths of a second, 0 to 262,143"
     if eqb before 5 then eqb k 4 || eqb k 6 || eqb k 7 else
-    -- "kinds 6 and 7 in any mixture, up to 4,094. Kind 6: an inner region, payload its parent."
+    -- "kinds 6 and 7 in any mixture, up to 4,094. Kind 6: an inner region, payload its parent. .."
     if eqb before 6 then eqb k 6 || eqb k 7 else
     -- "kinds 6 and 7 in any mixture, up to 4,094. .. Kind 7: a leaf, bits 22 to 11 its parent, bits 10 to 0 its arc, bits 27 to 23 zero."
     if eqb before 7 then eqb k 6 || eqb k 7 else
     false
 
--- the kinds after which a sheet may end: not after the node count alone, and not within an arc
+-- "an unpaired 4 or 5, .. or the sheet ends too soon": the kinds after which a sheet may end, not after the node count alone, and not within an arc
 unfoldable pub mayEnd : ℕ → Bool
 mayEnd k = eqb k 2 || eqb k 3 || eqb k 5 || eqb k 6 || eqb k 7
 
