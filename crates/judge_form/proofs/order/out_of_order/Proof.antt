@@ -29,18 +29,21 @@ Inv-loop s first before₀ cursor₀ before cursor = Passed s before (cursor .pl
 abbrev μ-loop : tie.MeasureT-loop
 μ-loop s first before₀ cursor₀ before cursor = words s - cursor .place
 
--- THE PLACES: the first word, a turn of the loop, and the word that it reads
+-- THE PLACES: the entry, the first word, a turn of the loop, and the word that it reads
+abbrev Start : Type 0
+Start = tie.Start Inv-loop μ-loop
+
 abbrev First : Type 0
 First = tie.After-first Inv-loop μ-loop
 
 abbrev front : First → List ℕ
-front c = c .before .before .before .before .args .s .now
+front c = let start : Start = search needs in start .args .s .now
 
 abbrev Turn : Type 0
 Turn = tie.At-loop Inv-loop μ-loop
 
 abbrev sheet : Turn → List ℕ
-sheet c = front (c .before .before .before .before .before)
+sheet c = let start : Start = search needs in start .args .s .now
 
 abbrev Read : Type 0
 Read = tie.After-word Inv-loop μ-loop
@@ -73,7 +76,7 @@ tested c = c .may-follow .ensures ∙ ap (mayFollow _) (kind-read (c .before))
 -- THE ANSWERS: no word, a first one with which no sheet begins, and one with which a sheet may
 no-word : tie.Need-returns Inv-loop μ-loop
 no-word c =
-    let start : tie.Start Inv-loop μ-loop = search needs in
+    let start : Start = search needs in
     let end = sym (c .before .before .word-after .ensures) ∙ c .enum-told .given .1 in
     sym (pass-empty _ (step-end (start .args .s .now) (record { place = 0 }) end))
 
