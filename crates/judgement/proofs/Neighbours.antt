@@ -15,7 +15,8 @@ use Rattle.indices.proofs.Tests.{or-left, or-right, and-left, and-right, any-at
 use Rattle.sheet.specs.Words.{words, word, kind, bytesOf}
 use Rattle.sheet.proofs.Samples.{hallA, oneNode, flatHall}
 use Rattle.judgement.specs.Form.{wrongSize, outOfOrder}
-use Rattle.judgement.specs.Kinds.{mayBegin, mayFollow, mayEnd, wrongFirst, wrongNeighbours, wrongLast, wrongKinds, Ordered, Begins, Follows, Ends, ByCases}
+use Rattle.judgement.specs.Kinds.{mayBegin, mayFollow, mayEnd, wrongFirst, wrongNeighbours, wrongLast, wrongKinds}
+use Rattle.judgement.specs.Kinds.{Ordered, Begins, Follows, Ends, ByCases}
 use Rattle.judgement.proofs.Order.{by-kinds}
 
 -- IN A SHEET IN ORDER NOTHING SAYS NO
