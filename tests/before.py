@@ -2,8 +2,9 @@
 
 The vectors of the base paper and of 2026-01 are in that form. What is expected today has to be as they state once its fifteen figures are
 added up into one. The cases go to the program in today's form: a table is lent with 28 words more. So a length that was wrong is wrong by
-as much. The words of a table that is read stay in their order, the new ones stand after the inner count, which becomes that of height 1,
-and say 0: a wrong kind is at the same count or node as it was.
+as much, unless it is that of the longer form of request 2026-06, which tests/cases.py has rules for. The words of a table that is read stay
+in their order, the new ones stand after the inner count, which becomes that of height 1, and say 0: a wrong kind is at the same count or
+node as it was.
 """
 import re
 

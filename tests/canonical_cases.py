@@ -13,7 +13,7 @@ from itertools import product
 from canonical import alike, copied, form, is_neat, nesting, shared, without_single_children
 from cases import bytes_in, case_of, change_fields, counted, line_of, lines_of, name_in, vectors_since, with_bytes
 from line_cases import BYTES as MOST_ROOM
-from paper import Lists, applies, judge
+from paper import TODAY, Lists, applies, judge
 from procedure import HEADER, Hall, distances, tables
 from sheets import (
     FAULTS, HALL_A, WIDE, Chance, alternate, balanced, beneath, chain, changed, divided, each_way, every_division, flat, halving, high_halls,
@@ -285,8 +285,8 @@ def said(answer):
     return written(found, found) if name == 'written' else 'refused input %d' % found
 
 
-def answered(family):
-    """The cases of a family with the answers expected and stated."""
+def answered(family, rules=TODAY):
+    """The cases of a family with the answers expected and stated, the same by all rules since request 2026-04."""
     for (sheet, room), stated in family():
         yield case_of(6, sheet, words=room), said(copied(sheet, room)), stated
 

@@ -4,16 +4,19 @@ import sys
 from collections import Counter
 from pathlib import Path
 
+from paper import BASE, BEFORE_2026_06, TODAY
+
 ROOT = Path(__file__).resolve().parent.parent
 
 # What the cases of one call may take in a file, so that a family that grows unseen is noticed.
-MOST_BYTES = 6_500_000
+MOST_BYTES = 7_500_000
 
-# The vectors of the base paper were made when a node had at most two arcs each way.
-BASE_EACH_WAY = 2
+# The vectors of the base paper were made when a node had at most two arcs each way, and those before 2026-06 when there was no longer table.
+# The refusals that alone may have moved since.
+MAY_MOVE = {BASE: ('refused input 10', 'refused 10', 'refused state 21'), BEFORE_2026_06: ('refused state 21',)}
 
 # The change requests. Each has its vectors in a file of its own.
-REQUESTS = ['2026-01', '2026-02', '2026-03', '2026-04', '2026-05']
+REQUESTS = ['2026-01', '2026-02', '2026-03', '2026-04', '2026-05', '2026-06']
 
 # The answers, numbered from 0 as the program numbers them.
 ANSWERS = ['refused input', 'refused state', 'accepted', 'ended', 'paused', 'no route', 'route', 'written']
@@ -37,6 +40,7 @@ def vectors_of(request, stated_by, *form):
     def family():
         return stated_by(request, *form)
     family.__name__ = 'vectors of ' + request
+    family.rules = BEFORE_2026_06 if request < '2026-06' else TODAY
     return family
 
 
@@ -114,29 +118,36 @@ def counted(kinds):
     return ', '.join('%s: %d' % pair for pair in sorted(kinds.items()))
 
 
-def held_with_base_limit(family, answered, before, kind):
-    """The cases of base vectors with the answers of today. With the limit of that time they are as stated; only a refusal 10 moves."""
+def held_by_rules(family, answered, rules, before, kind):
+    """The cases of vectors with the answers of today. By the rules of their time they are as stated; only the refusals that may move do."""
     moved = Counter()
-    for (case, limited, stated), (_, answer, _) in zip(answered(family, BASE_EACH_WAY), answered(family), strict=True):
-        hold(family, case, before(limited), stated)
-        if limited not in ('refused input 10', 'refused 10'):
-            hold(family, case, answer, limited)
-        elif answer != limited:
-            moved[kind(answer)] += 1
+    for (case, then, stated), (_, answer, _) in zip(answered(family, rules), answered(family), strict=True):
+        hold(family, case, before(then), stated)
+        if then not in MAY_MOVE[rules]:
+            hold(family, case, answer, then)
+        elif answer != then:
+            moved['from %s to %s' % (kind(then), kind(answer))] += 1
         yield case, answer
-    print('%s: from refusal 10 to %s' % (family.__name__, counted(moved) or 'nothing else'))
+    if moved:
+        print('%s: %s' % (family.__name__, counted(moved)))
+
+
+def held_vectors(family, answered, rules, before, kind):
+    return held(family, answered, before) if rules == TODAY else held_by_rules(family, answered, rules, before, kind)
 
 
 def lines_of(vectors, families, answered, kind=lambda answer: answer.split(':')[0], line_of=line_of, before=same):
     """The lines of all vectors and, each once, of the cases of all families, where they are not too many; prints how many there are.
 
-    The vectors are three lists: of the base paper, of 2026-01 and of the requests since. For a family and a limit of arcs each way, `answered`
+    The vectors are three lists: of the base paper, of 2026-01 and of the requests since. For a family and the rules of its time, `answered`
     gives the cases, each with the answer expected and the one stated, or None; `before` gives an answer in the form before 2026-02.
     """
     lines, seen, kinds = [], set(), Counter()
     base, first, since = vectors
-    found = [(family, held_with_base_limit(family, answered, before, kind)) for family in base]
-    found += [(family, held(family, answered, before)) for family in first] + [(family, held(family, answered)) for family in since + families]
+    found = [(family, held_by_rules(family, answered, BASE, before, kind)) for family in base]
+    found += [(family, held_vectors(family, answered, family.rules, before, kind)) for family in first]
+    found += [(family, held_vectors(family, answered, family.rules, same, kind)) for family in since]
+    found += [(family, held(family, answered)) for family in families]
     for family, cases in found:
         start = len(lines)
         for case, answer in cases:

@@ -7,7 +7,7 @@ import sys
 from itertools import product
 
 from cases import bytes_in, case_of, change_fields, data, lines_of, vectors_of, vectors_since
-from paper import MOST_EACH_WAY, applies, judge
+from paper import TODAY, applies, judge
 from sheets import (
     FAULTS, HALL_A, WIDE, Chance, alternate, chain, changed, damaged, each_way, flat, halving, inner, leaf, many_chains, one_deep, packed,
     random_words, sheet_of, side_by_side, with_faults, words_of,
@@ -364,10 +364,10 @@ def said(answer):
     return 'refused input %d' % answer if answer else 'accepted'
 
 
-def answered(family, most_each_way=MOST_EACH_WAY):
+def answered(family, rules=TODAY):
     """The cases of a family with the answers expected and stated."""
     for sheet, stated in family():
-        yield case_of(1, sheet), said(judge(sheet, most_each_way)), None if stated is None else said(stated)
+        yield case_of(1, sheet), said(judge(sheet, rules.most_each_way)), None if stated is None else said(stated)
 
 
 def lines():

@@ -6,7 +6,7 @@ text that a case states, and what is printed of an ended run has to be shortest.
 """
 from before import listing_before
 from cases import bytes_in, case_of, change_fields, data, lines_of, vectors_of, vectors_since
-from paper import MOST_EACH_WAY
+from paper import TODAY
 from procedure import printed
 from sheets import (
     FAULTS, HALL_A, WIDE, Chance, balanced, chain, changed, divided, each_way, flat, halving, high_halls, ladder, one_deep, packed, random_arcs,
@@ -107,10 +107,10 @@ def stated_by(request):
         yield bytes_in(digits), text.replace('_', ' ').replace('|', '\n').rstrip('\n')
 
 
-def answered(family, most_each_way=MOST_EACH_WAY):
+def answered(family, rules=TODAY):
     """The cases of a family with the texts expected and stated."""
     for sheet, stated in family():
-        yield case_of(5, sheet), '\n'.join(printed(sheet, most_each_way)), stated
+        yield case_of(5, sheet), '\n'.join(printed(sheet, rules.most_each_way)), stated
 
 
 def kind(text):

@@ -2,9 +2,16 @@
 the Rattle code. Where kinds are in order, the lists are the sheet's sections.
 """
 import re
+from collections import namedtuple
 
 # The most arcs from a node, and the most to a node. The paper says two, change request 2026-01 four.
 MOST_EACH_WAY = 4
+
+# What has changed in the refusals of a sheet and of a table's length: the most arcs each way, and since request 2026-06 the longer form.
+Rules = namedtuple('Rules', 'most_each_way longer_form')
+TODAY = Rules(MOST_EACH_WAY, True)
+BEFORE_2026_06 = Rules(MOST_EACH_WAY, False)
+BASE = Rules(2, False)
 
 
 class Lists:

@@ -1,13 +1,14 @@
-"""The procedure, its answer table and the route reader, written from the paper. They share nothing with the Rattle code.
+"""The procedure, its answer table, the route reader and going on from a table, written from the paper. They share nothing with the Rattle code.
 
 `Run` keeps a heap for each inner region, `PlainRun` looks through all children instead; the cases hold the two to each other. Distances
 are found a second way, by `distances`, and every ended table is held to them. The limit of arcs each way is the judge's alone.
 
-A run counts the workings of each region; the figures by height are added up where the table is made.
+A run counts the workings of each region; the figures by height are added up where the table is made. Tables are made in the longer form of
+request 2026-06; the usual form is their front.
 """
 from heapq import heapify, heappop, heappush
 
-from paper import MOST_EACH_WAY, Lists, judge
+from paper import MOST_EACH_WAY, TODAY, Lists, judge
 
 NONE = 2**28 - 1
 MOST_HEIGHT = 15
@@ -40,21 +41,40 @@ class Hall:
 
 
 class Run:
-    """A run of a hall: its start, then a round at a time."""
+    """A run of a hall: its start, or the state that a longer table stands for, then a round at a time."""
 
-    def __init__(self, hall):
+    def __init__(self, hall, table=None):
         self.hall = hall
-        self.labels = [NONE] * hall.nodes
-        self.feeding = [NONE] * hall.nodes
-        self.labels[hall.source] = 0
         # A leaf's own key is its one item; an inner region has a key for each child.
         self.own_keys = {leaf: NONE for leaf in hall.arc_of}
         self.keys = [NONE] * len(hall.parents)
         self.heaps = [[] for _ in hall.parents]
         self.workings = [0] * len(hall.parents)
+        if table is None:
+            self.start()
+        else:
+            self.go_on(table)
+
+    def start(self):
+        hall = self.hall
+        self.labels = [NONE] * hall.nodes
+        self.feeding = [NONE] * hall.nodes
+        self.labels[hall.source] = 0
         self.rounds = self.leaves = self.updates = 0
+        self.figures_before = [0] * MOST_HEIGHT
         for arc in hall.outgoing[hall.source]:
             self.update(arc, 0)
+
+    def go_on(self, table):
+        """"a keyed leaf's key being its tail's label, an inner region's keys its children's smallest. Counts carry on." """
+        hall = self.hall
+        self.labels, self.feeding, keyed = columns(hall, table)
+        self.rounds, self.leaves, *self.figures_before, self.updates = counts_of(table)
+        for arc, tail in enumerate(hall.tails):
+            if keyed[arc]:
+                self.own_keys[hall.leaf_of[arc]] = self.labels[tail]
+        for region in reversed(range(1, len(hall.parents))):
+            self.write(region, self.smallest(region))
 
     def first(self, region):
         """The key of an inner region's first-chosen item, and the item: lowest key, then lowest region number."""
@@ -121,7 +141,7 @@ class Run:
 
     def inner(self, levels=None):
         """How often inner regions were worked, for heights 1 to 15. Another number for each region can be given in place of its height."""
-        figures = [0] * MOST_HEIGHT
+        figures = list(self.figures_before)
         for region, level in enumerate(levels or self.hall.heights):
             if region not in self.own_keys:
                 figures[level - 1] += self.workings[region]
@@ -131,7 +151,9 @@ class Run:
         return [self.rounds, self.leaves] + self.inner() + [self.updates]
 
     def table(self):
-        return table_of(self.labels, self.feeding, self.ended(), [half for count in self.counts() for half in (count >> 28, count % 2**28)])
+        """In the longer form."""
+        keyed = [self.own_keys[self.hall.leaf_of[arc]] != NONE for arc in range(len(self.hall.tails))]
+        return table_of(self.labels, self.feeding, self.ended(), halves_of(self.counts()), keyed)
 
 
 class PlainRun(Run):
@@ -145,12 +167,23 @@ class PlainRun(Run):
         self.keys[item] = key
 
 
-def table_of(labels, feeding, status=1, halves=(0,) * 2 * COUNTS):
-    """A table's words; of each count the high 28 bits and the low 28."""
+def halves_of(counts):
+    """Of each count the high 28 bits and the low 28."""
+    return [half for count in counts for half in (count >> 28, count % 2**28)]
+
+
+def table_of(labels, feeding, status=1, halves=(0,) * 2 * COUNTS, keyed=()):
+    """A table's words; in the longer form whether each arc has a key is given."""
     words = [8 << 28 | status] + [11 << 28 | half for half in halves]
     for label, arc in zip(labels, feeding):
         words += [9 << 28 | label, 10 << 28 | arc]
-    return words
+    return words + [12 << 28 | key for key in keyed]
+
+
+def columns(hall, table):
+    """The labels, the feeding arcs and, in the longer form, the payloads of the key words of a table."""
+    payloads, size = [word % 2**28 for word in table], table_size(hall.nodes)
+    return payloads[HEADER:size:2], payloads[HEADER + 1:size:2], payloads[size:]
 
 
 def counts_of(table):
@@ -159,14 +192,19 @@ def counts_of(table):
     return [high << 28 | low for high, low in zip(halves[::2], halves[1::2])]
 
 
-def tables(hall, limits=None, run=Run):
-    """The tables after at most so many rounds, for each of the limits listed, None for no limit."""
+def longer_tables(hall, limits=None, run=Run):
+    """The longer tables after at most so many rounds, for each of the limits listed, None for no limit."""
     made, going, limits = {}, run(hall), limits or [None]
     for limit in sorted(limits, key=lambda limit: (limit is None, limit)):
         while not going.ended() and (limit is None or going.rounds < limit):
             going.round()
         made[limit] = going.table()
     return made
+
+
+def tables(hall, limits=None):
+    """The same in the usual form."""
+    return {limit: table[:table_size(hall.nodes)] for limit, table in longer_tables(hall, limits).items()}
 
 
 def distances(hall):
@@ -205,12 +243,22 @@ def table_size(nodes):
     return HEADER + 2 * nodes
 
 
-def table_refusal(sheet, length, most_each_way=MOST_EACH_WAY):
+def longer_size(hall):
+    """"after the usual words, one per arc" """
+    return table_size(hall.nodes) + len(hall.tails)
+
+
+def wrong_length(hall, length, rules):
+    """Refusal 21: neither form, and before request 2026-06 not the usual one."""
+    return length != table_size(hall.nodes) and (length != longer_size(hall) or not rules.longer_form)
+
+
+def table_refusal(sheet, length, rules=TODAY):
     """The refusal of a run, as ('input', number) or ('state', 21), or None."""
-    number = judge(sheet, most_each_way)
+    number = judge(sheet, rules.most_each_way)
     if number:
         return 'input', number
-    return ('state', 21) if length != table_size(Lists(sheet).nodes) else None
+    return ('state', 21) if wrong_length(Hall(sheet), length, rules) else None
 
 
 # The route reader.
@@ -252,17 +300,18 @@ def shortest(hall, labels, feeding):
 
 
 def wrong_word(hall, table):
-    """Refusal 22."""
-    kinds = [8] + [11] * 2 * COUNTS + [9, 10] * hall.nodes
-    feeding = [word % 2**28 for word in table[HEADER + 1::2]]
+    """Refusal 22, of a table in either form."""
+    _, feeding, keyed = columns(hall, table)
+    kinds = [8] + [11] * 2 * COUNTS + [9, 10] * hall.nodes + [12] * len(keyed)
     return (
         [word >> 28 for word in table] != kinds or table[0] % 2**28 > 1 or any(len(hall.tails) <= arc < NONE for arc in feeding)
+        or any(key > 1 for key in keyed)
     )
 
 
 def table_faults(hall, table):
     """Each of 22 to 24 with its test, for a table of the right length."""
-    labels, feeding = ([word % 2**28 for word in table[HEADER + at::2]] for at in range(2))
+    labels, feeding, _ = columns(hall, table)
     return {
         22: lambda: wrong_word(hall, table),
         23: lambda: table[0] % 2**28 == 0,
@@ -270,20 +319,89 @@ def table_faults(hall, table):
     }
 
 
-def route(sheet, table, node, room, most_each_way=MOST_EACH_WAY):
+def route(sheet, table, node, room, rules=TODAY):
     """('route', arcs), ('no route',), ('input', number) or ('state', number)."""
-    number = judge(sheet, most_each_way)
+    number = judge(sheet, rules.most_each_way)
     if number:
         return 'input', number
     hall = Hall(sheet)
     if node >= hall.nodes:
         return 'input', 15
-    if len(table) != table_size(hall.nodes):
+    if wrong_length(hall, len(table), rules):
         return 'state', 21
     for number, applies in table_faults(hall, table).items():
         if applies():
             return 'state', number
-    if table[HEADER + 2 * node] % 2**28 == NONE:
+    labels, feeding, _ = columns(hall, table)
+    if labels[node] == NONE:
         return 'no route',
-    arcs = chain_to(hall, [word % 2**28 for word in table[HEADER + 1::2]], node)
+    arcs = chain_to(hall, feeding, node)
     return ('route', arcs) if len(arcs) <= room else ('state', 25)
+
+
+# Going on. "A table is held to be a possible state if", clause by clause:
+
+class State:
+    """What a longer table says of a hall."""
+
+    def __init__(self, hall, table):
+        self.hall, self.ended, self.counts = hall, table[0] % 2**28 == 1, counts_of(table)
+        self.labels, self.feeding, self.keyed = columns(hall, table)
+        self.reached = [label != NONE for label in self.labels]
+        self.others = [node for node in range(hall.nodes) if self.reached[node] and node != hall.source]
+        self.most = 262_143 * (sum(self.reached) - 1)
+        self.arcs = list(zip(hall.tails, hall.heads, hall.lengths, self.keyed))
+
+
+def fed_along_a_chain(s, node):
+    """The feeding arcs, followed back, are a route from the source, over reached nodes."""
+    arcs = chain_to(s.hall, s.feeding, node)
+    return arcs is not None and leads(s.hall, arcs, node) and all(s.reached[s.hall.tails[arc]] for arc in arcs)
+
+
+def below_its_feeder(s, node):
+    """Unreached is above every number."""
+    arc = s.feeding[node]
+    if arc == NONE:
+        return False
+    tail = s.hall.tails[arc]
+    return not s.reached[tail] or s.labels[node] < s.labels[tail] + s.hall.lengths[arc]
+
+
+CLAUSES = {
+    'the source is at 0, unfed': lambda s: s.labels[s.hall.source] == 0 and s.feeding[s.hall.source] == NONE,
+    'other reached nodes are fed along chains from the source': lambda s: all(fed_along_a_chain(s, node) for node in s.others),
+    "none below its feeder's label plus length": lambda s: not any(below_its_feeder(s, node) for node in s.others),
+    'unreached nodes are unfed': lambda s: all(reached or arc == NONE for reached, arc in zip(s.reached, s.feeding)),
+    'the arcs leaving them keyless': lambda s: all(s.reached[tail] or not key for tail, _, _, key in s.arcs),
+    "a keyless arc from a reached node has its head's label at most its tail's plus its length": lambda s: all(
+        s.reached[head] and s.labels[head] <= s.labels[tail] + length for tail, head, length, key in s.arcs if s.reached[tail] and not key),
+    "no reached node's label exceeds 262,143 × (reached nodes less one)": lambda s: all(
+        label <= s.most for label, reached in zip(s.labels, s.reached) if reached),
+    'each count is below 2 to the power 55': lambda s: all(count < 2**55 for count in s.counts),
+    '0 at unused heights': lambda s: not any(s.counts[2 + len(s.hall.spans):-1]),
+    'status is ended exactly when nothing has a key': lambda s: s.ended == (not any(s.keyed)),
+}
+
+
+def broken_clauses(hall, table):
+    """The clauses that don't hold of a longer table in which no word is wrong: none of a possible state."""
+    state = State(hall, table)
+    return [clause for clause, holds in CLAUSES.items() if not holds(state)]
+
+
+def resume(sheet, table, rounds, run=Run):
+    """('ended', table), ('paused', table), ('input', number) or ('state', number)."""
+    number = judge(sheet)
+    if number:
+        return 'input', number
+    hall = Hall(sheet)
+    if len(table) != longer_size(hall) or wrong_word(hall, table):
+        return 'state', 32
+    if broken_clauses(hall, table):
+        return 'state', 33
+    going = run(hall, table)
+    last = going.rounds + rounds
+    while not going.ended() and going.rounds < last:
+        going.round()
+    return ('ended' if going.ended() else 'paused'), going.table()

@@ -1,15 +1,15 @@
 """The cases of the route reader: a sheet, a table's words, a node and the buffer's length, and the route, 'no route' or the refusal expected.
 
-What is expected comes from the route reader of tests/procedure.py. It has to agree with every line of tests/route_vectors.txt, with the
-limit of that time, and of the vectors of every change request, from tests/2026-01_vectors.txt on, where tests/before.py says how with the
-older ones, and with each answer that a case states; otherwise the script stops.
+What is expected comes from the route reader of tests/procedure.py. It has to agree with every line of tests/route_vectors.txt and of the
+vectors of every change request, from tests/2026-01_vectors.txt on, by the rules of their time, where tests/before.py says how with the older
+ones, and with each answer that a case states; otherwise the script stops.
 """
 import sys
 
 from before import MORE, table_before, table_since
 from cases import bytes_in, case_of, change_fields, data, lines_of, stated_in, vectors_of, vectors_since, with_words, words_in
-from paper import MOST_EACH_WAY
-from procedure import COUNTS, HEADER, NONE, Hall, distances, route, table_of, table_size, tables
+from paper import TODAY
+from procedure import COUNTS, HEADER, NONE, Hall, distances, longer_tables, route, table_of, table_size, tables
 from sheets import (
     FAULTS, HALL_A, WIDE, Chance, balanced, chain, changed, divided, each_way, flat, halving, high_halls, ladder, one_deep, packed,
     random_arcs, random_regions, sheet_of, single_children, turntable, with_faults,
@@ -362,9 +362,72 @@ def full_size_wide():
     yield (wide, ended(wide), 511, 600), None
 
 
+# Longer tables. The route reader looks at the form of key words, and at nothing else of them.
+
+def longer(sheet, limit=None):
+    return longer_tables(Hall(sheet), [limit])[limit]
+
+
+LONGER_A = longer(A)
+KEYS_A = range(table_size(4), table_size(4) + 4)
+
+
+def longer_forms():
+    """The same routes out of either form; the two lengths, and those about them."""
+    yield from routes(A, LONGER_A)
+    for wrong in (LONGER_A[:-1], LONGER_A[:-2], LONGER_A + LONGER_A[-1:], TABLE_A + LONGER_A[-1:], LONGER_A + TABLE_A[-2:], LONGER_A[1:]):
+        yield (A, wrong, 3, 3), 'refused state 21'
+        yield (A, wrong, 4, 3), 'refused input 15'
+    for chance, sheet, other in [*small_halls(24, 8, 2)] + [*small_halls(25, 3, 4)]:
+        for table in (longer(sheet), longer(other), other_tree(chance, sheet) + [12 << 28 | chance.below(2) for _ in Hall(sheet).tails]):
+            nodes = Hall(sheet).nodes
+            yield from routes(sheet, table, sorted({chance.below(nodes), nodes - 1}))
+        yield (sheet, longer(sheet, 0), 0, 99), 'refused state 23'
+    alone = sheet_of(3, 1, [1])
+    yield (alone, longer(alone), 1, 0), 'route 0'
+
+
+def key_words():
+    """Every kind and several payloads of a key word of hall A, with each other refusal of the table besides."""
+    others = {'refused state 23': with_payload(LONGER_A, 0, 0), 'refused state 24': with_payload(LONGER_A, label_at(3), 9)}
+    for at in KEYS_A:
+        for payload in (2, 3, 4, 65536, 65537, 2**27, NONE - 1, NONE):
+            yield (A, with_payload(LONGER_A, at, payload), 3, 3), 'refused state 22'
+        for kind in range(16):
+            for payload in (0, 1):
+                yield (A, changed(LONGER_A, at, kind << 28 | payload), 3, 3), ROUTE_A if kind == 12 else 'refused state 22'
+        for answer, table in others.items():
+            yield (A, with_payload(table, at, 1), 3, 3), answer
+            yield (A, with_payload(table, at, 2), 3, 3), 'refused state 22'
+            yield (A, changed(table, at, 11 << 28), 3, 3), 'refused state 22'
+        yield (A, with_payload(LONGER_A, at, 2), 3, 2), 'refused state 22'
+        yield (A, with_payload(LONGER_A, at, 1), 3, 2), 'refused state 25'
+        yield (A, with_payload(LONGER_A, at, 2), 4, 3), 'refused input 15'
+        yield (A[:-1], with_payload(LONGER_A, at, 2), 3, 3), 'refused input 1'
+    yield (A, TABLE_A + [12 << 28 | 1] * 4, 3, 3), ROUTE_A
+
+
+def longer_damaged():
+    """The other words of the longer table of hall A: each with other kinds, and as in the usual form with other payloads."""
+    for at, word in enumerate(TABLE_A):
+        for kind in (12, 9 if word >> 28 == 10 else 10):
+            yield (A, changed(LONGER_A, at, kind << 28 | word % 2**28), 3, 3), 'refused state 22'
+    for (sheet, table, node, room), answer in [*payloads()][::3]:
+        yield (sheet, table + LONGER_A[-4:], node, room), answer
+    for sheet, table, node, room in (case for case, _ in [*rings()][::2] + [*unreached()][::2]):
+        yield (sheet, table + [12 << 28] * len(Hall(sheet).tails), node, room), said(route(sheet, table, node, room))
+
+
+def longer_full_size():
+    longest = divided(1024, 1023, each_way(2, 1024), one_deep(2032), lambda h: 1_000_000)
+    table = longer(longest)
+    yield (longest, table, 5, 1023), None
+    yield (longest, with_payload(table, len(table) - 1, 2), 5, 1023), 'refused state 22'
+
+
 FAMILIES = [
     marked, good_tables, good_wide_tables, lengths_of_tables, one_inner_count, counts, kinds, payloads, one_off, unreached, rings, parallel,
-    turntables, pairs, wide_pairs, middling, full_size, full_size_wide,
+    turntables, pairs, wide_pairs, middling, full_size, full_size_wide, longer_forms, key_words, longer_damaged, longer_full_size,
 ]
 
 
@@ -386,10 +449,10 @@ def said(answer):
     return 'no route' if answer[0] == 'no route' else 'refused %s %d' % answer
 
 
-def answered(family, most_each_way=MOST_EACH_WAY):
+def answered(family, rules=TODAY):
     """The cases of a family with the answers expected and stated."""
     for (sheet, table, node, room), stated in family():
-        yield case_of(4, sheet, node, room, table), said(route(sheet, table, node, room, most_each_way)), stated
+        yield case_of(4, sheet, node, room, table), said(route(sheet, table, node, room, rules)), stated
 
 
 def kind(answer):

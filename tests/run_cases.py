@@ -1,20 +1,22 @@
 """The cases of a run: a sheet, a limit of rounds (None for none) and the table's length, and the answer and the table expected, or the refusal.
 
 What is expected comes from tests/procedure.py. It has to agree with every line of tests/limited_vectors.txt and tests/marks_vectors.txt,
-with the limit of that time, and of the vectors of every change request, from tests/2026-01_vectors.txt on, where tests/before.py says how
+and of the vectors of every change request, from tests/2026-01_vectors.txt on, by the rules of their time, where tests/before.py says how
 with the older ones, and with each answer that a case states; every ended table has to hold the distances found a second way, and as much
-work as tests/work.py says, and on small halls the run without heaps has to make the same tables. Otherwise the script stops.
+work as tests/work.py says, every longer table has to be a possible state of request 2026-06, and on small halls the run without heaps has to
+make the same tables. Otherwise the script stops.
 """
 import sys
 from collections import Counter
 
 from before import MORE, answer_before, listing_before
 from cases import (
-    BASE_EACH_WAY, bytes_in, case_of, change_fields, counted, data, lines_of, stated_in, vectors_of, vectors_since, with_words, words_in,
+    bytes_in, case_of, change_fields, counted, data, lines_of, stated_in, vectors_of, vectors_since, with_words, words_in,
 )
-from paper import MOST_EACH_WAY, judge
+from paper import BASE, TODAY, judge
 from procedure import (
-    COUNTS, HEADER, MOST_HEIGHT, NONE, Hall, PlainRun, Run, counts_of, distances, printed, shortest, table_of, table_refusal, table_size, tables,
+    COUNTS, HEADER, MOST_HEIGHT, NONE, Hall, PlainRun, Run, broken_clauses, columns, counts_of, distances, halves_of, longer_size, longer_tables,
+    printed, shortest, table_of, table_refusal, table_size, tables,
 )
 from sheets import (
     FAULTS, HALL_A, WIDE, Chance, Parts, alternate, balanced, beneath, chain, changed, divided, each_way, flat, halving, high_halls, inner,
@@ -38,6 +40,11 @@ def right(sheet):
     return table_size(Hall(sheet).nodes)
 
 
+def longer(sheet):
+    """The length of its longer table."""
+    return longer_size(Hall(sheet))
+
+
 def rounds_of(sheet):
     return counts_of(tables(Hall(sheet))[None])[0]
 
@@ -49,11 +56,11 @@ def around_the_end(sheet):
     return sheet, [(limit, right(sheet), None) for limit in sorted(limits) if limit >= 0] + [(None, right(sheet), None)]
 
 
-def as_marked(answer, counts, labels, feeding):
-    """An answer with its table, from counts whose inner figures are those of the sheet's heights; the others are 0. All are below 2^28."""
+def as_marked(answer, counts, labels, feeding, keyed=()):
+    """An answer with its table, from counts whose inner figures are those of the sheet's heights; the others are 0."""
     *first, updates = counts
-    halves = [half for count in first + [0] * (COUNTS - len(counts)) + [updates] for half in (0, count)]
-    return with_words(answer, table_of(labels, feeding, answer == 'ended', halves))
+    halves = halves_of(first + [0] * (COUNTS - len(counts)) + [updates])
+    return with_words(answer, table_of(labels, feeding, answer == 'ended', halves, keyed))
 
 
 def marked():
@@ -72,15 +79,15 @@ def marked():
 
 
 def lengths_of_tables():
-    """Among the wrong ones the length with one inner count, with one word for each count, and with a height less or more."""
+    """Among the wrong ones the length with one inner count, with one word for each count, with a height less or more, and about both forms."""
     fourteen_more = sheet_of(18, 0, [1], [(0, 17, 5)], flat(1))
     for sheet in (packed(HALL_A), fourteen_more, sheet_of(1, 0, [1]), sheet_of(1024, 1023, [7], [(1023, 0, 5)], flat(1)), single(5), single(15)):
-        good = right(sheet)
-        wrong = {0, 1, HEADER, good - HEADER, good - MORE, good - COUNTS, good + MORE, good + 1000, 4096} - {good}
-        near = [good + more for more in (-2, -1, 1, 2)]
+        good, forms = right(sheet), {right(sheet), longer(sheet)}
+        wrong = {0, 1, HEADER, good - HEADER, good - MORE, good - COUNTS, good + MORE, good + 1000, 4096}
+        wrong |= {form + more for form in forms for more in (-2, -1, 1, 2)}
         for limit in (0, 1, MOST_LIMIT, None):
-            yield sheet, [(limit, length, 'refused state 21') for length in sorted(wrong) + near]
-            yield sheet, [(limit, good, None)]
+            yield sheet, [(limit, length, 'refused state 21') for length in sorted(wrong - forms)]
+            yield sheet, [(limit, form, None) for form in sorted(forms)]
 
 
 def single(height):
@@ -363,7 +370,67 @@ def work_done():
     yield from (at_the_end(sheet) for sheet in (*patient_halls(), *small_flat_halls()))
 
 
-FAMILIES = [marked, lengths_of_tables, refused, wide, small, uneven, high, middling, woken_again, full_size, full_size_wide, work_done]
+# Longer tables.
+
+def in_the_longer_form(sheet, limits=None):
+    """The cases of a group in the longer form. With no limits given, those about the start, the end and between."""
+    rounds = rounds_of(sheet)
+    limits = limits or sorted({0, 1, rounds // 2, max(rounds - 1, 0), rounds}) + [None]
+    return sheet, [(limit, longer(sheet), None) for limit in limits]
+
+
+def about_both_lengths(sheet):
+    """Lengths one off either form, halfway between the two, and with a word of kind 12 for each node or region in place of each arc."""
+    forms = right(sheet), longer(sheet)
+    lists = Hall(sheet)
+    wrong = {form + more for form in forms for more in (-1, 1)} | {sum(forms) // 2, forms[0] + lists.nodes, forms[0] + len(lists.parents) - 1}
+    return sheet, [(limit, length, 'refused state 21') for length in sorted(wrong - {*forms}) for limit in (None, 1)]
+
+
+def longer_of_hall_a():
+    """Which arcs have a key after each round of hall A, by hand."""
+    a, unreached = packed(HALL_A), [NONE] * 3
+    ended = as_marked('ended', [3, 5, 3, 3, 13], [0, 3, 1, 8], [NONE, 2, 1, 3], [0, 0, 0, 0])
+    yield a, [
+        (0, table_size(4) + 4, as_marked('paused', [0, 0, 0, 0, 6], [0] + unreached, [NONE] + unreached, [1, 1, 0, 0])),
+        (1, table_size(4) + 4, as_marked('paused', [1, 2, 1, 1, 8], [0, 4, NONE, 9], [NONE, 0, NONE, 3], [0, 1, 0, 0])),
+        (2, table_size(4) + 4, as_marked('paused', [2, 4, 2, 2, 13], [0, 3, 1, 9], [NONE, 2, 1, 3], [0, 0, 0, 1])),
+        *((limit, table_size(4) + 4, ended) for limit in (3, 4, MOST_LIMIT, None)),
+    ]
+    yield about_both_lengths(a)
+
+
+def longer_forms():
+    """Both run calls fill either form: the same counts, labels and feeding arcs, then the keys."""
+    yield from longer_of_hall_a()
+    one = packed([0x10000001, 0x20000000, 0x30000001])
+    yield one, [(limit, longer(one), as_marked('ended', [0, 0, 0, 0], [0], [NONE])) for limit in (0, None)]
+    drawn = [*small_halls(22, 16, 8, 2), *small_halls(23, 8, 6, 4)]
+    for sheet in [*listed_halls()][::8] + [*turntables()][::8] + [*wide_halls()][::6] + drawn + [*uneven_halls()][::5] + [*high_halls()][::5]:
+        yield in_the_longer_form(sheet)
+    for sheet in drawn[::4]:
+        yield about_both_lengths(sheet)
+    for change in WIDE:
+        yield in_the_longer_form(with_faults(change))
+    for changes in FAULTS.values():
+        sheet = with_faults(changes[0])
+        yield sheet, [(limit, FAULTY + 6, 'refused input %d' % judge(sheet)) for limit in (None, 1)]
+    for nodes, arcs, regions in (woken(3, 4), woken(5, 6, 3)):
+        yield in_the_longer_form(divided(nodes, 0, arcs, regions, lambda h: 2))
+
+
+def longer_full_size():
+    """A table of 37 + 2,048 + 2,048 words, the longest that there is, before the end and at it."""
+    longest = divided(1024, 1023, each_way(2, 1024), one_deep(2032), lambda h: 3)
+    yield in_the_longer_form(longest, [9, None])
+    yield in_the_longer_form(divided(512, 7, each_way(4, 512), alternate(), lambda h: 2), [100])
+    yield longest, [(None, length, 'refused state 21') for length in (4132, 4134)]
+
+
+FAMILIES = [
+    marked, lengths_of_tables, refused, wide, small, uneven, high, middling, woken_again, full_size, full_size_wide, work_done, longer_forms,
+    longer_full_size,
+]
 
 
 # The vectors.
@@ -386,48 +453,49 @@ def marks_vectors():
     for line in data('marks_vectors.txt'):
         digits, stated = line.split(' ', 1)
         sheet = bytes_in(digits)
-        found = listing_before('|'.join(printed(sheet, BASE_EACH_WAY)))
+        found = listing_before('|'.join(printed(sheet, BASE.most_each_way)))
         if found != stated:
             sys.exit('marks prints %s: %s' % (found[:200], line[:200]))
-        lengths = ([FAULTY] if judge(sheet, BASE_EACH_WAY) else []) + ([] if judge(sheet) else [right(sheet)])
+        lengths = ([FAULTY] if judge(sheet, BASE.most_each_way) else []) + ([] if judge(sheet) else [right(sheet)])
         yield sheet, [(None, length, None) for length in lengths]
 
 
 # What is expected.
 
 def sound(hall, table):
-    """Whether a table can be one of a run: an ended one is shortest, no label of a paused one is below the distance, and a round works region 0.
+    """Whether a longer table can be one of a run: an ended one is shortest, no label of a paused one is below the distance, a round works region 0,
+    and the table is a possible state.
 
     Region 0 alone is as high as there are spans, and no region is higher.
     """
-    labels, feeding = ([word % 2**28 for word in table[HEADER + at::2]] for at in range(2))
+    labels, feeding, _ = columns(hall, table)
     rounds, _, *figures, _ = counts_of(table)
-    if figures[len(hall.spans) - 1:] != [rounds] + [0] * (MOST_HEIGHT - len(hall.spans)):
+    if figures[len(hall.spans) - 1:] != [rounds] + [0] * (MOST_HEIGHT - len(hall.spans)) or broken_clauses(hall, table):
         return False
     if table[0] % 2:
         return shortest(hall, labels, feeding)
     return all(label >= distance for label, distance in zip(labels, distances(hall)))
 
 
-def answers(sheet, wanted, most_each_way):
+def answers(sheet, wanted, rules):
     """The answers expected for a sheet and pairs of a limit and a length."""
-    refusals = [table_refusal(sheet, length, most_each_way) for _, length in wanted]
+    refusals = [table_refusal(sheet, length, rules) for _, length in wanted]
     if all(refusals):
         return ['refused %s %d' % refusal for refusal in refusals]
     hall = Hall(sheet)
-    made = tables(hall, [limit for limit, _ in wanted])
+    made = longer_tables(hall, [limit for limit, _ in wanted])
     if not all(sound(hall, table) for table in made.values()):
         sys.exit('a table is not one of a run: %s' % sheet.hex()[:300])
-    if len(hall.tails) < 40 and tables(hall, list(made), PlainRun) != made:
+    if len(hall.tails) < 40 and longer_tables(hall, list(made), PlainRun) != made:
         sys.exit('the run without heaps differs: %s' % sheet.hex()[:300])
-    said = {limit: with_words(('paused', 'ended')[table[0] % 2], table) for limit, table in made.items()}
-    return ['refused %s %d' % refusal if refusal else said[limit] for refusal, (limit, _) in zip(refusals, wanted)]
+    said = [with_words(('paused', 'ended')[made[limit][0] % 2], made[limit][:length]) for limit, length in wanted]
+    return ['refused %s %d' % refusal if refusal else answer for refusal, answer in zip(refusals, said)]
 
 
-def answered(family, most_each_way=MOST_EACH_WAY):
+def answered(family, rules=TODAY):
     """The cases of a family with the answers expected and stated."""
     for sheet, cases in family():
-        for (limit, length, stated), answer in zip(cases, answers(sheet, [case[:2] for case in cases], most_each_way)):
+        for (limit, length, stated), answer in zip(cases, answers(sheet, [case[:2] for case in cases], rules)):
             yield case_of(2, sheet, words=length) if limit is None else case_of(3, sheet, limit, length), answer, stated
 
 

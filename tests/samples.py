@@ -1,8 +1,8 @@
 """Checks the samples: what `./mark` prints for each samples/NAME.hex is samples/NAME.txt, and that is what the procedure of tests/procedure.py gives.
 
-The sheets that are said to have one neat copy have it, by tests/canonical.py. It also tries `./mark` on files that hold something else than
-words. Run it by `python3 tests/samples.py`; with `--write` it writes the .txt files from tests/procedure.py, which shares nothing with the
-Rattle code.
+The sheets that are said to have one neat copy have it, by tests/canonical.py. The practical, rounds with one set of spans and then with
+another, is as samples/practical.txt has it. It also tries `./mark` on files that hold something else than words. Run it by
+`python3 tests/samples.py`; with `--write` it writes the .txt files from tests/procedure.py, which shares nothing with the Rattle code.
 """
 import re
 import subprocess
@@ -11,7 +11,8 @@ import tempfile
 from pathlib import Path
 
 from canonical import form
-from procedure import printed
+from paper import Lists
+from procedure import NONE, Hall, columns, counts_of, longer_tables, printed, resume
 
 ROOT = Path(__file__).resolve().parent.parent
 
@@ -19,14 +20,53 @@ ROOT = Path(__file__).resolve().parent.parent
 ONE_COPY = ('hall-a', 'renumbered', 'neat')
 
 
+# The practical: so many rounds of the first sheet, then the rest of the second, which has other spans and nothing else.
+PRACTICAL = ('practical-first', 'practical-then')
+ROUNDS = 3
+
+
 def sheet_of(text):
     return bytes.fromhex(''.join(re.sub('#.*', '', text).split()))
 
 
+def sample(name):
+    return sheet_of((ROOT / 'samples' / (name + '.hex')).read_text())
+
+
 def have_one_copy():
     """Whether the sheets have the copy that they are said to have, and the first two print different texts."""
-    sheets = [sheet_of((ROOT / 'samples' / (name + '.hex')).read_text()) for name in ONE_COPY]
+    sheets = [sample(name) for name in ONE_COPY]
     return {form(sheet) for sheet in sheets} == {sheets[-1]} and printed(sheets[0]) != printed(sheets[1])
+
+
+def differ_in_spans_alone(first, then):
+    def without_spans(sheet):
+        return [sheet[at:at + 4] for at in range(0, len(sheet), 4) if sheet[at] >> 4 != 3]
+    return first != then and without_spans(first) == without_spans(then)
+
+
+def listed(sheet, table):
+    """A longer table as `marks` lists one, and then the arcs that have a key."""
+    hall = Hall(sheet)
+    labels, feeding, keyed = columns(hall, table)
+    rounds, leaves, *figures, updates = counts_of(table)
+    inner = ' '.join(str(figure) for figure in figures[:len(hall.spans)])
+    lines = ['%s rounds %d leaves %d inner %s updates %d' % (('paused', 'ended')[table[0] % 2], rounds, leaves, inner, updates)]
+    for node, values in enumerate(zip(labels, feeding)):
+        lines.append(' '.join([str(node)] + ['-' if value == NONE else str(value) for value in values]))
+    keys = [str(arc) for arc, key in enumerate(keyed) if key]
+    return lines + [' '.join(['keys', *(keys or ['-'])])]
+
+
+def practical():
+    """The text of the practical: the table at the break, and at the end."""
+    lines = []
+    first, then = (sample(name) for name in PRACTICAL)
+    table = longer_tables(Hall(first), [ROUNDS])[ROUNDS]
+    for sheet, rounds in ((first, 0), (then, 2**32 - 1)):
+        _, table = resume(sheet, table, rounds)
+        lines += ['spans ' + ' '.join(str(span) for span in Lists(sheet).spans)] + listed(sheet, table)
+    return '\n'.join(lines) + '\n'
 
 
 def mark(path):
@@ -58,6 +98,11 @@ def main():
     wrong += [f'{text!r} is not refused' for text, line in refused if not refuses(text, line)]
     if not have_one_copy():
         wrong.append('%s: not one neat copy' % ', '.join(ONE_COPY))
+    beside = ROOT / 'samples' / 'practical.txt'
+    if '--write' in sys.argv[1:]:
+        beside.write_text(practical())
+    if not differ_in_spans_alone(*(sample(name) for name in PRACTICAL)) or beside.read_text() != practical():
+        wrong.append('%s: not as practical.txt has it' % ', '.join(PRACTICAL))
     if wrong:
         sys.exit('\n'.join(wrong))
     print(f'{len(samples)} samples and {len(refused)} files that are no sheets: as expected')

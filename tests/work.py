@@ -5,7 +5,7 @@ is reached; where every leaf hangs directly on region 0, the leaves worked equal
 divided by the span, rounded up."
 """
 from paper import Lists
-from procedure import HEADER, NONE, counts_of
+from procedure import HEADER, NONE, counts_of, table_size
 
 # Which half of the sentence applies, by whether all spans are 1 and whether every leaf hangs directly on region 0.
 HALVES = {(False, False): 'none', (True, False): 'spans', (False, True): 'flat', (True, True): 'both'}
@@ -16,7 +16,7 @@ class Work:
 
     def __init__(self, sheet, table):
         lists = Lists(sheet)
-        labels = [word % 2**28 for word in table[HEADER::2]]
+        labels = [word % 2**28 for word in table[HEADER:table_size(lists.nodes):2]]
         self.ended = table[0] % 2**28 == 1
         self.rounds, self.leaves = counts_of(table)[:2]
         self.spans = lists.spans

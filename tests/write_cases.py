@@ -7,13 +7,15 @@ import canonical_cases
 import judge_cases
 import line_cases
 import marks_cases
+import resume_cases
 import route_cases
 import run_cases
 from cases import ROOT
 
 
 def main():
-    lines = [pair for cases in (line_cases, judge_cases, run_cases, route_cases, marks_cases, canonical_cases) for pair in cases.lines()]
+    calls = (line_cases, judge_cases, run_cases, route_cases, marks_cases, canonical_cases, resume_cases)
+    lines = [pair for cases in calls for pair in cases.lines()]
     for at, name in enumerate(('stdin', 'stdout')):
         (ROOT / 'crates' / 'cases' / name).write_text(''.join(pair[at] + '\n' for pair in lines))
 

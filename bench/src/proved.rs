@@ -1,4 +1,4 @@
-//! The five calls of the proved library, as the numbers of their answers.
+//! The six calls of the proved library, as the numbers of their answers.
 
 use pigrozk::Answer;
 
@@ -28,6 +28,10 @@ pub fn run_limited(sheet: &[u8], rounds: u32, table: &mut [u32]) -> u32 {
 
 pub fn route(sheet: &[u8], table: &[u32], node: u32, buffer: &mut [u32]) -> u32 {
     code(pigrozk::route(sheet, table, node, buffer))
+}
+
+pub fn resume(sheet: &[u8], rounds: u32, table: &mut [u32]) -> u32 {
+    code(pigrozk::resume(sheet, rounds, table))
 }
 
 pub fn canonical(sheet: &[u8], out: &mut [u8]) -> u32 {

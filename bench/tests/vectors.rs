@@ -3,12 +3,12 @@
 use bench::generate::halls::{self, WIDE};
 use bench::generate::tables::{before, since, MORE};
 use bench::generate::{random::Random, sheets};
-use bench::reference::judge::{accepted, accepted_within, Judged};
+use bench::reference::judge::{accepted, accepted_within, Accepted, Judged};
 use bench::reference::table::{self, HEADER, HEIGHTS};
 use bench::reference::{self, Answer, TOP};
 
 /// The change requests that have vectors.
-const REQUESTS: [&str; 5] = ["2026-01", "2026-02", "2026-03", "2026-04", "2026-05"];
+const REQUESTS: [&str; 6] = ["2026-01", "2026-02", "2026-03", "2026-04", "2026-05", "2026-06"];
 
 fn lines(name: &str) -> Vec<Vec<String>> {
     let path = format!("{}/../tests/{name}_vectors.txt", env!("CARGO_MANIFEST_DIR"));
@@ -39,11 +39,12 @@ fn answer(text: &str) -> Answer {
 
 type Judge = fn(&[u8]) -> Judged;
 
-/// By which judge a case holds, and the form of its tables: with one inner count, or level by level.
+/// By which judge a case holds, and the form of its tables: with one inner count, or level by level; and whether there was a longer form.
 #[derive(Clone, Copy)]
 struct Era {
     judge: Judge,
     one_inner: bool,
+    longer_form: bool,
 }
 
 impl Era {
@@ -65,6 +66,12 @@ impl Era {
         }
     }
 
+    /// A table of so many words of today was refused as 21, since there was no longer form.
+    fn had_no_such_length(self, sheet: &[u8], words: usize) -> bool {
+        let is_longer = |accepted: Accepted| words != table::length(accepted.sheet.nodes()) && words == table::longer(&accepted.sheet);
+        !self.longer_form && (self.judge)(sheet).is_ok_and(is_longer)
+    }
+
     /// What a run has left, in the form of the case.
     fn left(self, table: &[u32]) -> Vec<u32> {
         if self.one_inner {
@@ -83,16 +90,16 @@ fn two_each_way(bytes: &[u8]) -> Judged {
 /// Cases made before request 2026-01 hold by the judge of that time, and by today's unless they were refused as 10.
 fn each_before_2026_01(name: &str, holds: impl Fn(Era, &[String])) {
     for case in lines(name) {
-        holds(Era { judge: two_each_way, one_inner: true }, &case);
+        holds(Era { judge: two_each_way, one_inner: true, longer_form: false }, &case);
         if !matches!(two_each_way(&bytes(&case[0])), Err(10)) {
-            holds(Era { judge: accepted, one_inner: true }, &case);
+            holds(Era { judge: accepted, one_inner: true, longer_form: false }, &case);
         }
     }
 }
 
-/// The cases of a call among those of a request hold by today's judge. Since request 2026-02 their tables are level by level.
+/// The cases of a call among those of a request hold by today's judge. Since request 2026-02 their tables are level by level, since 2026-06 in two forms.
 fn each_of_a_request(request: &str, call: &str, holds: impl Fn(Era, &[String])) {
-    let era = Era { judge: accepted, one_inner: request < "2026-02" };
+    let era = Era { judge: accepted, one_inner: request < "2026-02", longer_form: request >= "2026-06" };
     let lines = lines(request);
     let cases: Vec<_> = lines.iter().filter(|case| case[0] == call).collect();
     assert!(!cases.is_empty());
@@ -162,6 +169,9 @@ fn run_agrees() {
 
 fn limited_run_holds(era: Era, case: &[String]) {
     let lent = vec![0xdead_beef; era.length(case[2].parse().unwrap())];
+    if era.had_no_such_length(&bytes(&case[0]), lent.len()) {
+        return assert_eq!(case[3], "state:21");
+    }
     let mut table = lent.clone();
     let answered = reference::run_of((era.judge)(&bytes(&case[0])), Some(case[1].parse().unwrap()), &mut table);
     assert_eq!(answered, answer(&case[3]), "{}", case[0]);
@@ -181,6 +191,9 @@ fn route_holds(era: Era, case: &[String], arcs: &[u32]) {
     let before = vec![0xdead_beef; case[3].parse().unwrap()];
     let mut buffer = before.clone();
     let table = era.lent(words(&case[1]));
+    if era.had_no_such_length(&bytes(&case[0]), table.len()) {
+        return assert_eq!(case[4], "state:21");
+    }
     let answered = reference::route_of((era.judge)(&bytes(&case[0])), &table, case[2].parse().unwrap(), &mut buffer);
     assert_eq!(answered, answer(&case[4]), "{}", case[0]);
     assert_eq!(buffer[..arcs.len()], *arcs, "{}", case[0]);
@@ -209,6 +222,17 @@ fn canonical_agrees() {
         }
     };
     each_since("2026-04", "canonical", holds);
+}
+
+#[test]
+fn resume_agrees() {
+    let holds = |_: Era, case: &[String]| {
+        let lent = words(&case[1]);
+        let mut table = lent.clone();
+        assert_eq!(reference::resume(&bytes(&case[0]), case[2].parse().unwrap(), &mut table), answer(&case[3]), "{}", case[0]);
+        assert_eq!(table, if case[4] == "-" { lent } else { words(&case[4]) }, "{}", case[0]);
+    };
+    each_since("2026-06", "resume", holds);
 }
 
 #[test]

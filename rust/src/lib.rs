@@ -1,4 +1,4 @@
-//! Travel times by nested regions: the five proved calls, from Rust.
+//! Travel times by nested regions: the six proved calls, from Rust.
 //!
 //! None of them has a precondition: each answers for every sheet, table and buffer, and ends. A refusal leaves all that was lent as it was. What they
 //! promise is stated in `crates/pigrozk/src/lib.rt`; `include/pigrozk.h` has the same calls for C.
@@ -18,8 +18,9 @@ pub const MOST_REGION_WORDS: usize = 4_094;
 pub const COUNTS: usize = 3 + MOST_SPANS;
 pub const HEADER_WORDS: usize = 1 + 2 * COUNTS;
 
-/// The longest table, and room for every route, in words.
+/// The longest table of the usual form and of the longer one, and room for every route, in words.
 pub const MOST_TABLE_WORDS: usize = table_words(MOST_NODES);
+pub const MOST_LONGER_TABLE_WORDS: usize = longer_table_words(MOST_NODES, MOST_ARCS);
 pub const MOST_ROUTE_WORDS: usize = MOST_NODES - 1;
 
 /// The payload of a table word that says 'unreached' or 'no arc'.
@@ -28,6 +29,12 @@ pub const NONE: u32 = 268_435_455;
 /// How many words a table has, for a sheet of so many nodes.
 pub const fn table_words(nodes: usize) -> usize {
     HEADER_WORDS + 2 * nodes
+}
+
+/// How many words a longer table has: after the usual ones a word of kind 12 for each arc, 1 if the arc's leaf has a key, else 0. With no arcs both forms have
+/// one length.
+pub const fn longer_table_words(nodes: usize, arcs: usize) -> usize {
+    table_words(nodes) + arcs
 }
 
 /// The counts that a table gives, which has `HEADER_WORDS` words at least. `inner` has a figure for each height from 1 on; it is 0 at a height that the sheet
@@ -89,10 +96,10 @@ impl Answer {
         }
     }
 
-    /// Whether input or state was at fault: 21 to 25 are from the state, the others from the input. Nothing for an answer that is no refusal.
+    /// Whether input or state was at fault: 21 to 25, 32 and 33 are from the state, the others from the input. Nothing for an answer that is no refusal.
     pub fn fault(self) -> Option<Fault> {
         match self {
-            Answer::Refused(21 | 22 | 23 | 24 | 25) => Some(Fault::State),
+            Answer::Refused(21 | 22 | 23 | 24 | 25 | 32 | 33) => Some(Fault::State),
             Answer::Refused(_) => Some(Fault::Input),
             _ => None,
         }
@@ -113,28 +120,36 @@ mod library {
             buffer: *mut u32,
             room: usize,
         ) -> u32;
+        pub fn pigrozk_resume(sheet: *const u8, bytes: usize, rounds: u32, table: *mut u32, words: usize) -> u32;
         pub fn pigrozk_canonical(sheet: *const u8, bytes: usize, out: *mut u8, room: usize) -> u32;
     }
 }
 
-// SAFETY, of all five: a call reads and writes within the pairs of pointer and length alone, and these are those of slices.
+// SAFETY, of all six: a call reads and writes within the pairs of pointer and length alone, and these are those of slices.
 
 /// Judges a sheet: `Accepted`, or `Refused` with 1 to 14.
 pub fn judge(sheet: &[u8]) -> Answer {
     Answer::of(unsafe { library::pigrozk_judge(sheet.as_ptr(), sheet.len()) })
 }
 
-/// Runs a sheet to its end: `Ended`, or `Refused` with 1 to 14 or 21.
+/// Runs a sheet to its end and fills the table, usual or longer: `Ended`, or `Refused` with 1 to 14, or with 21 where it has the length of neither.
 pub fn run(sheet: &[u8], table: &mut [u32]) -> Answer {
     Answer::of(unsafe { library::pigrozk_run(sheet.as_ptr(), sheet.len(), table.as_mut_ptr(), table.len()) })
 }
 
-/// Runs a sheet for at most so many rounds: `Ended`, `Paused`, or `Refused` with 1 to 14 or 21.
+/// The same for at most so many rounds: `Ended`, `Paused`, or `Refused` with 1 to 14 or 21.
 pub fn run_limited(sheet: &[u8], rounds: u32, table: &mut [u32]) -> Answer {
     Answer::of(unsafe { library::pigrozk_run_limited(sheet.as_ptr(), sheet.len(), rounds, table.as_mut_ptr(), table.len()) })
 }
 
-/// Reads the route to a node out of a finished table, into the front of the buffer: `Route`, `NoRoute`, or `Refused` with 1 to 15 or 21 to 25.
+/// Goes on from a longer table for at most so many rounds more, by the spans of the sheet, and writes the new state over the old: `Ended`, `Paused`, or
+/// `Refused` with 1 to 14, with 32 where the table has not the longer length or a word is wrong, or with 33 where it is not a possible state. The sheet has the
+/// nodes, source, arcs and division of the one that the table is from; its spans may be others.
+pub fn resume(sheet: &[u8], rounds: u32, table: &mut [u32]) -> Answer {
+    Answer::of(unsafe { library::pigrozk_resume(sheet.as_ptr(), sheet.len(), rounds, table.as_mut_ptr(), table.len()) })
+}
+
+/// Reads the route to a node out of a finished table, usual or longer, into the front of the buffer: `Route`, `NoRoute`, or `Refused` with 1 to 15 or 21 to 25.
 pub fn route(sheet: &[u8], table: &[u32], node: u32, buffer: &mut [u32]) -> Answer {
     Answer::of(unsafe {
         library::pigrozk_route(sheet.as_ptr(), sheet.len(), table.as_ptr(), table.len(), node, buffer.as_mut_ptr(), buffer.len())

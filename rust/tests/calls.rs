@@ -1,6 +1,6 @@
-//! The five calls through the wrapper: the paper's cases on hall A, lengths at the edge, and the samples, whose listings come from another program.
-use pigrozk::{canonical, judge, route, run, run_limited, table_words, Answer, Counts, Fault};
-use pigrozk::{COUNTS, HEADER_WORDS, MOST_ARCS_EACH_WAY, MOST_SPANS, MOST_TABLE_WORDS, NONE};
+//! The six calls through the wrapper: the paper's cases on hall A, lengths at the edge, and the samples, whose listings come from another program.
+use pigrozk::{canonical, judge, longer_table_words, resume, route, run, run_limited, table_words, Answer, Counts, Fault};
+use pigrozk::{COUNTS, HEADER_WORDS, MOST_ARCS_EACH_WAY, MOST_LONGER_TABLE_WORDS, MOST_SPANS, MOST_TABLE_WORDS, NONE};
 use std::fmt::Write;
 use std::path::{Path, PathBuf};
 
@@ -31,14 +31,21 @@ fn payload(word: u32) -> u32 {
     word & NONE
 }
 
-/// What is printed of an ended table, with an inner figure for each span of the sheet. The figures of other heights are 0.
+/// The spans of a sheet.
+fn spans_of(sheet: &[u8]) -> Vec<u32> {
+    let words = sheet.chunks(4).map(|word| u32::from_be_bytes(word.try_into().expect("a word")));
+    words.filter(|word| word >> 28 == 3).map(payload).collect()
+}
+
+/// What is printed of a table in the usual form, with an inner figure for each span of the sheet. The figures of other heights are 0.
 fn listing(sheet: &[u8], table: &[u32]) -> String {
-    let spans = sheet.chunks(4).filter(|word| word[0] >> 4 == 3).count();
+    let spans = spans_of(sheet).len();
     let shown = |word: u32| if payload(word) == NONE { "-".to_string() } else { payload(word).to_string() };
     let counts = Counts::of(table);
     assert!(counts.inner[spans..].iter().all(|figure| *figure == 0));
     let inner = counts.inner[..spans].iter().map(u64::to_string).collect::<Vec<_>>().join(" ");
-    let mut text = format!("ended rounds {} leaves {} inner {inner} updates {}\n", counts.rounds, counts.leaves, counts.updates);
+    let status = ["paused", "ended"][payload(table[0]) as usize];
+    let mut text = format!("{status} rounds {} leaves {} inner {inner} updates {}\n", counts.rounds, counts.leaves, counts.updates);
     for (node, words) in table[HEADER_WORDS..].chunks(2).enumerate() {
         writeln!(text, "{node} {} {}", shown(words[0]), shown(words[1])).expect("written");
     }
@@ -161,6 +168,87 @@ fn no_route() {
     assert_eq!(route(&sheet, &table, unreached as u32, &mut []), Answer::NoRoute);
 }
 
+/// Hall A's longer table after so many rounds.
+fn longer(sheet: &[u8], rounds: u32) -> Vec<u32> {
+    let mut table = vec![PATTERN; longer_table_words(4, 4)];
+    assert_ne!(run_limited(sheet, rounds, &mut table), Answer::Refused(21));
+    table
+}
+
+/// The key words of hall A's longer table.
+fn keys(table: &[u32]) -> [u32; 4] {
+    table[table_words(4)..].try_into().expect("four words")
+}
+
+#[test]
+fn longer_tables() {
+    let sheet = sample("hall-a");
+    assert_eq!((longer_table_words(4, 4), MOST_LONGER_TABLE_WORDS), (49, 4133));
+    let words = |keyed: [u32; 4]| keyed.map(|key| 12 << 28 | key);
+    for (rounds, keyed) in [(0, [1, 1, 0, 0]), (1, [0, 1, 0, 0]), (2, [0, 0, 0, 1]), (3, [0; 4]), (u32::MAX, [0; 4])] {
+        let table = longer(&sheet, rounds);
+        let mut usual = vec![PATTERN; table_words(4)];
+        run_limited(&sheet, rounds, &mut usual);
+        assert_eq!((&table[..table_words(4)], keys(&table)), (&usual[..], words(keyed)));
+    }
+    let mut table = vec![PATTERN; longer_table_words(4, 4)];
+    assert_eq!(run(&sheet, &mut table), Answer::Ended);
+    assert_eq!(table, longer(&sheet, 3));
+    let mut buffer = [PATTERN; 3];
+    assert_eq!(route(&sheet, &table, 3, &mut buffer), Answer::Route(3));
+    assert_eq!(buffer, [1, 2, 3]);
+    table[48] = 12 << 28 | 2;
+    assert_eq!(route(&sheet, &table, 3, &mut buffer), Answer::Refused(22));
+}
+
+#[test]
+fn rounds_in_parts() {
+    let sheet = sample("hall-a");
+    for (before, more) in [(0, 0), (0, 1), (0, 3), (1, 1), (1, 2), (2, 1), (2, 9), (3, 1)] {
+        let mut table = longer(&sheet, before);
+        let answer = resume(&sheet, more, &mut table);
+        assert_eq!(table, longer(&sheet, before + more));
+        assert_eq!(answer, if before + more < 3 { Answer::Paused } else { Answer::Ended });
+    }
+}
+
+/// Three rounds with the spans of `practical-first`, the rest with those of `practical-then`.
+#[test]
+fn practical() {
+    let mut text = String::new();
+    let sheets = ["practical-first", "practical-then"].map(sample);
+    let mut table = vec![PATTERN; longer_table_words(7, 9)];
+    assert_eq!(run_limited(&sheets[0], 3, &mut table), Answer::Paused);
+    for (sheet, rounds) in sheets.iter().zip([0, u32::MAX]) {
+        assert_ne!(resume(sheet, rounds, &mut table), Answer::Refused(33));
+        let shown = |numbers: Vec<u32>| numbers.iter().map(|number| format!(" {number}")).collect::<String>();
+        let (usual, keys) = table.split_at(table_words(7));
+        let keyed: Vec<u32> = (0..9).filter(|arc| payload(keys[*arc as usize]) == 1).collect();
+        let keys = if keyed.is_empty() { " -".to_string() } else { shown(keyed) };
+        write!(text, "spans{}\n{}keys{keys}\n", shown(spans_of(sheet)), listing(sheet, usual)).expect("written");
+    }
+    assert_eq!(text, std::fs::read_to_string(samples().join("practical.txt")).expect("its text"));
+}
+
+#[test]
+fn tables_that_are_refused() {
+    let sheet = sample("hall-a");
+    let table = longer(&sheet, 1);
+    let refused = |number: u8, sheet: &[u8], words: &[u32]| {
+        let mut lent = words.to_vec();
+        assert_eq!(resume(sheet, 1, &mut lent), Answer::Refused(number));
+        assert_eq!(lent, words);
+    };
+    let with = |at: usize, word: u32| [&table[..at], &[word], &table[at + 1..]].concat();
+    refused(1, &sheet[..71], &table[1..]);
+    refused(32, &sheet, &table[..table_words(4)]);
+    refused(32, &sheet, &with(48, 12 << 28 | 2));
+    refused(32, &sheet, &with(HEADER_WORDS + 1, 10 << 28 | 4));
+    for (at, word) in [(0, 8 << 28 | 1), (1, 11 << 28 | 1 << 27), (9, 11 << 28 | 1), (HEADER_WORDS, 9 << 28 | 1), (HEADER_WORDS + 2, 9 << 28 | 3)] {
+        refused(33, &sheet, &with(at, word));
+    }
+}
+
 /// Hall A with other words for its regions.
 fn hall_a(regions: [u32; 6]) -> Vec<u8> {
     let mut sheet = sample("hall-a");
@@ -237,7 +325,7 @@ fn faults() {
     for number in (1..=15).chain([31]) {
         assert_eq!(Answer::Refused(number).fault(), Some(Fault::Input));
     }
-    for number in 21..=25 {
+    for number in (21..=25).chain([32, 33]) {
         assert_eq!(Answer::Refused(number).fault(), Some(Fault::State));
     }
     assert_eq!(Answer::Written(31).fault(), None);

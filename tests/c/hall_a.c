@@ -1,4 +1,4 @@
-/* The five calls from C, on the paper's hall A: what they answer, and every word or byte that they leave; and the limit on the arcs at a node. */
+/* The six calls from C, on the paper's hall A: what they answer, and every word or byte that they leave; and the limit on the arcs at a node. */
 #include <stdio.h>
 #include <string.h>
 
@@ -11,7 +11,7 @@ static const uint32_t words[18] = {0x10000004, 0x20000000, 0x30000002, 0x3000000
 static const uint32_t renumbered[6] = {0x60000000, 0x70000802, 0x60000000, 0x70001803, 0x70000801, 0x70001800};
 static const uint32_t canonical[6] = {0x60000000, 0x70000800, 0x70000803, 0x60000000, 0x70002001, 0x70002002};
 
-enum { WORDS = 45, WORDS_WITH_ONE_INNER_COUNT = 17 };
+enum { WORDS = 45, LONGER_WORDS = 49, WORDS_WITH_ONE_INNER_COUNT = 17 };
 
 /* The words of a count below 2^28, and of the inner counts of heights 3 to 15, which hall A has not. */
 #define COUNT(n) 0xb0000000, 0xb0000000 + (n)
@@ -25,6 +25,15 @@ static const uint32_t ended[WORDS] = {0x80000001, COUNT(3), COUNT(5), COUNT(3), 
 /* After one round: paused; rounds 1, leaves 2, inner 1 1, updates 8; labels 0, 4, unreached, 9. */
 static const uint32_t paused[WORDS] = {0x80000000, COUNT(1), COUNT(2), COUNT(1), COUNT(1), UNUSED_HEIGHTS, COUNT(8),
                                        0x90000000, 0xafffffff, 0x90000004, 0xa0000000, 0x9fffffff, 0xafffffff, 0x90000009, 0xa0000003};
+
+/* The key words of the longer table: after the start, after one round and at the end. */
+static const uint32_t keys_at_start[4] = {0xc0000001, 0xc0000001, 0xc0000000, 0xc0000000};
+static const uint32_t keys_after_one[4] = {0xc0000000, 0xc0000001, 0xc0000000, 0xc0000000};
+static const uint32_t keys_at_end[4] = {0xc0000000, 0xc0000000, 0xc0000000, 0xc0000000};
+
+/* After one round with the spans 2 and 1, three more with both spans 1: ended; rounds 4, leaves 5, inner 4 4, updates 13; the distances are the same. */
+static const uint32_t ended_by_ones[WORDS] = {0x80000001, COUNT(4), COUNT(5), COUNT(4), COUNT(4), UNUSED_HEIGHTS, COUNT(13),
+                                              0x90000000, 0xafffffff, 0x90000003, 0xa0000002, 0x90000001, 0xa0000001, 0x90000008, 0xa0000003};
 
 static int failures = 0;
 
@@ -110,6 +119,67 @@ static void named_places(const uint32_t *table) {
     expect("node 3's distance and feeding arc", table[PIGROZK_DISTANCE_AT(3)] == 0x90000008 && table[PIGROZK_FEEDING_ARC_AT(3)] == 0xa0000003);
 }
 
+static int is_longer(const uint32_t *table, const uint32_t *front, const uint32_t *keys) {
+    return memcmp(table, front, 4 * WORDS) == 0 && memcmp(table + WORDS, keys, 4 * 4) == 0;
+}
+
+static void running_longer(const uint8_t *sheet, uint32_t *table) {
+    expect("37 + 2n + m words, at most 4,133", PIGROZK_LONGER_TABLE_WORDS(4, 4) == LONGER_WORDS && PIGROZK_MOST_LONGER_TABLE_WORDS == 4133);
+    expect("no round is answered 'paused'", pigrozk_run_limited(sheet, 72, 0, table, LONGER_WORDS) == PIGROZK_PAUSED);
+    expect("arcs 0 and 1 have a key at the start", memcmp(table + PIGROZK_KEY_AT(4, 0), keys_at_start, sizeof keys_at_start) == 0);
+    expect("one round into the longer table", pigrozk_run_limited(sheet, 72, 1, table, LONGER_WORDS) == PIGROZK_PAUSED);
+    expect("its words", is_longer(table, paused, keys_after_one));
+    fill(table, LONGER_WORDS + 1);
+    expect("a run into the longer table", pigrozk_run(sheet, 72, table, LONGER_WORDS) == PIGROZK_ENDED);
+    expect("its words", is_longer(table, ended, keys_at_end));
+    expect("no word behind it is written", table[LONGER_WORDS] == 0x5eed0000u + LONGER_WORDS);
+    fill(table, LONGER_WORDS + 1);
+    for (size_t words = WORDS + 1; words <= LONGER_WORDS + 1; words++)
+        expect("neither length is refused as 21", words == LONGER_WORDS || pigrozk_run(sheet, 72, table, words) == 21);
+    expect("and changes no word", filled(table, LONGER_WORDS + 1));
+}
+
+static void reading_longer(const uint8_t *sheet, uint32_t *table) {
+    uint32_t buffer[3];
+    fill(buffer, 3);
+    pigrozk_run(sheet, 72, table, LONGER_WORDS);
+    table[LONGER_WORDS - 1] = 0xc0000002;
+    expect("a key word of 2 is refused as 22", pigrozk_route(sheet, 72, table, LONGER_WORDS, 3, buffer, 3) == 22);
+    expect("one word between the forms as 21", pigrozk_route(sheet, 72, table, LONGER_WORDS - 1, 3, buffer, 3) == 21);
+    expect("neither changes a word", filled(buffer, 3));
+    table[LONGER_WORDS - 1] = 0xc0000000;
+    expect("a route out of the longer table", pigrozk_route(sheet, 72, table, LONGER_WORDS, 3, buffer, 3) == PIGROZK_ROUTE + 3);
+    expect("it is arcs 1, 2 and 3", buffer[0] == 1 && buffer[1] == 2 && buffer[2] == 3);
+}
+
+static void resuming(const uint8_t *sheet, uint32_t *table) {
+    uint8_t ones[72];
+    memcpy(ones, sheet, sizeof ones);
+    ones[11] = 1;
+    pigrozk_run_limited(sheet, 72, 0, table, LONGER_WORDS);
+    expect("one round from the start", pigrozk_resume(sheet, 72, 1, table, LONGER_WORDS) == PIGROZK_PAUSED);
+    expect("is as one round of a run", is_longer(table, paused, keys_after_one));
+    expect("no round more leaves it", pigrozk_resume(ones, 72, 0, table, LONGER_WORDS) == PIGROZK_PAUSED && is_longer(table, paused, keys_after_one));
+    expect("the rest with both spans 1", pigrozk_resume(ones, 72, 4294967295u, table, LONGER_WORDS) == PIGROZK_ENDED);
+    expect("has the same distances, and its own counts", is_longer(table, ended_by_ones, keys_at_end));
+    expect("an ended table is given back", pigrozk_resume(sheet, 72, 9, table, LONGER_WORDS) == PIGROZK_ENDED);
+    expect("as it was", is_longer(table, ended_by_ones, keys_at_end));
+}
+
+static void refusing_to_resume(const uint8_t *sheet, uint32_t *table) {
+    uint32_t before[LONGER_WORDS];
+    pigrozk_run_limited(sheet, 72, 1, table, LONGER_WORDS);
+    table[PIGROZK_DISTANCE_AT(3)] = 0x90000008;
+    memcpy(before, table, sizeof before);
+    expect("a label below its feeder's plus length is refused as 33", pigrozk_resume(sheet, 72, 1, table, LONGER_WORDS) == 33);
+    expect("the usual length as 32, and before that", pigrozk_resume(sheet, 72, 1, table, WORDS) == 32);
+    expect("a cut sheet as 1", pigrozk_resume(sheet, 71, 1, table, LONGER_WORDS) == 1);
+    expect("none changes a word", memcmp(table, before, sizeof before) == 0);
+    table[LONGER_WORDS - 1] = 0xc0000002;
+    expect("a key word of 2 is refused as 32", pigrozk_resume(sheet, 72, 1, table, LONGER_WORDS) == 32);
+    expect("32 and 33 are from the state", PIGROZK_IS_FROM_STATE(32u) && PIGROZK_IS_FROM_STATE(33u) && !PIGROZK_IS_FROM_INPUT(33u));
+}
+
 static void reading(const uint8_t *sheet, const uint32_t *table) {
     uint32_t buffer[5], wrong[WORDS];
     fill(buffer, 5);
@@ -162,7 +232,7 @@ static void copying(const uint8_t *sheet) {
 
 int main(void) {
     uint8_t sheet[72];
-    uint32_t table[WORDS + 1];
+    uint32_t table[LONGER_WORDS + 1];
     to_bytes(sheet, words, 18);
     judging(sheet);
     counting();
@@ -171,6 +241,10 @@ int main(void) {
     named_places(table);
     reading(sheet, table);
     copying(sheet);
+    running_longer(sheet, table);
+    reading_longer(sheet, table);
+    resuming(sheet, table);
+    refusing_to_resume(sheet, table);
     puts(failures ? "C: failed" : "C: passed");
     return failures != 0;
 }

@@ -8,12 +8,13 @@
 
 #include "pigrozk.h"
 
-enum { ROOM = 1 << 19, PATTERN = 0xa5, HEIGHT = PIGROZK_MOST_SPANS, NODES = 3 };
+enum { ROOM = 1 << 19, PATTERN = 0xa5, HEIGHT = PIGROZK_MOST_SPANS, NODES = 3, ARCS = 2 };
 
 static uint8_t stack[ROOM] __attribute__((aligned(4096)));
 static uint8_t sheet[PIGROZK_MOST_BYTES];
 static size_t sheet_bytes = 0;
 static uint32_t table[PIGROZK_TABLE_WORDS(NODES)];
+static uint32_t started[PIGROZK_LONGER_TABLE_WORDS(NODES, ARCS)];
 static uint32_t buffer[NODES];
 static uint8_t form[PIGROZK_MOST_BYTES];
 static uint8_t *volatile start;
@@ -33,7 +34,7 @@ static void write_sheet(void) {
     word(0x10000000 + NODES);
     word(0x20000000);
     for (int i = 0; i < HEIGHT; i++) word(0x30000000 + PIGROZK_MOST_SPAN);
-    for (uint32_t arc = 0; arc < 2; arc++) {
+    for (uint32_t arc = 0; arc < ARCS; arc++) {
         word(0x40000000 + (arc << 10) + arc + 1);
         word(0x50000001);
     }
@@ -45,6 +46,7 @@ static uint32_t judge(void) { return pigrozk_judge(sheet, sheet_bytes); }
 static uint32_t run(void) { return pigrozk_run(sheet, sheet_bytes, table, PIGROZK_TABLE_WORDS(NODES)); }
 static uint32_t run_limited(void) { return pigrozk_run_limited(sheet, sheet_bytes, 1, table, PIGROZK_TABLE_WORDS(NODES)); }
 static uint32_t route(void) { return pigrozk_route(sheet, sheet_bytes, table, PIGROZK_TABLE_WORDS(NODES), 2, buffer, NODES); }
+static uint32_t resume(void) { return pigrozk_resume(sheet, sheet_bytes, 1, started, PIGROZK_LONGER_TABLE_WORDS(NODES, ARCS)); }
 static uint32_t canonical(void) { return pigrozk_canonical(sheet, sheet_bytes, form, sizeof form); }
 
 struct Call {
@@ -78,9 +80,10 @@ int main(void) {
     struct Call calls[] = {{"pigrozk_judge", judge, PIGROZK_ACCEPTED},
                            {"pigrozk_run", run, PIGROZK_ENDED},
                            {"pigrozk_run_limited", run_limited, PIGROZK_ENDED},
+                           {"pigrozk_resume", resume, PIGROZK_ENDED},
                            {"pigrozk_route", route, PIGROZK_ROUTE + 2},
                            {"pigrozk_canonical", canonical, PIGROZK_WRITTEN + (uint32_t)sheet_bytes}};
-    int failures = 0;
+    int failures = pigrozk_run_limited(sheet, sheet_bytes, 0, started, PIGROZK_LONGER_TABLE_WORDS(NODES, ARCS)) != PIGROZK_PAUSED;
     for (size_t i = 0; i < sizeof calls / sizeof calls[0]; i++) {
         size_t bytes = used(&calls[i]);
         int good = bytes > 0 && bytes <= PIGROZK_STACK_BYTES;

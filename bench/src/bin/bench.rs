@@ -1,11 +1,13 @@
 //! Times the proved calls against the independent program and plain Dijkstra, in one run, and prints the ratios: `bench [HALL]..`, for all halls
 //! unless some are named.
 //!
-//! Every time is that of a whole call, from the sheet's bytes to the table, the judgement or the canonical form, and the least of interleaved repetitions.
+//! Every time is that of a whole call, from the sheet's bytes to the table, the judgement or the canonical form, and the least of interleaved repetitions. A
+//! resume is from the longer table of the start, or from an ended one, which it gives back.
 
 use bench::generate::divisions::{Nesting, NESTINGS};
 use bench::generate::halls::{Shape, NARROW, SHAPES, WIDE};
 use bench::generate::sheets::{self, Spans, SPANS};
+use bench::reference::sheet::{words, Sheet};
 use bench::reference::table;
 use bench::{proved, reference};
 use std::hint::black_box;
@@ -82,6 +84,56 @@ fn measured_form(sheet: &[u8]) -> FormTimes {
     times
 }
 
+/// Least times in microseconds: runs to the end into either form, resumes from the start to the end, both with no round, and a resume of an ended table.
+struct ResumeTimes {
+    rounds: u64,
+    run: f64,
+    longer_run: f64,
+    resume: f64,
+    plain_resume: f64,
+    run_of_none: f64,
+    resume_of_none: f64,
+    resume_of_ended: f64,
+}
+
+const NOT_TIMED: f64 = f64::INFINITY;
+const NO_TIMES: ResumeTimes = ResumeTimes {
+    rounds: 0,
+    run: NOT_TIMED,
+    longer_run: NOT_TIMED,
+    resume: NOT_TIMED,
+    plain_resume: NOT_TIMED,
+    run_of_none: NOT_TIMED,
+    resume_of_none: NOT_TIMED,
+    resume_of_ended: NOT_TIMED,
+};
+
+fn measured_resume(sheet: &[u8]) -> ResumeTimes {
+    let parts = Sheet::in_order(words(sheet)).expect("a sheet in order");
+    let mut usual = vec![0; table::length(parts.nodes())];
+    let mut table = vec![0; table::longer(&parts)];
+    assert_eq!(proved::run_limited(sheet, 0, &mut table), 257);
+    let start_of_run = table.clone();
+    let mut times = NO_TIMES;
+    let start = Instant::now();
+    let mut repetitions = 0;
+    while repetitions < LEAST_REPETITIONS || start.elapsed() < TIME_FOR_A_SHEET {
+        let sheet = black_box(sheet);
+        least(&mut times.run, || proved::run(sheet, &mut usual), 258);
+        least(&mut times.longer_run, || proved::run(sheet, &mut table), 258);
+        least(&mut times.run_of_none, || proved::run_limited(sheet, 0, &mut table), 257);
+        table.copy_from_slice(&start_of_run);
+        least(&mut times.resume_of_none, || proved::resume(sheet, 0, &mut table), 257);
+        least(&mut times.plain_resume, || reference::resume(sheet, u32::MAX, &mut table).code(), 258);
+        table.copy_from_slice(&start_of_run);
+        least(&mut times.resume, || proved::resume(sheet, u32::MAX, &mut table), 258);
+        least(&mut times.resume_of_ended, || proved::resume(sheet, 1, &mut table), 258);
+        repetitions += 1;
+    }
+    times.rounds = table::count(&table, 0);
+    times
+}
+
 /// Ratios of one column, for its summary.
 struct Ratios(Vec<f64>);
 
@@ -141,6 +193,34 @@ fn every_form(shapes: &[Shape]) {
     println!();
 }
 
+/// The same for resumes.
+fn every_resume(shapes: &[Shape]) {
+    let Some(first) = shapes.first() else { return };
+    println!("Resumes: {} nodes, {} arcs each way, up to 2048 arcs. Times in microseconds.", first.full_nodes(), first.each_way());
+    print!("| hall | division | spans | rounds | run | longer | ratio | resume | to the run | plain resume | ratio ");
+    println!("| run of 0 | resume of 0 | ratio | resume of the end | ratio |");
+    println!("|---|---|---|--:|--:|--:|--:|--:|--:|--:|--:|--:|--:|--:|--:|--:|");
+    let mut columns = [(); 5].map(|()| Ratios(vec![]));
+    for shape in shapes {
+        for (nesting, spans) in NESTINGS.into_iter().flat_map(|nesting| SPANS.map(|spans| (nesting, spans))) {
+            let t = measured_resume(&sheets::regular(*shape, nesting, spans, shape.full_nodes()));
+            let of_none = [t.resume_of_none, t.resume_of_ended].map(|time| time / t.run_of_none);
+            let ratios = [t.longer_run / t.run, t.resume / t.longer_run, t.resume / t.plain_resume, of_none[0], of_none[1]];
+            print!("| {shape:?} | {nesting:?} | {spans:?} | {} | {:.1} | {:.1} | {:.2} ", t.rounds, t.run, t.longer_run, ratios[0]);
+            print!("| {:.1} | {:.2} | {:.1} | {:.2} ", t.resume, ratios[1], t.plain_resume, ratios[2]);
+            println!("| {:.1} | {:.1} | {:.2} | {:.1} | {:.2} |", t.run_of_none, t.resume_of_none, of_none[0], t.resume_of_ended, of_none[1]);
+            columns.iter_mut().zip(ratios).for_each(|(column, ratio)| column.0.push(ratio));
+        }
+    }
+    println!();
+    columns[0].line("run, longer form / usual form");
+    columns[1].line("proved resume / proved run");
+    columns[2].line("proved resume / plain resume");
+    columns[3].line("resume of no round / run of none");
+    columns[4].line("resume of an ended table / the same");
+    println!();
+}
+
 fn growth_of_forms(shape: Shape, nesting: Nesting) {
     println!("Growth: {shape:?}, {nesting:?}. Canonical forms in microseconds.");
     println!("| arcs | words | proved form | plain form | ratio | proved, ns a word | plain, ns a word |");
@@ -150,6 +230,20 @@ fn growth_of_forms(shape: Shape, nesting: Nesting) {
         let of_word = |time: f64| 1000.0 * time / t.words as f64;
         print!("| {arcs} | {} | {:.1} | {:.1} | {:.2} ", t.words, t.proved_form, t.plain_form, t.proved_form / t.plain_form);
         println!("| {:.1} | {:.1} |", of_word(t.proved_form), of_word(t.plain_form));
+    }
+    println!();
+}
+
+fn growth_of_resumes(shape: Shape, nesting: Nesting, spans: Spans) {
+    println!("Growth: {shape:?}, {nesting:?}, spans {spans:?}. A run of no round, and resumes of its table and of an ended one, in microseconds.");
+    println!("| arcs | run of 0 | resume of 0 | resume of the end | run, ns an arc | resume of 0, ns an arc | of the end, ns an arc |");
+    println!("|--:|--:|--:|--:|--:|--:|--:|");
+    for arcs in GROWING_ARCS {
+        let t = measured_resume(&sheets::regular(shape, nesting, spans, arcs / shape.each_way()));
+        let times = [t.run_of_none, t.resume_of_none, t.resume_of_ended];
+        let of_arc = times.map(|time| 1000.0 * time / arcs as f64);
+        let cells: Vec<String> = times.iter().chain(&of_arc).map(|time| format!("{time:.1}")).collect();
+        println!("| {arcs} | {} |", cells.join(" | "));
     }
     println!();
 }
@@ -179,8 +273,10 @@ fn main() {
     let groups = [&NARROW[..], &WIDE].map(|shapes| shapes.iter().copied().filter(wanted).collect::<Vec<_>>());
     groups.iter().for_each(|shapes| every_sheet(shapes));
     groups.iter().for_each(|shapes| every_form(shapes));
+    groups.iter().for_each(|shapes| every_resume(shapes));
     for (shape, nesting, spans) in GROWING.into_iter().filter(|(shape, _, _)| wanted(shape)) {
         growth(shape, nesting, spans);
         growth_of_forms(shape, nesting);
+        growth_of_resumes(shape, nesting, spans);
     }
 }

@@ -1,9 +1,10 @@
-//! The five proved calls against the independent program, on generated sheets: `differential [CASES] [SEED]`.
+//! The six proved calls against the independent program, on generated sheets: `differential [CASES] [SEED]`.
 //!
 //! Compared are the answers, every word or byte of the tables and buffers lent and of what lies around them, and that a refusal changed nothing. Every
-//! table left as ended is held to request 2026-03, the canonical forms of some sheets to request 2026-04, and every refusal with 2 to the list of cases of
-//! request 2026-05. Ends with 1 at the first difference, or if a refusal number, an answer, a number of arcs one way, a sort of ended tables, a change to a
-//! sheet or two kinds next to each other were never seen, or no inner region of some height was worked.
+//! table left as ended is held to request 2026-03, the canonical forms of some sheets to request 2026-04, every refusal with 2 to the list of cases of
+//! request 2026-05, and rounds made in parts and with other spans to request 2026-06. Ends with 1 at the first difference, or if a refusal number, an answer,
+//! a number of arcs one way, a sort of ended tables, a change to a sheet, two kinds next to each other, a broken clause of a possible state or a sort of
+//! resumed tables were never seen, or no inner region of some height was worked.
 
 use bench::generate::changes::{self, Change, CHANGES};
 use bench::generate::random::Random;
@@ -12,6 +13,7 @@ use bench::proved;
 use bench::reference::judge::{accepted, Judged, MOST_EACH_WAY};
 use bench::reference::neighbours::{self, Place, PLACES};
 use bench::reference::nesting::alike;
+use bench::reference::possible::{broken, Clause, CLAUSES};
 use bench::reference::sheet::{words, Sheet};
 use bench::reference::table::{self, HEIGHTS};
 use bench::reference::work::Work;
@@ -68,6 +70,47 @@ struct Tally {
     ended: [u64; SORTS.len()],
     forms: Forms,
     kinds: Kinds,
+    states: States,
+}
+
+/// Request 2026-06: how many refusals with 33 break each clause alone, and how many several. How many breaks there were, how many with other spans than before;
+/// how many halls ended after a break with other counts than a run of the sheet; how many resumed tables are given back, how many with a count of 2^54 or more.
+#[derive(Default)]
+struct States {
+    alone: BTreeMap<Clause, u64>,
+    several: u64,
+    breaks: u64,
+    other_spans: u64,
+    other_counts: u64,
+    given_back: u64,
+    high_counts: u64,
+}
+
+impl States {
+    fn counts(&self) -> [(u64, &'static str); 6] {
+        [
+            (self.several, "refused with 33 for several clauses"),
+            (self.breaks, "breaks"),
+            (self.other_spans, "breaks with other spans than before"),
+            (self.other_counts, "halls with breaks ended with other counts than a run"),
+            (self.given_back, "resumed tables given back"),
+            (self.high_counts, "resumed tables with a count of 2^54 or more"),
+        ]
+    }
+
+    fn print(&self) {
+        for (clause, count) in &self.alone {
+            println!("refused with 33 for one clause, {clause:?}: {count}");
+        }
+        for (count, name) in self.counts() {
+            println!("{name}: {count}");
+        }
+    }
+
+    fn unseen(&self) -> impl Iterator<Item = String> + '_ {
+        let clauses = CLAUSES.into_iter().filter(|clause| !self.alone.contains_key(clause)).map(|clause| format!("33 for {clause:?} alone"));
+        clauses.chain(self.counts().into_iter().filter(|(count, _)| *count == 0).map(|(_, name)| name.to_string()))
+    }
 }
 
 /// How many sheets were held to request 2026-04, how many of them are no canonical forms, how many have another table than their form, and how many were
@@ -216,7 +259,8 @@ impl Tally {
         }
         self.forms.print();
         self.kinds.print();
-        for call in ["judge", "run", "run_limited", "route", "canonical"] {
+        self.states.print();
+        for call in ["judge", "run", "run_limited", "route", "canonical", "resume"] {
             let answers = self.answers.iter().filter(|((of, _), _)| *of == call);
             let parts: Vec<String> = answers.map(|((_, code), count)| format!("{} {count}", named(*code))).collect();
             println!("{call}: {}", parts.join(", "));
@@ -224,15 +268,16 @@ impl Tally {
         println!("calls compared: {}", self.answers.values().sum::<u64>());
     }
 
-    /// The numbers, answers, numbers of arcs one way, worked heights, sorts of ended tables, changes and neighbouring kinds that were never seen.
+    /// The numbers, answers, numbers of arcs one way, worked heights, sorts of ended tables, changes, neighbouring kinds and states that were never seen.
     fn unseen(&self) -> Vec<String> {
-        let wanted = (1..=15).chain(21..=25).chain([31]).chain(256..=259).chain([ROUTE, WRITTEN]);
+        let wanted = (1..=15).chain(21..=25).chain(31..=33).chain(256..=259).chain([ROUTE, WRITTEN]);
         let answers = wanted.filter(|code| !self.answers.keys().any(|(_, seen)| seen == code)).map(named);
         let seen: BTreeSet<_> = self.accepted.keys().chain(self.crowded.keys()).collect();
         let arcs = (0..=MOST_EACH_WAY + 2).filter(|most| !seen.contains(most)).map(|most| ways(most) + " arcs one way");
         let heights = (0..HEIGHTS).filter(|at| self.worked[*at] == 0).map(|at| format!("workings at height {}", at + 1));
         let sorts = SORTS.iter().zip(self.ended).filter(|(_, tables)| *tables == 0).map(|((sort, _), _)| format!("ended tables, {sort}"));
-        answers.chain(arcs).chain(heights).chain(sorts).chain(self.forms.unseen()).chain(self.kinds.unseen()).collect()
+        let of_requests = self.forms.unseen().chain(self.kinds.unseen()).chain(self.states.unseen());
+        answers.chain(arcs).chain(heights).chain(sorts).chain(of_requests).collect()
     }
 }
 
@@ -282,6 +327,13 @@ impl<T: Item> Lent<T> {
     fn new(length: usize, random: &mut Random) -> Lent<T> {
         let first = random.word();
         Lent { items: (0..length + 2 * GUARD).map(|at| T::of(first.wrapping_add(0x0123_4567u32.wrapping_mul(at as u32)))).collect() }
+    }
+
+    /// A slice that holds these items, with guard items on both sides.
+    fn holding(items: &[T], random: &mut Random) -> Lent<T> {
+        let mut lent = Lent::new(items.len(), random);
+        lent.part().copy_from_slice(items);
+        lent
     }
 
     fn part(&mut self) -> &mut [T] {
@@ -339,6 +391,7 @@ impl Trial<'_> {
             Ok(accepted) => {
                 let finished = self.accepted(&accepted.sheet)?;
                 self.forms(&accepted.sheet, &finished)?;
+                self.resumed(&accepted.sheet, &finished)?;
             }
             Err(_) => {
                 self.refused()?;
@@ -374,6 +427,7 @@ impl Trial<'_> {
         self.run_limited(rounds, length)?;
         let table = Lent::<u32>::new(length, self.random).part().to_vec();
         let buffer = self.random.below(8);
+        self.resume(rounds, &table)?;
         self.route(&table, node, buffer).map(drop)
     }
 
@@ -383,7 +437,7 @@ impl Trial<'_> {
         let finished = self.run(length)?;
         self.tally.count_heights(&finished);
         if self.random.once_in(4) {
-            let wrong = tables::wrong_length(length, self.random);
+            let wrong = tables::wrong_length(length, sheet, self.random);
             self.run(wrong)?;
             self.run_limited(1, wrong)?;
         }
@@ -415,7 +469,7 @@ impl Trial<'_> {
             self.route_and_near(sheet, &table)?;
         }
         if self.random.once_in(4) {
-            let wrong = tables::wrong_length(finished.len(), self.random);
+            let wrong = tables::wrong_length(finished.len(), sheet, self.random);
             let table: Vec<u32> = finished.iter().chain(finished).copied().take(wrong).collect();
             self.route_and_near(sheet, &table)?;
         }
@@ -545,7 +599,7 @@ impl Trial<'_> {
         }
         self.tally.forms.held += 1;
         self.tally.forms.other_than_sheet += (form != self.bytes) as u64;
-        self.own_form(&form, finished)?;
+        self.own_form(sheet, &form, finished)?;
         self.renumbered(sheet, &form)?;
         let change = self.random.pick(&CHANGES);
         self.changed(change, sheet, &form)
@@ -563,7 +617,7 @@ impl Trial<'_> {
     }
 
     /// The form is what the linear program writes, is accepted, is its own form and has the sheet's distances.
-    fn own_form(&mut self, form: &[u8], finished: &[u32]) -> Outcome {
+    fn own_form(&mut self, sheet: &Sheet, form: &[u8], finished: &[u32]) -> Outcome {
         let mut linear = vec![0; form.len()];
         reference::canonical_linear(self.bytes, &mut linear);
         let code = proved::judge(form);
@@ -575,7 +629,7 @@ impl Trial<'_> {
         }
         let table = self.of(form).run(finished.len())?;
         self.tally.forms.other_tables += (table != finished) as u64;
-        match labels(&table).eq(labels(finished)) {
+        match labels(sheet, &table).eq(labels(sheet, finished)) {
             true => Ok(()),
             false => Err(Difference(format!("{} has other distances", hexadecimal(form)))),
         }
@@ -606,9 +660,132 @@ impl Trial<'_> {
     }
 }
 
+/// Request 2026-06.
+impl Trial<'_> {
+    fn resume(&mut self, rounds: u32, table: &[u32]) -> Result<(Answer, Vec<u32>), Difference> {
+        let lent = Lent::holding(table, self.random);
+        let bytes = self.bytes;
+        let told = || {
+            let words = table.iter().fold(String::new(), |text, word| text + &format!("{word:08x}"));
+            format!("for {rounds} rounds more of the sheet {} with the table {words}", hexadecimal(bytes))
+        };
+        let of_proved = |table: &mut [u32]| proved::resume(bytes, rounds, table);
+        compared("resume", told, lent, self.tally, of_proved, |table| reference::resume(bytes, rounds, table))
+    }
+
+    /// Tables of the longer form: runs fill it, routes are read out of it, and rounds go on from it.
+    fn resumed(&mut self, sheet: &Sheet, finished: &[u32]) -> Outcome {
+        let ended = self.run(table::longer(sheet))?;
+        if ended[..finished.len()] != *finished {
+            return Err(Difference("the longer table of a run begins otherwise than the usual one".to_string()));
+        }
+        self.longer_routes(sheet, &ended)?;
+        let few = self.random.below(4) as u32;
+        let (_, table) = self.run_limited(few, ended.len())?;
+        self.in_parts(&table, few)?;
+        self.breaks(sheet, finished, &table)?;
+        let table = self.random.pick(&[&ended, &table]).clone();
+        self.damaged_states(sheet, &table)
+    }
+
+    /// Out of the finished longer table, and out of one with a damaged key word or another damage.
+    fn longer_routes(&mut self, sheet: &Sheet, ended: &[u32]) -> Outcome {
+        self.route_and_near(sheet, ended)?;
+        let mut table = ended.to_vec();
+        tables::key_damaged(&mut table, sheet, self.random);
+        if self.random.once_in(3) {
+            tables::damaged(&mut table, sheet, self.random);
+        }
+        self.route_and_near(sheet, &table)
+    }
+
+    /// With unchanged spans, rounds done in parts are those of a run.
+    fn in_parts(&mut self, table: &[u32], before: u32) -> Outcome {
+        let (first, then) = (self.random.below(4) as u32, self.rounds());
+        let (_, parted) = self.resume(first, table)?;
+        let (_, parted) = self.resume(then, &parted)?;
+        let all = (before + first).saturating_add(then);
+        let mut together = vec![0; table.len()];
+        proved::run_limited(self.bytes, all, &mut together);
+        match parted == together {
+            true => Ok(()),
+            false => Err(Difference(format!("{before}, {first} and {then} rounds leave another table than {all} together"))),
+        }
+    }
+
+    /// Other spans at some breaks, a few rounds after each, and at last as many as it takes: the distances are those of the run.
+    fn breaks(&mut self, sheet: &Sheet, finished: &[u32], started: &[u32]) -> Outcome {
+        let mut table = started.to_vec();
+        let mut bytes = self.bytes.to_vec();
+        for at in 0..=self.random.below(4) {
+            if at == 0 || self.random.once_in(2) {
+                let other = sheets::bytes(&changes::with_other_spans(sheet, self.random));
+                self.tally.states.other_spans += (other != bytes) as u64;
+                bytes = other;
+            }
+            self.tally.states.breaks += 1;
+            let rounds = self.random.below(4) as u32;
+            table = self.of(&bytes).resume(rounds, &table)?.1;
+        }
+        let (answer, table) = self.of(&bytes).resume(u32::MAX, &table)?;
+        self.tally.states.other_counts += (table[..table::HEADER] != finished[..table::HEADER]) as u64;
+        match answer == Answer::Ended && labels(sheet, &table).eq(labels(sheet, finished)) {
+            true => Ok(()),
+            false => Err(Difference(format!("after breaks, at last {}: {answer:?}, or other distances", hexadecimal(&bytes)))),
+        }
+    }
+
+    /// Tables damaged in their form or in a clause of a possible state, and one of another length.
+    fn damaged_states(&mut self, sheet: &Sheet, table: &[u32]) -> Outcome {
+        for _ in 0..4 {
+            let mut state = table.to_vec();
+            tables::state_damaged(&mut state, sheet, self.random);
+            self.judged_state(sheet, &state)?;
+        }
+        let mut wrong = table.to_vec();
+        tables::key_damaged(&mut wrong, sheet, self.random);
+        self.judged_state(sheet, &wrong)?;
+        tables::damaged(&mut wrong, sheet, self.random);
+        self.judged_state(sheet, &wrong)?;
+        if self.random.once_in(4) {
+            let words = tables::wrong_length(table.len(), sheet, self.random);
+            let wrong: Vec<u32> = table.iter().chain(table).copied().take(words).collect();
+            self.judged_state(sheet, &wrong)?;
+        }
+        Ok(())
+    }
+
+    /// A few rounds from a table that may be refused. Where it is not, an ended one has shortest distances.
+    fn judged_state(&mut self, sheet: &Sheet, table: &[u32]) -> Outcome {
+        let rounds = self.rounds();
+        let (answer, left) = self.resume(rounds, table)?;
+        self.count_state(sheet, table, answer, &left);
+        let mut shortest = vec![0; table::length(sheet.nodes())];
+        reference::run_dijkstra(self.bytes, &mut shortest);
+        match answer != Answer::Ended || labels(sheet, &left).eq(labels(sheet, &shortest)) {
+            true => Ok(()),
+            false => Err(Difference("a resumed table is ended and not shortest".to_string())),
+        }
+    }
+
+    fn count_state(&mut self, sheet: &Sheet, table: &[u32], answer: Answer, left: &[u32]) {
+        let states = &mut self.tally.states;
+        if answer == Answer::Refused(33) {
+            let mut clauses = broken(sheet, table);
+            match (clauses.next(), clauses.next()) {
+                (Some(clause), None) => *states.alone.entry(clause).or_default() += 1,
+                _ => states.several += 1,
+            }
+        } else if !matches!(answer, Answer::Refused(_)) {
+            states.given_back += (left == table) as u64;
+            states.high_counts += (0..table::COUNTS).any(|at| table::count(table, at) >= 1 << 54) as u64;
+        }
+    }
+}
+
 /// The words of a table that say the distances.
-fn labels(table: &[u32]) -> impl Iterator<Item = &u32> {
-    table[table::HEADER..].iter().step_by(2)
+fn labels<'a>(sheet: &Sheet, table: &'a [u32]) -> impl Iterator<Item = &'a u32> {
+    table[table::HEADER..table::length(sheet.nodes())].iter().step_by(2)
 }
 
 /// The sheet of a case, and of what sort it is.

@@ -1,10 +1,12 @@
 //! One call on one sheet of the benchmark, for a count of its instructions: `once CALL HALL DIVISION SPANS [TIMES]`.
 //!
-//! CALL is proved-run, plain-run, dijkstra, proved-judge, plain-judge, proved-form or plain-form; the others are named as in the benchmark's table.
+//! CALL is proved-run, plain-run, dijkstra, proved-judge, plain-judge, proved-form, plain-form, proved-resume or plain-resume, from the start to the end; the
+//! others are named as in the benchmark's table.
 
 use bench::generate::divisions::NESTINGS;
 use bench::generate::halls::SHAPES;
 use bench::generate::sheets::{self, SPANS};
+use bench::reference::sheet::{words, Sheet};
 use bench::reference::table;
 use bench::{proved, reference};
 use std::fmt::Debug;
@@ -18,9 +20,18 @@ fn named<T: Copy + Debug>(items: &[T], name: Option<&String>) -> T {
 }
 
 fn usage() -> ! {
-    eprintln!("usage: once proved-run|plain-run|dijkstra|proved-judge|plain-judge|proved-form|plain-form HALL DIVISION SPANS [TIMES]");
+    let calls = "proved-run|plain-run|dijkstra|proved-judge|plain-judge|proved-form|plain-form|proved-resume|plain-resume";
+    eprintln!("usage: once {calls} HALL DIVISION SPANS [TIMES]");
     eprintln!("halls {SHAPES:?}, divisions {NESTINGS:?}, spans {SPANS:?}");
     std::process::exit(2)
+}
+
+/// The longer table of the start.
+fn started(sheet: &[u8]) -> Vec<u32> {
+    let parts = Sheet::in_order(words(sheet)).expect("a sheet in order");
+    let mut table = vec![0; table::longer(&parts)];
+    reference::run_limited(sheet, 0, &mut table);
+    table
 }
 
 fn main() {
@@ -31,7 +42,10 @@ fn main() {
     let times = arguments.get(4).map_or(1, |times| times.parse().unwrap_or_else(|_| usage()));
     let mut table = vec![0; table::length(shape.full_nodes())];
     let mut out = vec![0; sheet.len()];
+    let started = started(&sheet);
+    let mut longer = started.clone();
     for _ in 0..times {
+        longer.copy_from_slice(&started);
         let sheet = black_box(&sheet);
         let answer = match call {
             "proved-run" => proved::run(sheet, &mut table),
@@ -41,6 +55,8 @@ fn main() {
             "plain-judge" => reference::judge(sheet).code(),
             "proved-form" => proved::canonical(sheet, &mut out),
             "plain-form" => reference::canonical_linear(sheet, &mut out).code(),
+            "proved-resume" => proved::resume(sheet, u32::MAX, &mut longer),
+            "plain-resume" => reference::resume(sheet, u32::MAX, &mut longer).code(),
             _ => usage(),
         };
         black_box(answer);

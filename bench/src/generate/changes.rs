@@ -2,7 +2,11 @@
 
 use super::divisions::Division;
 use super::random::Random;
+use super::sheets::Spans;
 use crate::reference::sheet::Sheet;
+
+/// The spans that are drawn for a sheet in place of its own.
+const SPANS: [Spans; 5] = [Spans::One, Spans::UpTo(2), Spans::UpTo(4), Spans::Random, Spans::Million];
 
 /// A change to a sheet. Some leave it as it was at times, but for the region numbers: equal arcs or leaves of one region exchanged, a region moved to where
 /// it is, a link of a chain moved within its chain.
@@ -99,6 +103,12 @@ impl Parts {
         self.arcs.swap(2 * one, 2 * other);
         self.arcs.swap(2 * one + 1, 2 * other + 1);
     }
+}
+
+/// The words of a sheet with other spans and nothing else changed.
+pub fn with_other_spans(sheet: &Sheet, random: &mut Random) -> Vec<u32> {
+    let spans: Vec<u32> = sheet.spans().iter().map(|_| 3 << 28 | random.pick(&SPANS).span(random)).collect();
+    [&sheet.before_regions()[..2], &spans, sheet.arc_words(), sheet.regions()].concat()
 }
 
 /// The words of a sheet whose regions are numbered anew, each after its parent.

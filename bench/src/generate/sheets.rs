@@ -15,7 +15,7 @@ pub enum Spans {
 pub const SPANS: [Spans; 3] = [Spans::One, Spans::Random, Spans::Million];
 
 impl Spans {
-    fn span(self, random: &mut Random) -> u32 {
+    pub fn span(self, random: &mut Random) -> u32 {
         match self {
             Spans::One => 1,
             Spans::Random => {

@@ -2,7 +2,7 @@
 
 use super::judge::MOST_EACH_WAY;
 use super::sheet::Sheet;
-use super::table::{write_header, write_node, Counts};
+use super::table::{length, write_header, write_node, Counts};
 use super::{Answer, TOP};
 use std::cmp::Reverse;
 use std::collections::BinaryHeap;
@@ -48,5 +48,6 @@ pub fn run(sheet: &Sheet, table: &mut [u32]) -> Answer {
     for (node, (label, feed)) in found.labels.iter().zip(&found.feeds).enumerate() {
         write_node(table, node, *label, *feed);
     }
+    table[length(sheet.nodes())..].fill(12 << 28);
     Answer::Ended
 }

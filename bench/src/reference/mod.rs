@@ -1,4 +1,4 @@
-//! The five calls as a program of its own, written from the paper; it shares nothing with the proved crates.
+//! The six calls as a program of its own, written from the paper; it shares nothing with the proved crates.
 
 pub mod canonical;
 pub mod dijkstra;
@@ -6,6 +6,7 @@ pub mod judge;
 pub mod linear;
 pub mod neighbours;
 pub mod nesting;
+pub mod possible;
 pub mod procedure;
 pub mod route;
 pub mod sheet;
@@ -61,6 +62,25 @@ pub fn route(bytes: &[u8], table: &[u32], node: u32, buffer: &mut [u32]) -> Answ
     route_of(accepted(bytes), table, node, buffer)
 }
 
+/// Goes on from a longer table: 32 "in the place of 21 and 22", then 33, then so many rounds.
+pub fn resume(bytes: &[u8], rounds: u32, table: &mut [u32]) -> Answer {
+    match accepted(bytes).and_then(|accepted| resumable(accepted, table)) {
+        Err(number) => Answer::Refused(number),
+        Ok(accepted) => procedure::resume(&accepted, rounds, table),
+    }
+}
+
+fn resumable(accepted: judge::Accepted, table: &[u32]) -> Judged {
+    let sheet = &accepted.sheet;
+    if table.len() != table::longer(sheet) || route::wrong_form(sheet, table) {
+        return Err(32);
+    }
+    match possible::broken(sheet, table).next() {
+        Some(_) => Err(33),
+        None => Ok(accepted),
+    }
+}
+
 /// The canonical form by the request's sentence.
 pub fn canonical(bytes: &[u8], out: &mut [u8]) -> Answer {
     canonical_of(accepted(bytes), bytes.len(), out, |sheet, out| {
@@ -98,10 +118,10 @@ pub fn run_of(judged: Judged, limit: Option<u32>, table: &mut [u32]) -> Answer {
     }
 }
 
-/// What was judged, refused as 21 where the table has not the length for it.
+/// What was judged, refused as 21 where the table has the length of neither form.
 fn fitting(judged: Judged, table: &[u32]) -> Judged {
     let accepted = judged?;
-    match table.len() == table::length(accepted.sheet.nodes()) {
+    match table::fits(&accepted.sheet, table.len()) {
         true => Ok(accepted),
         false => Err(21),
     }

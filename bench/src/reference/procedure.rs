@@ -6,7 +6,7 @@
 
 use super::judge::{Accepted, MOST_EACH_WAY};
 use super::sheet::{is_leaf, leaf_arc, parent, payload, Arc};
-use super::table::{write_header, write_node, Counts};
+use super::table::{feed_at, key_at, label_at, length, write_header, write_key, write_node, Counts};
 use super::{Answer, TOP};
 
 const NONE: u64 = (TOP as u64) << 16;
@@ -55,23 +55,20 @@ struct Run {
     counts: Counts,
 }
 
-/// Runs an accepted sheet for at most so many rounds, or to its end, and writes the table.
+/// Runs an accepted sheet for at most so many rounds, or to its end, and writes the table in the form whose length it has.
 pub fn run(accepted: &Accepted, limit: Option<u32>, table: &mut [u32]) -> Answer {
     let mut run = Run::new(accepted);
     run.start(accepted.sheet.source());
-    while !run.ended() && limit.is_none_or(|limit| run.counts.rounds < limit as u64) {
-        run.counts.rounds += 1;
-        run.process(0);
-    }
-    write_header(table, run.ended(), &run.counts);
-    for (number, node) in run.nodes.iter().enumerate() {
-        write_node(table, number, node.label, node.feed);
-    }
-    if run.ended() {
-        Answer::Ended
-    } else {
-        Answer::Paused
-    }
+    run.rounds(limit);
+    run.answer(table)
+}
+
+/// Goes on from a longer table that is a possible state, for at most so many rounds, and writes the new state over the old.
+pub fn resume(accepted: &Accepted, rounds: u32, table: &mut [u32]) -> Answer {
+    let mut run = Run::new(accepted);
+    run.go_on(table);
+    run.rounds(Some(rounds));
+    run.answer(table)
 }
 
 /// How many places come before each region's tree, and after them the children of each region.
@@ -126,6 +123,62 @@ impl Run {
     fn start(&mut self, source: usize) {
         self.nodes[source].label = 0;
         self.update_outgoing(source, 0);
+    }
+
+    /// The state that a longer table stands for: "a keyed leaf's key being its tail's label, an inner region's keys its children's smallest". Children come
+    /// after their parents, so one pass from the last region back finds all.
+    fn go_on(&mut self, table: &[u32]) {
+        self.counts = Counts::of(table);
+        for (number, node) in self.nodes.iter_mut().enumerate() {
+            node.label = payload(table[label_at(number)]);
+            node.feed = payload(table[feed_at(number)]);
+        }
+        for child in (1..self.regions.len()).rev() {
+            let row = self.regions[child];
+            let smallest = if row.is_leaf() { self.own_key(table, row.span_or_arc as usize) } else { key(self.trees[row.tree as usize + 1]) };
+            if smallest < TOP {
+                self.write(self.regions[row.parent as usize].tree as usize, row.place as usize, item(smallest, child));
+            }
+        }
+    }
+
+    /// The key that a longer table gives the leaf of an arc.
+    fn own_key(&self, table: &[u32], arc: usize) -> u32 {
+        match payload(table[key_at(self.nodes.len(), arc)]) {
+            0 => TOP,
+            _ => self.nodes[self.arcs[arc].tail].label,
+        }
+    }
+
+    /// So many rounds more, or as many as it takes to the end.
+    fn rounds(&mut self, most: Option<u32>) {
+        let last = most.map(|most| self.counts.rounds + most as u64);
+        while !self.ended() && last.is_none_or(|last| self.counts.rounds < last) {
+            self.counts.rounds += 1;
+            self.process(0);
+        }
+    }
+
+    /// Writes the table in the form whose length it has.
+    fn answer(&self, table: &mut [u32]) -> Answer {
+        write_header(table, self.ended(), &self.counts);
+        for (number, node) in self.nodes.iter().enumerate() {
+            write_node(table, number, node.label, node.feed);
+        }
+        if table.len() > length(self.nodes.len()) {
+            self.write_keys(table);
+        }
+        match self.ended() {
+            true => Answer::Ended,
+            false => Answer::Paused,
+        }
+    }
+
+    fn write_keys(&self, table: &mut [u32]) {
+        for leaf in self.regions.iter().filter(|row| row.is_leaf()) {
+            let tree = self.regions[leaf.parent as usize].tree as usize;
+            write_key(table, self.nodes.len(), leaf.span_or_arc as usize, self.trees[tree + leaf.place as usize] < NONE);
+        }
     }
 
     /// The smallest key of region 0 is none. A hall without arcs has a tree of no places, but two are there.

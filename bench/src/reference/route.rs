@@ -1,8 +1,8 @@
-//! The route reader: the refusals 15 and 21 to 24, and the arcs of a route.
+//! The route reader: the refusals 15 and 21 to 24, and the arcs of a route. It takes tables of either form.
 
 use super::dijkstra::distances;
 use super::sheet::{kind, payload, Arc, Sheet};
-use super::table::{feed_at, label_at, length, HEADER};
+use super::table::{feed_at, fits, label_at, length, HEADER};
 use super::TOP;
 
 /// The arcs from the source to a node, nothing for an unreached node, or a refusal. The buffer is left to the caller.
@@ -10,7 +10,7 @@ pub fn arcs(sheet: &Sheet, table: &[u32], node: u32) -> Result<Option<Vec<u32>>,
     if node as usize >= sheet.nodes() {
         return Err(15);
     }
-    if table.len() != length(sheet.nodes()) {
+    if !fits(sheet, table.len()) {
         return Err(21);
     }
     if wrong_form(sheet, table) {
@@ -31,13 +31,16 @@ pub fn arcs(sheet: &Sheet, table: &[u32], node: u32) -> Result<Option<Vec<u32>>,
     Ok(chain(sheet, &arcs, &feeds, node as usize))
 }
 
-fn wrong_form(sheet: &Sheet, table: &[u32]) -> bool {
-    let (header, nodes) = table.split_at(HEADER);
+/// Refusal 22, of a table that has the length of one of the two forms.
+pub fn wrong_form(sheet: &Sheet, table: &[u32]) -> bool {
+    let (usual, keys) = table.split_at(length(sheet.nodes()));
+    let (header, nodes) = usual.split_at(HEADER);
     kind(header[0]) != 8
         || header[1..].iter().any(|word| kind(*word) != 11)
         || nodes.chunks_exact(2).any(|pair| kind(pair[0]) != 9 || kind(pair[1]) != 10)
         || payload(header[0]) > 1
         || nodes.iter().skip(1).step_by(2).any(|word| payload(*word) != TOP && payload(*word) as usize >= sheet.arc_count())
+        || keys.iter().any(|word| kind(*word) != 12 || payload(*word) > 1)
 }
 
 /// The source and unreached nodes have no feeding arc; the feeding arcs of any other node, followed back, are a route to it as long as its label.

@@ -1,5 +1,6 @@
-//! The answer table: its length and its words.
+//! The answer table: its two lengths and its words.
 
+use super::sheet::Sheet;
 use super::TOP;
 
 /// The most heights, and the numbers of counts and of the words before those of the nodes: the status and two words for each count.
@@ -17,13 +18,28 @@ pub struct Counts {
 }
 
 impl Counts {
-    fn in_order(&self) -> impl Iterator<Item = u64> + '_ {
+    pub fn of(table: &[u32]) -> Counts {
+        let inner = std::array::from_fn(|at| count(table, 2 + at));
+        Counts { rounds: count(table, 0), leaves: count(table, 1), inner, updates: count(table, COUNTS - 1) }
+    }
+
+    pub fn in_order(&self) -> impl Iterator<Item = u64> + '_ {
         [self.rounds, self.leaves].into_iter().chain(self.inner).chain([self.updates])
     }
 }
 
 pub fn length(nodes: usize) -> usize {
     HEADER + 2 * nodes
+}
+
+/// The length of the longer form of request 2026-06: "after the usual words, one per arc". With no arcs both forms have one length.
+pub fn longer(sheet: &Sheet) -> usize {
+    length(sheet.nodes()) + sheet.arc_count()
+}
+
+/// A table of one of the two forms has so many words.
+pub fn fits(sheet: &Sheet, words: usize) -> bool {
+    words == length(sheet.nodes()) || words == longer(sheet)
 }
 
 /// Where a node's label stands.
@@ -48,6 +64,15 @@ pub fn write_header(table: &mut [u32], ended: bool, counts: &Counts) {
         table[1 + 2 * at] = 11 << 28 | (count >> 28) as u32 & TOP;
         table[2 + 2 * at] = 11 << 28 | count as u32 & TOP;
     }
+}
+
+/// Where the longer form says whether an arc has a key.
+pub fn key_at(nodes: usize, arc: usize) -> usize {
+    length(nodes) + arc
+}
+
+pub fn write_key(table: &mut [u32], nodes: usize, arc: usize, keyed: bool) {
+    table[key_at(nodes, arc)] = 12 << 28 | keyed as u32;
 }
 
 pub fn write_node(table: &mut [u32], node: usize, label: u32, feed: u32) {

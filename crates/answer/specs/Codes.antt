@@ -16,9 +16,10 @@ codeOf (route arcs) = 65536 + arcs
 codeOf (written bytes) = 131072 + bytes
 codeOf (refused refusal) = numberOf refusal
 
--- the numbers under "From the state"; the others that a call answers stand under "From the input"
+-- the numbers under "From the state", and 2026-06: "32, table not of the longer length or at fault as in 22, in the place of 21 and 22; 33, not a possible
+-- state, after 32", which say state as those do; the others that a call answers stand under "From the input"
 abbrev pub fromState : ℕ → Bool
-fromState n = eqb n 21 || eqb n 22 || eqb n 23 || eqb n 24 || eqb n 25
+fromState n = eqb n 21 || eqb n 22 || eqb n 23 || eqb n 24 || eqb n 25 || eqb n 32 || eqb n 33
 
 -- a code read back: every answer of a call is the one that its code says (crates/pigrozk/proofs/Told.antt)
 unfoldable pub answerOf : ℕ → Answer

@@ -1,26 +1,27 @@
 -- 24 as it is computed agrees with the paper's, and what the route reader's answer says of the table follows.
 use Prim.Native.Nat.{ℕ, _<_}
 use native.Mathlib.Omega.{arith}
-use mathlib.Core.Bool.{Bool, true, false, cond, true≢false, not, _&&_}
+use mathlib.Core.Bool.{Bool, true, false, cond, true≢false, not}
 use mathlib.Core.Path.{_≡_, refl, sym, ap, _∙_}
 use mathlib.Core.Logic.{_≢_, _↔_}
-use mathlib.Core.List.{List, [], _∷_}
+use mathlib.Core.List.{List, _∷_}
 use borrow.Author.Tests.{not-false}
 use lib.ListN.{length}
 use lib.Dec.{ltb, eqb}
 use Rattle.indices.specs.Steps.{if_then_else_}
-use Rattle.indices.proofs.Tests.{and-left, and-right}
 use Rattle.sheet.specs.Words.{top}
 use Rattle.sheet.specs.Sections.{nodeCount}
-use Rattle.answer.specs.Answer.{Refusal, numberOf, input, state, Case, _when_, isRefused, lowest}
+use Rattle.answer.specs.Answer.{Refusal, numberOf, input, state, _when_, isRefused, lowest}
 use Rattle.answer.specs.Answer.{Answer, accepted, ended, paused, route, noRoute, written, refused}
 use Rattle.answer.proofs.Lowest.{lowest-append, lowest-clear, lowest-stop}
-use Rattle.judgement.specs.Judgement.{formRefusals, countRefusals, arcRefusals, divisionRefusals, refusalsUnder, refusals, judgement, Accepted}
+use Rattle.judgement.specs.Judgement.{refusals, judgement, Accepted}
 use Rattle.procedure.specs.OfSheet.{graphOf}
 use Rattle.theory_shortest.proofs.WellFormed.{accepted-well-formed}
 use Rattle.theory_shortest.proofs.TableTest.{test-shortest, shortest-test}
 use Rattle.calls.specs.Tables.{wrongLength, labelIn, labelsIn, predecessorsIn}
-use Rattle.calls.specs.Routes.{nodeOutside, malformed, isPaused, ShortestTable, notShortest, tableRefusals, routeTo, foundRoute, routeAnswer, TableKnown}
+use Rattle.calls.specs.Routes.{nodeOutside, malformed, isPaused, ShortestTable, notShortest, tableRefusals, routeTo, foundRoute, routeCall, routeAnswer}
+use Rattle.calls.specs.Routes.{TableKnown}
+use Rattle.calls.proofs.Inputs.{byInput, answered-not, sheet-accepted}
 
 -- the number of a refusal; other answers come after all of them
 abbrev rank : Answer → ℕ
@@ -40,49 +41,6 @@ answered-rank (route n) e = omega arith
 answered-rank noRoute e = omega arith
 answered-rank (written n) e = omega arith
 answered-rank (refused r) e = absurd (true≢false e)
-
--- the input is at fault
-abbrev ofInput : Refusal → Bool
-ofInput (input _) = true
-ofInput (state _) = false
-
-abbrev byInput : Answer → Bool
-byInput (refused r) = ofInput r
-byInput accepted = false
-byInput ended = false
-byInput paused = false
-byInput (route _) = false
-byInput noRoute = false
-byInput (written _) = false
-
-answered-not : (a : Answer) → isRefused a ≡ false → byInput a ≡ false
-answered-not accepted e = refl
-answered-not ended e = refl
-answered-not paused e = refl
-answered-not (route n) e = refl
-answered-not noRoute e = refl
-answered-not (written _) e = refl
-answered-not (refused r) e = absurd (true≢false e)
-
--- every refusal of the list is of the input
-abbrev inputs : List Case → Bool
-inputs [] = true
-inputs (c ∷ cs) = ofInput (c .refusal) && inputs cs
-
--- where the answer does not blame the input, no case of such a list applies
-inputs-clear : (cs : List Case) (a : Answer) → inputs cs ≡ true → byInput (lowest cs a) ≡ false → lowest cs accepted ≡ accepted
-inputs-clear [] a i l = refl
-inputs-clear (c ∷ cs) a i l =
-    by (c .applies) (and-left (ofInput (c .refusal)) _ i) (inputs-clear cs a (and-right (ofInput (c .refusal)) _ i)) l
-  where
-    by : (t : Bool) → ofInput (c .refusal) ≡ true → (byInput (lowest cs a) ≡ false → lowest cs accepted ≡ accepted)
-        → byInput (cond t (refused (c .refusal)) (lowest cs a)) ≡ false → cond t (refused (c .refusal)) (lowest cs accepted) ≡ accepted
-    by true mine rest l = absurd (true≢false (sym mine ∙ l))
-    by false mine rest l = rest l
-
-sheet-inputs : (b : List ℕ) → inputs (refusals b) ≡ true
-unfolding refusalsUnder formRefusals countRefusals arcRefusals divisionRefusals
-sheet-inputs b = refl
 
 -- the refusals of a route, those of the sheet left out
 unfoldable later : Bool → Bool → Bool → Bool → Bool → Answer → Answer
@@ -153,20 +111,20 @@ module _ (b table : List ℕ) where
         by false false e = omega arith
 
     -- the answer does not blame the input: the sheet is accepted
-    sheet-accepted : byInput (routeAnswer b table node buffer) ≡ false → Accepted b
-    unfolding judgement
-    sheet-accepted p = inputs-clear (refusals b) _ (sheet-inputs b) (rw answer-staged at p)
+    accepted-sheet : byInput (routeAnswer b table node buffer) ≡ false → Accepted b
+    unfolding routeAnswer
+    accepted-sheet p = sheet-accepted b (routeCall b table node buffer) p
 
     past-right : byInput (routeAnswer b table node buffer) ≡ false → 24 < rank (routeAnswer b table node buffer) → ShortestTable b table
     past-right i p =
-        let ok = sheet-accepted i in
+        let ok = accepted-sheet i in
         shortest-agrees ok .0 (later-past _ _ _ _ _ _ (rw (as-later ok) at p))
 
     -- What the answer says of the table holds of it.
     pub table-known : TableKnown b table (routeAnswer b table node buffer)
     table-known = record {
       wrong = λ e s.
-          let ok = sheet-accepted (ap byInput e) in
+          let ok = accepted-sheet (ap byInput e) in
           let applies = later-24 _ _ _ _ _ _ (ap rank (sym (as-later ok) ∙ e)) found-past in
           true≢false (sym applies ∙ shortest-agrees ok .1 s);
       right = λ e. past-right (answered-not (routeAnswer b table node buffer) e) (answered-rank (routeAnswer b table node buffer) e);

@@ -1,6 +1,6 @@
 -- What the route reader answers, what it leaves in the buffer, and what its answer says of the table. Definitions.
 use Prim.Native.Nat.{ℕ, _+_, _*_}
-use mathlib.Core.Bool.{Bool, false, not, _||_}
+use mathlib.Core.Bool.{Bool, false, not, _&&_, _||_}
 use mathlib.Core.Path.{_≡_}
 use mathlib.Core.List.{List, [], _∷_, _++_}
 use lib.ListN.{length, drop}
@@ -16,7 +16,7 @@ use Rattle.procedure.specs.Table.{headerLength, countsLength}
 use Rattle.procedure.specs.Routes.{chainTo, Shortest}
 use Rattle.theory_shortest.specs.TableTest.{settled?}
 use Rattle.calls.specs.Calls.{Call, callAnswer, lentAfter}
-use Rattle.calls.specs.Tables.{wrongLength, kindIn, statusIn, labelIn, predecessorIn, labelsIn, predecessorsIn}
+use Rattle.calls.specs.Tables.{isLong, wrongLength, kindIn, payloadIn, statusIn, labelIn, predecessorIn, keyPlace, labelsIn, predecessorsIn}
 
 -- "15. Node whose route is wanted not below n."
 unfoldable pub nodeOutside : List ℕ → ℕ → Bool
@@ -42,15 +42,24 @@ module _ (table : List ℕ) where
   unfoldable pub wrongNode : ℕ → ℕ → Bool
   wrongNode arcs v = wrongKinds v || wrongPredecessor arcs v
 
+  -- 2026-06: words of "kind 12", behind those of so many nodes; "a key word above 1 being 22"
+  abbrev pub wrongKey : ℕ → ℕ → Bool
+  wrongKey nodes a = wrongKind (keyPlace nodes a) 12 || ltb 1 (payloadIn table (keyPlace nodes a))
+
   -- "23. Table paused."
   unfoldable pub isPaused : Bool
   isPaused = eqb (statusIn table) 0
 
 module _ (b table : List ℕ) where
+  -- 2026-06: "the route reader takes either, a key word above 1 being 22"
+  unfoldable pub wrongKeys : Bool
+  wrongKeys = isLong b table && any (wrongKey table (nodeCount b)) (arcCount b)
+
   -- "22. Wrong kind at a place, status above 1, or a feeding arc that is neither an arc of the sheet nor 'none'."
   unfoldable pub malformed : Bool
   malformed =
-      (wrongKind table 0 8 || any (wrongCount table) (2 * countsLength)) || (ltb 1 (statusIn table) || any (wrongNode table (arcCount b)) (nodeCount b))
+      (wrongKind table 0 8 || any (wrongCount table) (2 * countsLength))
+      || (ltb 1 (statusIn table) || (any (wrongNode table (arcCount b)) (nodeCount b) || wrongKeys))
 
   -- "Some distance isn't the shortest for this sheet, or the feeding arcs don't form routes of exactly those lengths from the source (source and
   -- unreached nodes: none)": this does not hold of the table. "The counts aren't examined."

@@ -1,13 +1,13 @@
 -- What the words of an answer table say. Definitions.
 use Prim.Native.Nat.{ℕ, _+_, _*_}
-use mathlib.Core.Bool.{Bool, not}
+use mathlib.Core.Bool.{Bool, not, _||_}
 use mathlib.Core.List.{List}
 use lib.ListN.{length}
 use lib.Dec.{eqb}
 use Rattle.indices.specs.Columns.{at, column}
 use Rattle.indices.specs.Steps.{if_then_else_}
 use Rattle.sheet.specs.Words.{kindOf, payloadOf, payloads}
-use Rattle.sheet.specs.Sections.{nodeCount}
+use Rattle.sheet.specs.Sections.{nodeCount, arcCount}
 use Rattle.answer.specs.Answer.{Answer, ended, paused}
 use Rattle.procedure.specs.Table.{headerLength}
 
@@ -15,9 +15,21 @@ use Rattle.procedure.specs.Table.{headerLength}
 abbrev pub tableLength : ℕ → ℕ
 tableLength nodes = headerLength + 2 * nodes
 
--- 21: the table has another length
-unfoldable pub wrongLength : List ℕ → List ℕ → Bool
-wrongLength b table = not (eqb (length table) (tableLength (nodeCount b)))
+-- 2026-06: "A longer table is wanted: after the usual words, one per arc": of so many nodes and arcs
+abbrev pub longLength : ℕ → ℕ → ℕ
+longLength nodes arcs = tableLength nodes + arcs
+
+module _ (b table : List ℕ) where
+  -- the table has the usual length, the longer length; with no arcs both are one
+  unfoldable pub isUsual : Bool
+  isUsual = eqb (length table) (tableLength (nodeCount b))
+
+  unfoldable pub isLong : Bool
+  isLong = eqb (length table) (longLength (nodeCount b) (arcCount b))
+
+  -- "21 then means neither form"
+  unfoldable pub wrongLength : Bool
+  wrongLength = not (isUsual || isLong)
 
 -- "Kind 8: 1 ended, 0 paused." What a run answers whose table has that status; it is asked of runs' tables alone, which have no other
 abbrev pub statusSays : ℕ → Answer
@@ -51,6 +63,10 @@ module _ (table : List ℕ) where
 
   abbrev pub predecessorIn : ℕ → ℕ
   predecessorIn v = payloadIn (headerLength + 2 * v + 1)
+
+-- where the key word of arc a stands, behind those of so many nodes
+abbrev pub keyPlace : ℕ → ℕ → ℕ
+keyPlace nodes a = tableLength nodes + a
 
 -- the labels and the predecessors of the n nodes of a table
 unfoldable pub labelsIn : ℕ → List ℕ → List ℕ

@@ -1,9 +1,10 @@
 // Tries each case of standard input, a line of hexadecimal digits in which spaces are passed over: CALL NUMBER WORDS SIZE SHEET TABLE. The first four are
 // words of eight digits. CALL is 1 to judge, 2 to run to the end, 3 to run for at most NUMBER rounds, 4 for the route to node NUMBER, 5 for the listing,
-// 6 for the canonical form. WORDS words are lent, as the table of a run or the buffer of a route; for the canonical form as many bytes. SHEET has SIZE
-// bytes. TABLE, for a route alone, is the rest of the line.
-// For a listing, what `marks` prints is printed; for another case the answer's word and, where what is lent has changed, the lent words or bytes up to the
-// last changed one; for a line that is no case `unreadable`.
+// 6 for the canonical form, 7 to go on for at most NUMBER rounds. WORDS words are lent, as the table of a run or the buffer of a route; for the canonical
+// form as many bytes. SHEET has SIZE bytes. TABLE, for a route and for going on alone, is the rest of the line; to go on the words lent hold it, as far as
+// they go. All others hold a filling.
+// For a listing, what `marks` prints is printed; for another case the answer's word and, where what is lent holds something else than the filling after the
+// call, the lent words or bytes up to the last that does; for a line that is no case `unreadable`.
 ghost use Prim.Native.Nat.{_≤_};
 ghost use lib.ListN.{length};
 ghost use Rattle.io.specs.Counts.{Counts};
@@ -20,8 +21,8 @@ use libc::STDOUT_FILENO;
 // The bytes of the longest line: its four words, and a sheet.
 const ROOM: usize = 65552;
 
-// The most words of a table, and the most that are lent.
-const MOST_WORDS: usize = 4096;
+// The most words of a table, and the most that are lent: more than the longest table has.
+const MOST_WORDS: usize = 4608;
 
 // The most bytes that are lent: more than the longest sheet has.
 const MOST_BYTES: usize = 33792;
@@ -109,6 +110,12 @@ fn route_word(sheet: &[u8], bytes: &[u8], node: u32, lent: &mut [u32]) -> u32 {
     route_in(sheet, bytes, &mut table, node, lent)
 }
 
+// Goes on from the table that the bytes hold, for at most so many rounds.
+fn resume_word(sheet: &[u8], bytes: &[u8], rounds: u32, lent: &mut [u32]) -> u32 {
+    read_words(bytes, lent);
+    word_of_ran(resume::resume(sheet, rounds, lent))
+}
+
 // Runs a sheet to its end, or for at most so many rounds.
 fn run_word(call: u32, number: u32, sheet: &[u8], lent: &mut [u32]) -> u32 {
     if call == 2 {
@@ -122,6 +129,7 @@ fn answer_word(call: u32, number: u32, sheet: &[u8], bytes: &[u8], lent: &mut [u
     match call {
         1 => word_of_judged(judge::judge(sheet)),
         4 => route_word(sheet, bytes, number, lent),
+        7 => resume_word(sheet, bytes, number, lent),
         _ => run_word(call, number, sheet, lent),
     }
 }
@@ -138,7 +146,7 @@ fn print_words(words: &[u32]) {
     }
 }
 
-// Prints the answer's word and, where a lent word has changed, the lent words up to the last changed one.
+// Prints the answer's word and, where a lent word is not the filling, the lent words up to the last such one.
 fn print_answer(word: u32, lent: &[u32]) {
     print_word(word);
     let used = cases_lent::used(lent);
@@ -158,7 +166,7 @@ fn print_lent(call: u32, number: u32, words: usize, sheet: &[u8], bytes: &[u8], 
 }
 
 fn print_filled(call: u32, number: u32, words: usize, sheet: &[u8], bytes: &[u8])
-    requires { ⌜ words ≤ 4096 ⌝ }
+    requires { ⌜ words ≤ 4608 ⌝ }
 {
     let mut lent = [FILLING; MOST_WORDS];
     print_lent(call, number, words, sheet, bytes, &mut lent);
@@ -176,7 +184,7 @@ fn print_bytes(bytes: &[u8]) {
     }
 }
 
-// Prints the answer's word and, where a lent byte has changed, the lent bytes up to the last changed one.
+// Prints the answer's word and, where a lent byte is not the filling, the lent bytes up to the last such one.
 fn print_copied(word: u32, lent: &[u8]) {
     print_word(word);
     let used = cases_lent::bytes::used(lent);
@@ -224,9 +232,9 @@ fn print_call(call: u32, number: u32, words: usize, sheet: &[u8], bytes: &[u8]) 
     true
 }
 
-// Whether there is such a call, and so many bytes can follow its sheet: for a route whole words for which there is room, and else none.
+// Whether there is such a call, and so many bytes can follow its sheet: for a route and for going on whole words for which there is room, and else none.
 fn is_case(call: u32, bytes: usize) -> bool {
-    if call == 4 {
+    if call == 4 || call == 7 {
         return bytes % 4 == 0 && bytes / 4 <= MOST_WORDS;
     }
     1 <= call && call <= 6 && bytes == 0

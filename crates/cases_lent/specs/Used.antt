@@ -6,7 +6,7 @@ use lib.Dec.{eqb}
 use Rattle.indices.specs.Steps.{if_then_else_}
 use Rattle.indices.specs.Columns.{at}
 
--- a word of kind 12
+-- a word of kind 12 that says neither 0 nor 1
 abbrev pub filling : ℕ
 filling = 3318072773
 

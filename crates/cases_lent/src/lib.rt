@@ -6,7 +6,7 @@ ghost use Prim.Native.Nat.{_≤_};
 ghost use lib.ListN.{length};
 ghost use Rattle.cases_lent.specs.Used.{filling, used as usedOf};
 
-// The word that lent words hold before the call, of a kind that no answer has.
+// The word that lent words hold before the call. Its kind is that of a key word, but its payload is above 1, as in no answer.
 pub const FILLING: u32 = 3318072773;
 
 // How many words there are up to the last one that holds another. The second promise follows from the first.

@@ -4,8 +4,8 @@ use mathlib.Core.Path.{_≡_, sym, ap, _∙_}
 use mathlib.Core.Logic.{_≢_}
 use mathlib.Core.List.{List}
 use native.Mathlib.Omega.{arith}
-use lib.ListN.{length, set, length-set}
-use lib.Seq.{getD-set-same, getD-set-other, ext-getD}
+use lib.ListN.{length, set, take, length-set}
+use lib.Seq.{getD-set-same, getD-set-other, getD-take, ext-getD, length-take-le}
 use Rattle.indices.specs.Columns.{at, column}
 use Rattle.indices.proofs.Columns.{length-column, at-column}
 use Rattle.indices.proofs.Steps.{by-equal}
@@ -56,3 +56,10 @@ pub prefix-all : {n : ℕ} {f : ℕ → ℕ} {l : List ℕ} {i : ℕ} → Prefix
 prefix-all {n} {f} {l} {i} P h =
     ext-getD 0 l (column n f) (P .long ∙ sym (length-column n f))
     (λ j k. let inside : j < n = omega (arith, P .long) in P .entries .entry j (omega arith) ∙ sym (at-column n f j inside))
+
+-- and of a list of any length the first i are those of the column
+pub prefix-front : {n : ℕ} {f : ℕ → ℕ} {l : List ℕ} {i : ℕ} → Prefix n f l i → take i l ≡ column i f
+prefix-front {n} {f} {l} {i} P =
+    let long : length (take i l) ≡ i = length-take-le i l (omega (arith, P .within, P .long)) in
+    ext-getD 0 (take i l) (column i f) (long ∙ sym (length-column i f))
+    (λ j k. let inside : j < i = omega (arith, long) in getD-take i l j 0 inside ∙ P .entries .entry j inside ∙ sym (at-column i f j inside))

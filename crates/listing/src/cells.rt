@@ -1,28 +1,9 @@
-// The cells of a listing, figures of an answer table: read, and written into a lent buffer from a place on.
-ghost use mathlib.Core.Path.{_≡_};
-ghost use Prim.Native.Nat.{_≤_, _<_};
+// The cells of a listing, figures of an answer table, written into a lent buffer from a place on.
+ghost use Prim.Native.Nat.{_<_};
 ghost use lib.ListN.{length};
-ghost use Rattle.calls.specs.Tables.{payloadIn, countIn};
-ghost use Rattle.procedure.specs.Table.{countsLength, headerLength};
+ghost use Rattle.calls.specs.Tables.{payloadIn};
 ghost use Rattle.listing.specs.Listing.{cell, spaced};
 ghost use Rattle.listing.specs.Inner.{Room, Wrote};
-
-pub fn payload_at(table: &[u32], i: usize) -> u32
-    requires { ⌜ i < length (now table) ⌝ }
-    ensures { λ r. ⌜ r ≡ payloadIn (now (table .entry)) i ⌝ }
-{
-    sheet::payload_of(table[i])
-}
-
-// Count i: its high 28 bits stand before its low 28.
-pub fn count_at(table: &[u32], i: usize) -> u64
-    requires { ⌜ (i < countsLength) × (headerLength ≤ length (now table)) ⌝ }
-    ensures { λ r. ⌜ r ≡ countIn (now (table .entry)) i ⌝ }
-{
-    let high = payload_at(table, 1 + 2 * i) as u64;
-    let low = payload_at(table, 2 + 2 * i) as u64;
-    high * sheet::COUNT_BASE + low
-}
 
 // A distance or a feeding arc.
 fn put_cell(payload: u32, out: &mut [u8], from: usize) -> usize
@@ -41,5 +22,5 @@ pub fn put_payload(table: &[u32], i: usize, out: &mut [u8], from: usize) -> usiz
     ensures { λ r. ⌜ Wrote (now (out .entry)) from (spaced (payloadIn (now (table .entry)) i)) (now (out .exit)) r ⌝ }
 {
     let next = crate::text::put_byte(b' ', out, from);
-    put_cell(payload_at(table, i), out, next)
+    put_cell(table::read::payload_at(table, i), out, next)
 }

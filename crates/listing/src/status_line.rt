@@ -17,14 +17,14 @@ fn put_count(table: &[u32], i: usize, name: &[u8], out: &mut [u8], from: usize) 
     ensures { λ r. ⌜ Wrote (now (out .entry)) from (now (name .entry) ++ decimal (countIn (now (table .entry)) i)) (now (out .exit)) r ⌝ }
 {
     let next = crate::text::put_text(name, out, from);
-    crate::text::put_number(crate::cells::count_at(table, i), out, next)
+    crate::text::put_number(table::read::count_of(table, i), out, next)
 }
 
 fn put_status(table: &[u32], out: &mut [u8], from: usize) -> usize
     requires { ⌜ (headerLength ≤ length (now table)) × Room (now out) from (status (now table)) ⌝ }
     ensures { λ r. ⌜ Wrote (now (out .entry)) from (status (now (table .entry))) (now (out .exit)) r ⌝ }
 {
-    if crate::cells::payload_at(table, 0) == 1 {
+    if table::read::status_of(table) == 1 {
         return crate::text::put_text(b"ended", out, from);
     }
     crate::text::put_text(b"paused", out, from)

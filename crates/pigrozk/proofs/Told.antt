@@ -20,6 +20,7 @@ use Rattle.calls.specs.Routes.{tableRefusals, routeTo, foundRoute, routeCall, r
 use Rattle.answer.specs.Codes.{codeOf, fromState, answerOf}
 use Rattle.canonical_form.specs.Canonical.{canonical}
 use Rattle.calls.specs.Canonical.{canonicalCall, canonicalAnswer}
+use Rattle.calls.specs.Resume.{resumeCall, resumeAnswer, resumedTable}
 use Rattle.pigrozk.proofs.Figures.{answered-accepted, way-within}
 
 -- equal answers have one code
@@ -91,13 +92,14 @@ pub judge-told : (b : List ℕ) → Told (judgement b)
 unfolding judgement refusalsUnder formRefusals countRefusals arcRefusals divisionRefusals answerOf
 judge-told b = lowest-told (refusals b) accepted refl (λ _. refl)
 
+status-told : (over : Bool) → Told (if over then ended else paused)
+unfolding answerOf
+status-told true = refl
+status-told false = refl
+
 pub run-told : (b : List ℕ) (k : ℕ) (table : List ℕ) → Told (runAnswer b k table)
 unfolding runAnswer refusalsUnder formRefusals countRefusals arcRefusals divisionRefusals answerOf
-run-told b k table = lowest-told (callRefusals (refusals b) (runCall b k table)) _ refl (λ _. at (eqb (statusIn (runTable b k)) 1))
-  where
-    at : (over : Bool) → Told (if over then ended else paused)
-    at true = refl
-    at false = refl
+run-told b k table = lowest-told (callRefusals (refusals b) (runCall b k table)) _ refl (λ _. status-told (eqb (statusIn (runTable b k)) 1))
 
 module _ (b table : List ℕ) (node : ℕ) (buffer : List ℕ) where
   found-told : length (routeTo b table node) < 65536 → Told (foundRoute b table node buffer)
@@ -119,3 +121,7 @@ module _ (b table : List ℕ) (node : ℕ) (buffer : List ℕ) where
 pub canonical-told : (b out : List ℕ) → Told (canonicalAnswer b out)
 unfolding canonicalAnswer refusalsUnder formRefusals countRefusals arcRefusals divisionRefusals
 canonical-told b out = lowest-told (callRefusals (refusals b) (canonicalCall b out)) _ refl (λ _. written-figure-told (length (canonical b)))
+
+pub resume-told : (b table : List ℕ) (k : ℕ) → Told (resumeAnswer b table k)
+unfolding resumeAnswer refusalsUnder formRefusals countRefusals arcRefusals divisionRefusals
+resume-told b table k = lowest-told (callRefusals (refusals b) (resumeCall b table k)) _ refl (λ _. status-told (eqb (statusIn (resumedTable b table k)) 1))

@@ -9,7 +9,7 @@ use Rattle.judgement.specs.Judgement.{judgement, Accepted}
 use Rattle.procedure.specs.Procedure.{enoughRounds}
 use Rattle.calls.specs.Tables.{tableLength}
 use Rattle.calls.specs.Runs.{tableAfter}
-use Rattle.calls.proofs.Outcome.{made}
+use Rattle.calls.proofs.Outcome.{usual-right, made, filled-usual}
 use Rattle.listing.specs.Listing.{listingOf, refusedLine}
 use Rattle.listing.specs.Printed.{endTable, printed, Filled, wordsAfter, Reported}
 
@@ -26,7 +26,9 @@ module _ (b : List ℕ) {table out outAfter : List ℕ} {n : ℕ} where
   unfolding printed wordsAfter
   reported-listing ok spanned same made lines = record { text = rw (ok, ← spanned, ← same) lines; words = rw (ok, same, made) }
 
--- what a run of an accepted sheet leaves in a table of its size
+-- what a run of an accepted sheet leaves in a table of the usual length
 pub run-leaves : (b table : List ℕ) {nodes : ℕ} {after : List ℕ} → Accepted b → nodes ≡ nodeCount b → length table ≡ tableLength nodes
     → after ≡ tableAfter b enoughRounds table → after ≡ endTable b
-run-leaves b table ok same size e = e ∙ sym (made b enoughRounds table ok (size ∙ ap tableLength same) .1)
+run-leaves b table ok same size e =
+    let usual = size ∙ ap tableLength same in
+    e ∙ sym (made b enoughRounds table ok (usual-right b table usual) .1) ∙ filled-usual b enoughRounds table usual

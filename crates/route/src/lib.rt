@@ -1,4 +1,4 @@
-// Reads the route to a node out of a finished table.
+// Reads the route to a node out of a finished table, in either form.
 pub mod arcs;
 pub mod found;
 
@@ -20,10 +20,10 @@ fn route_accepted(s: &[u8], table: &[u32], node: u32, buffer: &mut [u32]) -> Rou
     if crate::found::node_outside(s, node) {
         return Routed::Refused(Fault::Input(15));
     }
-    if table::read::wrong_length(s, table) {
+    let sections = sheet::scan::find_sections(s);
+    if table::read::wrong_length(s, sections, table) {
         return Routed::Refused(Fault::State(21));
     }
-    let sections = sheet::scan::find_sections(s);
     let number = table_shortest::table_refusal(s, sections, table);
     if number != 0 {
         return Routed::Refused(Fault::State(number));

@@ -3,9 +3,9 @@ use Prim.Native.Nat.{ℕ}
 use mathlib.Core.Bool.{Bool}
 use mathlib.Core.Path.{_≡_}
 use mathlib.Core.List.{List}
-use Rattle.calls.specs.Runs.{endedAfter, runTable}
+use Rattle.calls.specs.Runs.{endedAfter, filledTable}
 
--- the table of the state after at most k rounds, and whether the run has ended
-pub record Outcome (b : List ℕ) (k : ℕ) (hasEnded : Bool) (table : List ℕ) : Type 0 where
+-- whether the run has ended, and the table of the state after at most k rounds, in the form whose length the lent table has
+pub record Outcome (b : List ℕ) (k : ℕ) (table : List ℕ) (hasEnded : Bool) (table′ : List ℕ) : Type 0 where
   pub status : hasEnded ≡ endedAfter b k
-  pub words : table ≡ runTable b k
+  pub words : table′ ≡ filledTable b k table

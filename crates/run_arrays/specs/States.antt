@@ -1,17 +1,16 @@
 -- The arrays that a run changes, with what is fixed, as queues and a state of the procedure; and what each function asks and gives. Definitions.
 use Prim.Native.Nat.{ℕ, _^_, _≤_, _<_}
-use mathlib.Core.Bool.{true, false, not}
+use mathlib.Core.Bool.{true, false}
 use mathlib.Core.Path.{_≡_}
 use mathlib.Core.List.{List}
 use lib.ListN.{length, take, replicate}
-use Rattle.indices.specs.Steps.{times}
 use Rattle.sheet.specs.Limits.{mostArcs, mostArcsEachWay}
 use Rattle.sheet.specs.Words.{top}
 use Rattle.procedure.specs.Graph.{Graph, arcs}
 use Rattle.procedure.specs.Division.{Division, regions, parent, isLeaf}
 use Rattle.procedure.specs.State.{Queues, State}
 use Rattle.procedure.specs.Queues.{update, updateArc, updateOutgoing}
-use Rattle.procedure.specs.Procedure.{processLeaf, process, ended, round}
+use Rattle.procedure.specs.Procedure.{processLeaf, process, more}
 use Rattle.theory_shortest.specs.WellFormed.{GraphOk, DivisionOk}
 use Rattle.theory.specs.Counts.{Small}
 use Rattle.run_counts.specs.Figures.{Figures}
@@ -48,7 +47,7 @@ pub record Updating (d : Division) (q : Queues) (r x k : ℕ) : Type 0 where
   pub positive : 0 < x
   pub in-range : x < regions d
   pub under : parent d x ≡ r
-  pub small : update d r x k q .updates < 2 ^ 54
+  pub small : update d r x k q .updates < 2 ^ 56
 
 -- what the update of an arc reads
 pub record Updatable (g : Graph) (d : Division) (fixed : List ℕ) : Type 0 where
@@ -59,14 +58,14 @@ pub record Updatable (g : Graph) (d : Division) (fixed : List ℕ) : Type 0 wher
 pub record UpdatingArc (g : Graph) (d : Division) (q : Queues) (fixed : List ℕ) (a k : ℕ) : Type 0 where
   pub updatable : Updatable g d fixed
   pub in-range : a < arcs g
-  pub small : updateArc d a k q .updates < 2 ^ 54
+  pub small : updateArc d a k q .updates < 2 ^ 56
 
 pub record UpdatingOutgoing (g : Graph) (d : Division) (q : Queues) (fixed : List ℕ) (v k : ℕ) : Type 0 where
   pub updatable : Updatable g d fixed
   pub links : ArcLinks g (arcRowSection fixed) (firstSection fixed)
   pub arc-count : arcCountOf fixed ≡ arcs g
   pub in-range : v < g .nodes
-  pub small : updateOutgoing d (g .tails) v k q .updates < 2 ^ 54
+  pub small : updateOutgoing d (g .tails) v k q .updates < 2 ^ 56
 
 -- What the updates of arcs leave: the queues, with labels and predecessors as they were.
 pub record LeavesQueues (g : Graph) (d : Division) (q : Queues) (fixed state state′ winners′ : List ℕ) (n : ℕ) : Type 0 where
@@ -97,10 +96,6 @@ pub record Represents (g : Graph) (d : Division) (spans : List ℕ) (s : State) 
 pub record Workable (d : Division) (r : ℕ) (defined : State) : Type 0 where
   pub in-range : r < regions d
   pub small : Small defined
-
--- at most so many more rounds
-abbrev pub moreRounds : Graph → Division → List ℕ → ℕ → State → State
-moreRounds g d spans limit s = times limit (λ s. not (ended g d s)) (round g d spans) s
 
 -- What is asked before the start: what is fixed, with trees that are planned, and the source and the number of regions.
 pub record Blank (g : Graph) (d : Division) (spans fixed weights : List ℕ) (source count : ℕ) : Type 0 where
@@ -176,7 +171,7 @@ module _ (fixed weights state winners : List ℕ) where
     pub spans : List ℕ
     pub current : State
     pub represents : Represents graph division spans current fixed weights state winners c
-    pub small : Small (moreRounds graph division spans limit current)
+    pub small : Small (more graph division spans limit current)
 
 -- `start`, which reads no weights, in an array of the state that is filled with 'none'
 pub record SomeBlank (fixed state : List ℕ) (source count : ℕ) : Type 0 where

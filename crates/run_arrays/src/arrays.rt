@@ -1,7 +1,7 @@
 // The four arrays of a run, and how the entries of their sections are read and written. What they represent is in specs/.
 ghost use mathlib.Core.Path.{_≡_};
 ghost use Prim.Native.Nat.{_-_, _<_, _≤_};
-ghost use lib.ListN.{take};
+ghost use lib.ListN.{length, take};
 ghost use Rattle.indices.specs.Columns.{at};
 ghost use Rattle.sheet.specs.Limits.{mostNodes, mostArcs};
 ghost use Rattle.run_arrays.specs.Rows.{field, rowTail, rowHead, rowLeaf, rowNext};
@@ -175,6 +175,16 @@ pub fn predecessors_of(state: &[u32; STATE], n: usize) -> &[u32]
     &whole[PREDECESSORS..e]
 }
 
+// The own keys of the first n arcs.
+pub fn own_keys_of(state: &[u32; STATE], n: usize) -> &[u32]
+    requires { ⌜ n ≤ mostArcs ⌝ }
+    ensures { λ r. ⌜ (now r ≡ take n (ownSection (now (state .entry)))) × (length (now r) ≡ n) ⌝ }
+{
+    let whole = &state[..];
+    let e = OWN_KEYS + n;
+    &whole[OWN_KEYS..e]
+}
+
 pub fn set_label(state: &mut [u32; STATE], v: Node, label: u32)
     requires { ⌜ v .0 < mostNodes ⌝ }
     ensures { λ _. ⌜ LabelStored (v .0) label (now (state .entry)) (now (state .exit)) ⌝ }
@@ -183,14 +193,22 @@ pub fn set_label(state: &mut [u32; STATE], v: Node, label: u32)
     state[i] = label;
 }
 
+// The label of v becomes `label`, and its predecessor `predecessor`, which may be none.
+pub fn set_node(state: &mut [u32; STATE], v: Node, label: u32, predecessor: u32)
+    requires { ⌜ v .0 < mostNodes ⌝ }
+    ensures { λ _. ⌜ LabelLowered (v .0) label predecessor (now (state .entry)) (now (state .exit)) ⌝ }
+{
+    let i = v.0 as usize;
+    state[i] = label;
+    state[PREDECESSORS + i] = predecessor;
+}
+
 // The label of v becomes `label`, and a its predecessor.
 pub fn lower_label(state: &mut [u32; STATE], v: Node, label: u32, a: Arc)
     requires { ⌜ v .0 < mostNodes ⌝ }
     ensures { λ _. ⌜ LabelLowered (v .0) label (a .0) (now (state .entry)) (now (state .exit)) ⌝ }
 {
-    let i = v.0 as usize;
-    state[i] = label;
-    state[PREDECESSORS + i] = a.0 as u32;
+    set_node(state, v, label, a.0 as u32);
 }
 
 // The own key of arc a's leaf.

@@ -6,11 +6,11 @@ ghost use Prim.Native.Nat.{ℕ};
 ghost use Rattle.procedure.specs.Graph.{Graph};
 ghost use Rattle.procedure.specs.Division.{Division, isLeaf};
 ghost use Rattle.procedure.specs.State.{State};
-ghost use Rattle.procedure.specs.Procedure.{ended, start};
+ghost use Rattle.procedure.specs.Procedure.{ended, start, more};
 ghost use Rattle.theory.specs.Counts.{Small};
 ghost use Rattle.run_counts.specs.Figures.{figuresIn};
 ghost use Rattle.run_arrays.specs.Trees.{QueuesOk, SomeQueue};
-ghost use Rattle.run_arrays.specs.States.{Represents, moreRounds, Blank, SomeBlank, SomeRounds};
+ghost use Rattle.run_arrays.specs.States.{Represents, Blank, SomeBlank, SomeRounds};
 use run_arrays::arrays::FIXED;
 use run_arrays::arrays::PLACES;
 use run_arrays::arrays::STATE;
@@ -61,8 +61,8 @@ pub fn run_rounds(
     requires { ⌜ SomeRounds (now fixed) (now weights) (now state) (now winners) limit (figuresIn (now counts)) ⌝ }
     ensures { λ _. ⌜ ((g : Graph) (d : Division) (spans : List ℕ) (s : State)
         → Represents g d spans s (now (fixed .entry)) (now (weights .entry)) (now (state .entry)) (now (winners .entry)) (figuresIn (now (counts .entry)))
-        → Small (moreRounds g d spans limit s)
-        → Represents g d spans (moreRounds g d spans limit s) (now (fixed .entry)) (now (weights .entry)) (now (state .exit)) (now (winners .exit))
+        → Small (more g d spans limit s)
+        → Represents g d spans (more g d spans limit s) (now (fixed .entry)) (now (weights .entry)) (now (state .exit)) (now (winners .exit))
         (figuresIn (now (counts .exit)))) ⌝ }
 {
     let mut left = limit;

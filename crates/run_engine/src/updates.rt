@@ -44,7 +44,7 @@ fn update(
 }
 
 // Updates arc a: its own key, and from its leaf's parent on where that key fell.
-fn update_arc(
+pub fn update_arc(
     fixed: &[u16; FIXED],
     state: &mut [u32; STATE],
     winners: &mut [u64; PLACES],

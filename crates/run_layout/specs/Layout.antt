@@ -24,6 +24,12 @@ pub record Laid (b fixed weights : List ℕ) : Type 0 where
   pub fixed-ok : FixedOk (graphOf b) (divisionOf b) (spansOf b) fixed weights
   pub planned : Planned (divisionOf b) fixed
 
+-- what laying it out asks: an accepted sheet, whose sections are found and whose sizes are known
+pub record Outlined (b : List ℕ) (sections : Sections) (z : Sizes) : Type 0 where
+  pub accepted : Accepted b
+  pub located : Located b sections
+  pub in-use : InUse b z
+
 -- the first n entries of ys are those of xs
 pub record Begins (n : ℕ) (xs ys : List ℕ) : Type 0 where
   pub same : (i : ℕ) → i < n → at ys i ≡ at xs i

@@ -12,13 +12,18 @@ ghost use Rattle.run_arrays.specs.Trees.{Planned};
 ghost use Rattle.run_arrays.specs.Sections.{arcRowsAt};
 ghost use Rattle.run_arrays.specs.Fixed.{RegionArcs};
 ghost use Rattle.run_layout.specs.Layout.{ArcsLent, FirstsLent, TreesLent, RegionsLent, HeightsLent, DivisionLent, GraphLent, WeightsLent, Begins, ArcsLaid, FirstsLaid, HeightsLaid, DivisionLaid, GraphLaid, WeightsLaid};
+ghost use Rattle.run_layout.specs.Layout.{Outlined, Laid};
 use crate::sizes::Sizes;
 use run_arrays::arrays::ARC_COUNT;
 use run_arrays::arrays::ARC_ROWS;
 use run_arrays::arrays::FIRSTS;
+use run_arrays::arrays::FIXED;
 use run_arrays::arrays::HEIGHTS;
+use run_arrays::arrays::NODES;
 use run_arrays::arrays::REGION_ARCS;
+use run_arrays::arrays::REGIONS;
 use run_arrays::arrays::SPANS;
+use run_arrays::arrays::WEIGHTS;
 use sheet::Node;
 use sheet::REGION_NUMBERS;
 use sheet::Sections;
@@ -120,4 +125,22 @@ pub fn lay_weights(s: &[u8], sections: Sections, sizes: Sizes, weights: &mut [u3
     crate::lengths::enter_spans(s, sections, &mut weights[SPANS..e]);
     let f = HEIGHTS + sizes.regions;
     lay_heights(s, sections, &mut weights[HEIGHTS..f]);
+}
+
+// All that a run of an accepted sheet reads: the division, then the graph, and the weights.
+pub fn lay_out(
+    s: &[u8],
+    sections: Sections,
+    sizes: Sizes,
+    fixed: &mut [u16; FIXED],
+    weights: &mut [u32; WEIGHTS],
+)
+    requires { ⌜ Outlined (now s) sections sizes ⌝ }
+    ensures { λ _. ⌜ Laid (now (s .entry)) (now (fixed .exit)) (now (weights .exit)) ⌝ }
+{
+    let mut parents = [0u16; REGIONS];
+    let mut firsts = [0u16; NODES];
+    lay_division(s, sections, sizes, &mut parents, fixed);
+    lay_graph(s, sections, sizes, &mut firsts, fixed);
+    lay_weights(s, sections, sizes, weights);
 }

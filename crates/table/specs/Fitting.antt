@@ -1,5 +1,5 @@
 -- What the functions over a sheet and a table ask of the two, and the table's columns for the sheet. Definitions.
-use Prim.Native.Nat.{ℕ, _<_}
+use Prim.Native.Nat.{ℕ, _≤_, _<_}
 use mathlib.Core.Path.{_≡_}
 use mathlib.Core.List.{List}
 use lib.ListN.{length}
@@ -10,13 +10,18 @@ use Rattle.sheet.specs.Inner.{Located}
 use Rattle.judgement.specs.Judgement.{Accepted}
 use Rattle.procedure.specs.Graph.{tail}
 use Rattle.procedure.specs.OfSheet.{graphOf}
-use Rattle.calls.specs.Tables.{tableLength, predecessorIn, labelsIn, predecessorsIn}
+use Rattle.calls.specs.Tables.{tableLength, longLength, predecessorIn, labelsIn, predecessorsIn}
 
--- an accepted sheet whose sections are found, and a table of its length
+-- an accepted sheet whose sections are found, and a table that begins with the usual words: in either form
 pub record Fitting (b : List ℕ) (sections : Sections) (table : List ℕ) : Type 0 where
   pub located : Located b sections
   pub accepted : Accepted b
-  pub sized : length table ≡ tableLength (nodeCount b)
+  pub sized : tableLength (nodeCount b) ≤ length table
+
+-- and behind them a word for each arc: the longer form
+pub record Long (b : List ℕ) (sections : Sections) (table : List ℕ) : Type 0 where
+  pub fitting : Fitting b sections table
+  pub long : length table ≡ longLength (nodeCount b) (arcCount b)
 
 -- and a node of the sheet whose predecessor is one of its arcs
 pub record Fed (b : List ℕ) (sections : Sections) (table : List ℕ) (v : ℕ) : Type 0 where

@@ -1,5 +1,6 @@
 // The answer table: its words, its length (21), what is read of it, and the table of a state written whole.
 pub mod header;
+pub mod keys;
 pub mod length;
 pub mod read;
 pub mod words;

@@ -22,6 +22,8 @@ pub const PREDECESSOR_KIND: u32 = 10;
 
 pub const COUNT_KIND: u32 = 11;
 
+pub const KEY_KIND: u32 = 12;
+
 pub fn status_word(ended: bool) -> u32
     ensures { λ w. ⌜ w ≡ statusWord ended ⌝ }
 {

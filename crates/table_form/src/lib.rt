@@ -1,23 +1,16 @@
 // Refusals 22 and 23 of a lent table: its form, and its status.
+pub mod keys;
 pub mod kinds;
 
 ghost use mathlib.Core.Path.{_≡_};
 ghost use Prim.Native.Nat.{_≤_};
 ghost use lib.ListN.{length};
-ghost use Rattle.calls.specs.Tables.{tableLength, statusIn};
+ghost use Rattle.calls.specs.Tables.{tableLength};
 ghost use Rattle.calls.specs.Routes.{malformed, isPaused};
 ghost use Rattle.table.specs.Fitting.{Fitting};
 use sheet::Sections;
 
-// The status.
-fn status(table: &[u32]) -> u32
-    requires { ⌜ tableLength 0 ≤ length (now table) ⌝ }
-    ensures { λ r. ⌜ r ≡ statusIn (now (table .entry)) ⌝ }
-{
-    sheet::payload_of(table[0])
-}
-
-// Refusal 22: a wrong kind, status or predecessor.
+// Refusal 22: a wrong kind, status, predecessor or key word.
 pub fn malformed(s: &[u8], sections: Sections, table: &[u32]) -> bool
     requires { ⌜ Fitting (now s) sections (now table) ⌝ }
     ensures { λ r. ⌜ r ≡ malformed (now (s .entry)) (now (table .entry)) ⌝ }
@@ -28,10 +21,13 @@ pub fn malformed(s: &[u8], sections: Sections, table: &[u32]) -> bool
     if crate::kinds::wrong_counts(table) {
         return true;
     }
-    if status(table) > 1 {
+    if table::read::status_of(table) > 1 {
         return true;
     }
-    crate::kinds::wrong_nodes(table, sheet::node_count(s) as u16, sections.arcs as u32)
+    if crate::kinds::wrong_nodes(table, sheet::node_count(s) as u16, sections.arcs as u32) {
+        return true;
+    }
+    crate::keys::wrong_keys(s, sections, table)
 }
 
 // Refusal 23: the table is paused.
@@ -39,5 +35,5 @@ pub fn is_paused(table: &[u32]) -> bool
     requires { ⌜ tableLength 0 ≤ length (now table) ⌝ }
     ensures { λ r. ⌜ r ≡ isPaused (now (table .entry)) ⌝ }
 {
-    status(table) == 0
+    table::read::status_of(table) == 0
 }

@@ -6,19 +6,24 @@ use mathlib.Core.Logic.{_≢_}
 use mathlib.Core.List.{List}
 use lib.ListN.{length}
 use Rattle.indices.specs.Columns.{at}
-use Rattle.indices.specs.Tests.{all}
 use Rattle.sheet.specs.declared.Sections.{Sections}
+use Rattle.sheet.specs.Words.{top}
 use Rattle.sheet.specs.Sections.{nodeCount, source}
+use Rattle.procedure.specs.Graph.{arcs}
 use Rattle.procedure.specs.OfSheet.{graphOf}
 use Rattle.theory_shortest.specs.TableTest.{leadsBack}
-use Rattle.table.specs.Fitting.{Fitting, predecessors}
+use Rattle.table.specs.Fitting.{Fitting, labels, predecessors, nodeBefore}
 use Rattle.sheet.specs.Limits.{nodeNumbers}
-use Rattle.table_shortest.specs.NodeChecks.{nodeFits}
+
+-- v's predecessor is an arc, and leads from a reached node
+pub record Onward (b table : List ℕ) (v : ℕ) : Type 0 where
+  pub is-arc : at (predecessors b table) v < arcs (graphOf b)
+  pub from-reached : at (labels b table) (nodeBefore b table v) ≢ top
 
 -- predecessors that can be followed back: every node but the source that is reached has one, from a reached node
 pub record Followable (b : List ℕ) (sections : Sections) (table : List ℕ) : Type 0 where
   pub fitting : Fitting b sections table
-  pub fit : all (nodeFits b table) (nodeCount b) ≡ true
+  pub onward : (v : ℕ) → v < nodeCount b → at (labels b table) v ≢ top → v ≢ source b → Onward b table v
 
 -- v leads back to the source
 abbrev pub leads : List ℕ → List ℕ → ℕ → Bool

@@ -22,7 +22,7 @@ pub fn source_fits(s: &[u8], sections: Sections, table: &[u32]) -> bool
 }
 
 // Whether an arc from a reached node leads to no higher label than it gives.
-fn arc_relaxed(s: &[u8], sections: Sections, table: &[u32], a: Arc) -> bool
+pub fn arc_relaxed(s: &[u8], sections: Sections, table: &[u32], a: Arc) -> bool
     requires { ⌜ Fitting (now s) sections (now table) × (a .0 < arcCount (now s)) ⌝ }
     ensures { λ r. ⌜ r ≡ arcRelaxed (now (s .entry)) (now (table .entry)) (a .0) ⌝ }
 {

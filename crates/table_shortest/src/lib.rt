@@ -18,7 +18,7 @@ fn not_shortest(s: &[u8], sections: Sections, table: &[u32]) -> bool
     if !crate::arcs::source_fits(s, sections, table) {
         return true;
     }
-    if !crate::nodes::nodes_fit(s, sections, table) {
+    if !crate::nodes::nodes_fit(s, sections, table, true) {
         return true;
     }
     if !crate::arcs::arcs_relaxed(s, sections, table) {

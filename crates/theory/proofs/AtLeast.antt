@@ -13,13 +13,14 @@ use Rattle.sheet.specs.Words.{top}
 use Rattle.procedure.specs.Graph.{Graph, arcs, tail, head}
 use Rattle.procedure.specs.Division.{Division, regions, arcOf, isLeaf}
 use Rattle.procedure.specs.State.{State}
-use Rattle.procedure.specs.Procedure.{relax, clearKey, processLeaf, rewriteKey, countAt, countInner, countRound, ended, start, after}
+use Rattle.procedure.specs.Procedure.{relax, clearKey, processLeaf, rewriteKey, countAt, countInner, countRound, ended, start, after, afterBy}
 use Rattle.theory_shortest.specs.Work.{reachedTails}
 use Rattle.theory_shortest.specs.WellFormed.{WellFormed}
 use Rattle.theory.specs.Sound.{Shape}
 use Rattle.theory.proofs.Process.{relax-elim}
 use Rattle.theory.proofs.Grows.{leaf-counts}
-use Rattle.theory.proofs.Lift.{Kept, after-keeps}
+use Rattle.theory.proofs.Start.{start-shape, start-sound}
+use Rattle.theory.proofs.Lift.{Kept, rounds-keep}
 use Rattle.theory.proofs.Scanned.{scanned, scannedArcs, cleared-one, lowered-out, lowered-other}
 use Rattle.theory.proofs.Next.{start-scans-none, ended-scanned}
 
@@ -65,10 +66,10 @@ module _ {most : ℕ} {g : Graph} {d : Division} {spans : List ℕ} (ok : WellFo
   }
 
   after-scanned : (k : ℕ) → scannedIn g (after g d spans k) ≤ after g d spans k .leaves
-  unfolding start countRound
+  unfolding start countRound afterBy
   after-scanned k =
-      after-keeps ok (λ s. scannedIn g s ≤ s .leaves) scans-kept (λ s p. p) (λ s p. p)
-      (omega (arith, start-scans-none ok)) k .kept
+      rounds-keep ok (λ s. scannedIn g s ≤ s .leaves) scans-kept (λ s p. p) (λ s p. p) k (start g d)
+      (record { shape = start-shape ok; sound = start-sound ok; kept = omega (arith, start-scans-none ok) }) .kept
 
   -- no ended run works fewer leaves than there are arcs with a reached tail
   pub no-fewer-leaves : (k : ℕ) → ended g d (after g d spans k) ≡ true → reachedTails g (after g d spans k .labels) ≤ after g d spans k .leaves

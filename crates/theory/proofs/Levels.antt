@@ -15,7 +15,7 @@ use Rattle.sheet.proofs.Heights.{root-highest}
 use Rattle.procedure.specs.Graph.{Graph}
 use Rattle.procedure.specs.Division.{Division, regions, parent, arcOf, isLeaf, height, level}
 use Rattle.procedure.specs.State.{State}
-use Rattle.procedure.specs.Procedure.{clearKey, processLeaf, rewriteKey, countInner, countRound, ended, start, round, after, afterBy, countAt, roundBy}
+use Rattle.procedure.specs.Procedure.{clearKey, processLeaf, rewriteKey, countInner, countRound, ended, start, round, more, after, afterBy, countAt, roundBy}
 use Rattle.theory_shortest.specs.WellFormed.{DivisionOk}
 use Rattle.theory.specs.Counts.{Levelled}
 use Rattle.theory.proofs.Process.{relax-elim, inner-high, Invariant, process-invariant}
@@ -78,8 +78,10 @@ module _ (g : Graph) {m : ℕ} {d : Division} (ok : DivisionOk m d) where
     round-levels s p =
         process-invariant g d spans ok levels-invariant 0 (countRound g d s) (ok .nesting .root) (record { fifteen = p .fifteen; unused = p .unused })
 
-    -- "fifteen, for heights 1 to 15, zero where unused", after any number of rounds
+    -- "fifteen, for heights 1 to 15, zero where unused", after any number of rounds more, from a state that has them
+    pub more-levels : (k : ℕ) (s : State) → Levelled d s → Levelled d (more g d spans k s)
+    more-levels = times-keeps (λ s. Levelled d s) (λ s. not (ended g d s)) (round g d spans) (λ s _ p. round-levels s p)
+
     pub after-levels : (k : ℕ) → Levelled d (after g d spans k)
     unfolding afterBy
-    after-levels k =
-        times-keeps (λ s. Levelled d s) (λ s. not (ended g d s)) (round g d spans) (λ s _ p. round-levels s p) k (start g d) start-levels
+    after-levels k = more-levels k (start g d) start-levels

@@ -21,7 +21,7 @@ use Rattle.theory.specs.Work.{LeastKey}
 use Rattle.theory.proofs.Chosen.{chosen-of-key, minKey-leaf}
 use Rattle.theory.proofs.Labels.{top-positive}
 use Rattle.theory.proofs.Start.{firstLabels, other-first, start-changes}
-use Rattle.theory.proofs.Final.{after-shape, after-sound, root-least, ended-unkeyed}
+use Rattle.theory.proofs.Final.{after-shape, after-sound, root-least, sound-unkeyed}
 use Rattle.theory.proofs.Scanned.{scannedArcs, scanned-no, scanned-unkeyed, ScannedInOrder, InOrder, leaf-in-order}
 
 -- region r has region 0's smallest key, in a state that is sound between two leaves and in order
@@ -81,7 +81,7 @@ module _ {most : ℕ} {g : Graph} {d : Division} {spans : List ℕ} (ok : WellFo
       → scannedArcs g (after g d spans k .labels) (after g d spans k .queues .own) ≡ reachedTails g (after g d spans k .labels)
   ended-scanned k e =
       let s = after g d spans k in
-      count-ext _ _ (arcs g) (λ a la. scanned-unkeyed g (s .labels) (s .queues .own) a (ended-unkeyed ok k e a la))
+      count-ext _ _ (arcs g) (λ a la. scanned-unkeyed g (s .labels) (s .queues .own) a (sound-unkeyed ok s (after-shape ok k) (after-sound ok k) e a la))
 
   -- so one that has ended in order has worked as many leaves as there are of these
   pub ended-leaves : (k : ℕ) → ended g d (after g d spans k) ≡ true → InOrder g (after g d spans k)

@@ -12,19 +12,14 @@ use Rattle.indices.proofs.Steps.{set-elim, by-equal, by-truth}
 use Rattle.sheet.specs.Words.{top}
 use Rattle.procedure.specs.Graph.{Graph, arcs, tail}
 use Rattle.procedure.specs.Division.{Division, regions, arcOf, isLeaf}
-use Rattle.procedure.specs.State.{Queues}
 use Rattle.procedure.specs.Procedure.{start}
 use Rattle.theory_shortest.specs.Settled.{home}
 use Rattle.theory_shortest.specs.WellFormed.{WellFormed}
-use Rattle.theory.specs.Sound.{Sized, Shape, Valued, Sound, Root}
+use Rattle.theory.specs.Sound.{Sized, Shape, Valued, Sound, Root, noKeys}
 use Rattle.theory.proofs.Chosen.{minKey-leaf, minKey-all-none}
 use Rattle.theory.proofs.Smallest.{Closed}
 use Rattle.theory.proofs.Outgoing.{Outgoing, outgoing-changes, outgoing-sized, outgoing-valued}
 use Rattle.theory.proofs.Labels.{few-arcs, top-positive}
-
--- the queues before the first update: no key
-abbrev pub noKeys : Graph → Division → Queues
-noKeys g d = record { own = replicate (arcs g) top; keys = replicate (regions d) top; updates = 0 }
 
 -- the labels at the start
 abbrev pub firstLabels : Graph → List ℕ
@@ -43,7 +38,7 @@ module _ {most : ℕ} {g : Graph} {d : Division} {spans : List ℕ} (ok : WellFo
     capped = λ a la. rw (getD-replicate (arcs g) a top 0 la) (le-refl top);
   }
 
-  noKeys-valued : Valued d Root (noKeys g d)
+  pub noKeys-valued : Valued d Root (noKeys g d)
   noKeys-valued y py ly out =
       getD-replicate (regions d) y top 0 ly
       ∙ sym (by-truth (isLeaf d y)

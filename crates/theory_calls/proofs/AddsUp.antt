@@ -4,7 +4,7 @@ use Prim.Native.Nat.{ℕ, _+_, _^_, _≤_, _<_}
 use mathlib.Core.Path.{_≡_, refl, sym, _∙_}
 use mathlib.Core.List.{List, [], _∷_}
 use native.Mathlib.Omega.{arith}
-use lib.ListN.{drop}
+use lib.ListN.{length, drop}
 use Rattle.indices.specs.Columns.{at}
 use Rattle.indices.specs.Tests.{total}
 use Rattle.indices.proofs.Totals.{total-same, total-le}
@@ -16,17 +16,21 @@ use Rattle.procedure.specs.OfSheet.{graphOf, divisionOf, spansOf}
 use Rattle.procedure.specs.State.{State, counts}
 use Rattle.procedure.specs.Procedure.{alive, ended}
 use Rattle.procedure.specs.Table.{innerPlace, updatesPlace, headerLength, nodeWords, tableOf}
-use Rattle.theory.proofs.Final.{few-each-way, after-small}
+use Rattle.theory.proofs.Final.{few-each-way, after-inner-low}
 use Rattle.theory.proofs.Joined.{joined, after-joined}
 use Rattle.calls.specs.Tables.{countIn}
 use Rattle.calls.specs.Runs.{stateAfter, endedAfter, runTable}
 use Rattle.calls.specs.AsBefore.{stateBefore, tableBefore, AddsUp}
 use Rattle.calls.proofs.Reading.{words-all, behind-header, count-in}
-use Rattle.theory_calls.proofs.Delivered.{well, counts-all, counts-small, update-count, table-counts, table-levels}
+use Rattle.calls.proofs.Counts.{counts-length, update-count}
+use Rattle.theory_calls.proofs.Delivered.{well, run-tabled, delivered}
 
 module _ (b : List ℕ) (ok : Accepted b) (k : ℕ) where
   abbrev s : State
   s = stateAfter b k
+
+  fifteen : length (s .inner) ≡ mostSpans
+  fifteen = run-tabled b ok k .levelled .fifteen
 
   abbrev sum : ℕ
   sum = total (at (s .inner)) mostSpans
@@ -53,12 +57,12 @@ module _ (b : List ℕ) (ok : Accepted b) (k : ℕ) where
 
   sum-small : sum < 2 ^ 56
   sum-small =
-      let each = after-small (well b ok) few-each-way k .inner in
+      let each = after-inner-low (well b ok) few-each-way k in
       omega (arith, total-le (at (s .inner)) mostSpans (2 ^ 50) (λ i _. let l : at (s .inner) i ≤ 2 ^ 50 = omega (arith, each i) in l))
 
   -- the fifteen of the table
   summed : total (λ i. countIn (runTable b k) (innerPlace + i)) mostSpans ≡ sum
-  summed = total-same (at (s .inner)) (λ i. countIn (runTable b k) (innerPlace + i)) mostSpans (table-levels b ok k)
+  summed = total-same (at (s .inner)) (λ i. countIn (runTable b k) (innerPlace + i)) mostSpans (delivered b ok k .levels)
 
   first-word : at (tableBefore b k) 0 ≡ at (runTable b k) 0
   unfolding runTable tableOf
@@ -66,13 +70,14 @@ module _ (b : List ℕ) (ok : Accepted b) (k : ℕ) where
 
   node-words : drop headerLength (runTable b k) ≡ nodeWords (s .labels) (s .predecessors) (nodeCount b)
   unfolding runTable
-  node-words = rw (counts-all b ok k) at (behind-header (endedAfter b k) (counts s) (s .labels) (s .predecessors) (nodeCount b))
+  node-words = rw (counts-length s fifteen) at (behind-header (endedAfter b k) (counts s) (s .labels) (s .predecessors) (nodeCount b))
 
   pub adds-up : AddsUp b k
   adds-up =
-      let small = counts-small b ok k in
-      let same = table-counts b ok k in
-      let updated = update-count b ok k in
+      let D = delivered b ok k in
+      let small = D .small in
+      let same = D .halves in
+      let updated = update-count s fifteen in
       record {
         long = rw old-table (words-all (endedAfter b k) four (s .labels) (s .predecessors) (nodeCount b));
         status = first-word;

@@ -1,3 +1,4 @@
+pub mod Formed
 pub mod Delivered
 pub mod Limited
 pub mod Halls

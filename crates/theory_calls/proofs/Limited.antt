@@ -10,21 +10,22 @@ use Rattle.indices.proofs.Steps.{by-order, by-truth}
 use Rattle.procedure.specs.Graph.{Graph}
 use Rattle.procedure.specs.Division.{Division}
 use Rattle.procedure.specs.State.{State}
-use Rattle.procedure.specs.Procedure.{enoughRounds, ended, after, final}
+use Rattle.procedure.specs.Procedure.{enoughRounds, ended, start, after, final, afterBy}
 use Rattle.theory_shortest.specs.WellFormed.{WellFormed}
 use Rattle.judgement.specs.Judgement.{Accepted}
 use Rattle.theory.proofs.Final.{few-each-way, next-round, rounds-in-parts, ended-stays, final-ended, ended-final}
 use Rattle.theory.proofs.Counts.{round-more, still-running}
 use Rattle.theory.proofs.Grows.{rounds-grow}
-use Rattle.calls.specs.Runs.{stateAfter, runAnswer, runTable, tableAfter}
+use Rattle.calls.specs.Runs.{stateAfter, runAnswer, runTable, longRunTable, filledTable, tableAfter}
 use Rattle.theory_calls.proofs.Delivered.{well}
 
 module _ {most : ℕ} {g : Graph} {d : Division} {spans : List ℕ} (ok : WellFormed most g d spans) where
   -- a run that has not ended after k rounds has counted k, and one round more counts one more
   counted-next : (k : ℕ) → ended g d (after g d spans k) ≡ false → suc k ≤ after g d spans (suc k) .rounds
+  unfolding afterBy
   counted-next k on =
       let e = ap (λ (n : ℕ). after g d spans n .rounds) (sym (add-one k)) ∙ ap (λ (s : State). s .rounds) (next-round g d spans k on) in
-      omega (arith, e, still-running ok k (rw on tt), round-more ok (after g d spans k))
+      omega (arith, e, still-running ok k (start g d) (rw on tt), round-more ok (after g d spans k))
 
   -- and the run to its end has counted more
   more-to-come : (k : ℕ) → k < enoughRounds → ended g d (after g d spans k) ≡ false → k < final g d spans .rounds
@@ -63,5 +64,5 @@ module _ (b : List ℕ) (ok : Accepted b) (k : ℕ) (l : stateAfter b enoughRoun
   same-answer table = rw same-run
 
   pub same-table : (table : List ℕ) → tableAfter b k table ≡ tableAfter b enoughRounds table
-  unfolding tableAfter
-  same-table table = rw same-run
+  unfolding tableAfter filledTable longRunTable
+  same-table table = rw (same-run, same-state)

@@ -4,7 +4,7 @@ use Prim.Native.Nat.{ℕ}
 use mathlib.Core.Bool.{Bool}
 use mathlib.Core.List.{List, [], _∷_, _++_, map}
 use mathlib.Core.Path.{_≡_, refl}
-use lib.ListN.{replicate}
+use lib.ListN.{set, replicate}
 use Rattle.indices.specs.Columns.{column}
 use Rattle.indices.specs.Steps.{if_then_else_, upTo, times}
 use Rattle.indices.specs.Tests.{all, any, count, lead, most, least}
@@ -41,26 +41,32 @@ use Rattle.procedure.specs.Procedure.{
   roundBy,
   afterBy,
 }
-use Rattle.procedure.specs.Table.{nodeWords, tableOf}
+use Rattle.procedure.specs.Table.{nodeWords, tableOf, keyWords}
 use Rattle.procedure.specs.Routes.{followed}
 use Rattle.canonical_form.specs.Numbering.{sooner, ancestor, holds, lowestArc, pathFor, path, newNumber, oldNumber}
 use Rattle.canonical_form.specs.Canonical.{newWord, frontWords, newWords, canonical}
 use Rattle.canonical_form.proofs.Cases.{neatHallA, renumbered, tied, tiedRenumbered}
-use Rattle.theory_shortest.specs.TableTest.{leadsBack, sourceTest, unfedTest, fedTest, relaxedTest, ledTest, settled?}
-use Rattle.calls.specs.Tables.{tableLength, wrongLength, statusSays, statusIn, roundsIn, leavesIn, predecessorIn, labelsIn, predecessorsIn}
+use Rattle.theory_shortest.specs.TableTest.{leadsBack, sourceTest, unfedTest, fedBy, relaxedTest, ledTest, settled?}
+use Rattle.calls.specs.Tables.{tableLength, longLength, isUsual, isLong, wrongLength, statusSays, statusIn, roundsIn, leavesIn, predecessorIn}
+use Rattle.calls.specs.Tables.{labelsIn, predecessorsIn}
 use Rattle.calls.specs.Work.{allSpansOne, leavesOnRoot, reachedArcs}
-use Rattle.calls.specs.Runs.{runAnswer, runTable, tableAfter}
-use Rattle.calls.specs.Routes.{nodeOutside, wrongNode, isPaused, malformed, notShortest, tableRefusals, routeTo, foundRoute, routeAnswer, leftBy, bufferAfter}
+use Rattle.calls.specs.Runs.{runAnswer, runTable, longRunTable, filledTable, tableAfter}
+use Rattle.calls.specs.Routes.{nodeOutside, wrongNode, wrongKeys, isPaused, malformed, notShortest, tableRefusals, routeTo, foundRoute, routeAnswer}
+use Rattle.calls.specs.Routes.{leftBy, bufferAfter}
+use Rattle.calls.specs.LongTables.{longTable, hasKey, ownIn, keysOf, stateIn}
+use Rattle.calls.specs.Possible.{boundTest, keylessTest, doneTest, soundTest, countsTest, statusTest, possible?}
+use Rattle.calls.specs.Resume.{notLong, notPossible, resumed, resumedTable, resumeAnswer, resumeTable}
 use Rattle.calls.specs.AsBefore.{tableBefore}
 use Rattle.calls.specs.Canonical.{canonicalAnswer, outAfter}
 use Rattle.calls.proofs.Cases.{header, byTwosEnded, patientPaused}
+use Rattle.calls.proofs.ResumeCases.{usualA, pausedA, endedA}
 use Rattle.listing.specs.Text.{ascii, lastDigits, decimal}
 use Rattle.listing.specs.Listing.{cell, spaced, status, counted, levels, inner, statusLine, nodeLine, nodeLines, listingOf, refusedLine}
 use Rattle.listing.specs.Printed.{printed}
 
 -- a call as a case names it: to judge a sheet, given by its words; to run it for at most so many rounds, with a table lent; to read the route to a node
 -- out of a table, with a buffer lent; what `marks` does, to run a sheet to its end and print; to run it as it was before request 2026-02; to run it and
--- look at the work done; to write its canonical form into a buffer of bytes
+-- look at the work done; to write its canonical form into a buffer of bytes; to resume it for at most so many rounds, with a table lent
 pub data Task : Type 0 where
   judge : List ℕ → Task
   run : List ℕ → ℕ → List ℕ → Task
@@ -69,6 +75,7 @@ pub data Task : Type 0 where
   runBefore : List ℕ → ℕ → Task
   work : List ℕ → ℕ → Task
   copy : List ℕ → List ℕ → Task
+  resume : List ℕ → ℕ → List ℕ → Task
 
 -- a condition as a figure: 1 where it holds
 abbrev figure : Bool → ℕ
@@ -89,6 +96,7 @@ outcome (run ws k table) = record { answer = runAnswer (bytesOf ws) k table; wor
 outcome (runBefore ws k) = let table = tableBefore (bytesOf ws) k in record { answer = statusSays (statusIn table); words = table }
 outcome (work ws k) = let table = runTable (bytesOf ws) k in record { answer = statusSays (statusIn table); words = workIn (bytesOf ws) table }
 outcome (copy ws out) = record { answer = canonicalAnswer (bytesOf ws) out; words = outAfter (bytesOf ws) out }
+outcome (resume ws k table) = record { answer = resumeAnswer (bytesOf ws) table k; words = resumeTable (bytesOf ws) table k }
 outcome (print ws) = record { answer = judgement (bytesOf ws); words = printed (bytesOf ws) }
 outcome (readRoute ws table node buffer) =
     record { answer = routeAnswer (bytesOf ws) table node buffer; words = bufferAfter (bytesOf ws) table node buffer }
@@ -117,6 +125,10 @@ spanless = 0x10000001 ∷ 0x20000000 ∷ []
 -- a table for n nodes, not yet written
 abbrev blank : ℕ → List ℕ
 blank n = replicate (tableLength n) 0
+
+-- the same in the longer form, with so many arcs
+abbrev blankLong : ℕ → ℕ → List ℕ
+blankLong n m = replicate (longLength n m) 0
 
 -- A's finished table, with the last word of its counts and the label of node 3 as said; and with the last word that it has
 abbrev finished : ℕ → ℕ → List ℕ
@@ -259,6 +271,28 @@ rows =
     ++ ascii "2 1 1\n"
     ++ ascii "3 8 3\n"
     )
+    -- 2026-06: "after the usual words, one per arc, kind 12, payload 1 if the arc's leaf has a key, else 0": hall A at its end, after one round, at the start
+    ∷ run hallA enoughRounds (blankLong 4 4) is ended leaving endedA 0xb0000003 0xb0000003
+    ∷ run hallA 1 (blankLong 4 4) is paused leaving pausedA
+    ∷ run hallA 0 (blankLong 4 4) is paused leaving (
+    header 0x80000000 0xb0000000 0xb0000000 0xb0000000 0xb0000000 0xb0000006
+    ++ (0x90000000 ∷ 0xafffffff ∷ 0x9fffffff ∷ 0xafffffff ∷ 0x9fffffff ∷ 0xafffffff ∷ 0x9fffffff ∷ 0xafffffff ∷ [])
+    ++ (0xc0000001 ∷ 0xc0000001 ∷ 0xc0000000 ∷ 0xc0000000 ∷ [])
+    )
+    -- "21 then means neither form"
+    ∷ run hallA 1 (replicate 48 7) is refused (state 21) leaving replicate 48 7
+    -- "the route reader takes either, a key word above 1 being 22"
+    ∷ readRoute hallA (endedA 0xb0000003 0xb0000003) 3 (0 ∷ 0 ∷ 0 ∷ 7 ∷ []) is route 3 leaving (1 ∷ 2 ∷ 3 ∷ 7 ∷ [])
+    ∷ readRoute hallA (finishedA 0x90000008 ++ (0xc0000000 ∷ 0xc0000000 ∷ 0xc0000000 ∷ 0xc0000002 ∷ [])) 3 (7 ∷ []) is refused (state 22) leaving (7 ∷ [])
+    -- "Going on": the rest of hall A, and the rest with a span of 1 at both heights; an ended table stays
+    ∷ resume hallA enoughRounds pausedA is ended leaving endedA 0xb0000003 0xb0000003
+    ∷ resume patient enoughRounds pausedA is ended leaving endedA 0xb0000004 0xb0000004
+    ∷ resume hallA 0 pausedA is paused leaving pausedA
+    ∷ resume patient 1 (endedA 0xb0000003 0xb0000003) is ended leaving endedA 0xb0000003 0xb0000003
+    -- 14, "32, table not of the longer length", 33: it says that it has ended, and a leaf has a key
+    ∷ resume spanless 1 (replicate (tableLength 1) 7) is refused (input 14) leaving replicate (tableLength 1) 7
+    ∷ resume hallA 1 usualA is refused (state 32) leaving usualA
+    ∷ resume hallA 1 (set pausedA 0 0x80000001) is refused (state 33) leaving set pausedA 0 0x80000001
     ∷ []
 
 -- Where ties decide (2026-04): hall A and the same nesting under other numbers, and both with arc 0 shortened, all accepted; how many rounds the first two
@@ -284,10 +318,12 @@ unfolding any count lead most upTo times column word kind payload top spansFrom 
     sourceOutside spansOutside tooMany endsOutside lengthsOutside crowdedNodes tooManyAtNode wrongParents wrongLeaves childlessRegions spansDiffer leafOf
     graphOf divisionOf spansOf before choose minItemBelow minItem minKey write updateFor update updateArc updateOutgoing relax clearKey processLeaf
     rewriteKey countAt countInner countInnerBefore countRound processChild alive hasEnded start processForBy processBy roundBy afterBy nodeWords tableOf
-    wrongLength runAnswer runTable tableAfter tableBefore all labelsIn predecessorsIn followed leadsBack sourceTest unfedTest fedTest relaxedTest ledTest
-    settled? nodeOutside wrongNode isPaused malformed notShortest tableRefusals routeTo foundRoute routeAnswer leftBy bufferAfter lastDigits decimal cell
-    spaced status counted levels inner statusLine nodeLine nodeLines listingOf refusedLine printed allSpansOne leavesOnRoot reachedArcs
-    least sooner ancestor holds lowestArc pathFor path newNumber oldNumber newWord frontWords newWords canonical canonicalAnswer outAfter
+    keyWords isUsual isLong wrongLength runAnswer runTable longRunTable filledTable tableAfter tableBefore all labelsIn predecessorsIn followed leadsBack
+    sourceTest unfedTest fedBy relaxedTest ledTest settled? nodeOutside wrongNode wrongKeys isPaused malformed notShortest tableRefusals routeTo foundRoute
+    routeAnswer leftBy bufferAfter lastDigits decimal cell spaced status counted levels inner statusLine nodeLine nodeLines listingOf refusedLine printed
+    allSpansOne leavesOnRoot reachedArcs least sooner ancestor holds lowestArc pathFor path newNumber oldNumber newWord frontWords newWords canonical
+    canonicalAnswer outAfter longTable hasKey ownIn keysOf stateIn boundTest keylessTest doneTest soundTest countsTest statusTest possible? notLong
+    notPossible resumed resumedTable resumeAnswer resumeTable
 computed = record {
   each-row = refl;
   tied-halls = record {

@@ -59,7 +59,7 @@ module _ (b b′ : List ℕ) (ok : Accepted b) (ok′ : Accepted b′) (same : h
   same-reached-arcs =
       reached-tails b ok table (D .bounded)
       ∙ ap (λ (g : Graph). reachedTails g (labelsIn (nodeCount b) table)) (same-graph b b′ ok ok′ same)
-      ∙ ap (reachedTails (graphOf b′)) (same-distances b b′ ok ok′ same D D′ e e′)
+      ∙ ap (reachedTails (graphOf b′)) (same-distances b b′ ok ok′ same table table′ (D .shortest e) (D′ .shortest e′))
       ∙ sym (reached-tails b′ ok′ table′ (D′ .bounded))
 
   -- two sheets with all spans 1 have the same rounds and leaves, whatever their divisions

@@ -14,15 +14,19 @@ use Rattle.procedure.specs.Graph.{Graph, arcs, tail, head, len}
 use Rattle.procedure.specs.Routes.{Route, routeLength, followed, chainTo, Shortest}
 use Rattle.theory_shortest.specs.WellFormed.{GraphOk}
 use Rattle.theory_shortest.specs.Settled.{LeadsBack, home as led-home, back as led-back, Settled}
-use Rattle.theory_shortest.proofs.Routes.{route-none, route-none-ends, route-more, route-last, length-none, length-more, along-route, followed-none, followed-home, followed-back}
-use Rattle.theory_shortest.proofs.Depth.{Depth, home, back, depth-below, chain-arcs}
+use Rattle.theory_shortest.proofs.Routes.{route-none, route-more, route-last, length-none, length-more, along-route, followed-home, followed-back}
+use Rattle.theory_shortest.proofs.Depth.{Depth, home, back, depth-below, chain-arcs, depth-route, followed-depth, led-depth}
 
--- v's predecessor is an arc that leads to it from a reached node, and v's label allows for just that arc.
-pub record Fed (g : Graph) (labels predecessors : List ℕ) (v : ℕ) : Type 0 where
+-- v's predecessor is an arc that leads to it from a reached node, and v's label allows for that arc
+pub record FedBy (Allows : ℕ → ℕ → Type 0) (g : Graph) (labels predecessors : List ℕ) (v : ℕ) : Type 0 where
   pub is-arc : at predecessors v < arcs g
   pub to-node : head g (at predecessors v) ≡ v
   pub from-reached : at labels (tail g (at predecessors v)) ≢ top
-  pub tight : at labels (tail g (at predecessors v)) + len g (at predecessors v) ≡ at labels v
+  pub allows : Allows (at labels (tail g (at predecessors v)) + len g (at predecessors v)) (at labels v)
+
+-- its label allows for just that arc
+abbrev pub Fed : Graph → List ℕ → List ℕ → ℕ → Type 0
+Fed = FedBy (λ sum label. sum ≡ label)
 
 -- The predecessors lead back to the source from every reached node, labels are tight along them, and every arc from a reached node is relaxed.
 pub record TightTree (g : Graph) (labels predecessors : List ℕ) : Type 0 where
@@ -40,7 +44,7 @@ module _ {most : ℕ} (g : Graph) (ok : GraphOk most g) (labels predecessors : L
     label-low (home l e) r = rw (e, t .source-label) (omega arith)
     label-low (back {v = v} l n p) r =
         let f = t .fed v l r n in
-        omega (arith, f .tight, label-low p (f .from-reached), ok .short (at predecessors v) (f .is-arc))
+        omega (arith, f .allows, label-low p (f .from-reached), ok .short (at predecessors v) (f .is-arc))
 
     -- a reached label and one arc more is still below 'unreached'
     room : (v : ℕ) → v < g .nodes → at labels v ≢ top → at labels v + mostLength < top
@@ -65,24 +69,27 @@ module _ {most : ℕ} (g : Graph) (ok : GraphOk most g) (labels predecessors : L
             let small = room (tail g a) (p .is-node) (p .reached) in
             record { is-node = ok .head-in a la; reached = omega (arith, ok .short a la); no-longer = omega (arith, p .no-longer) }
 
-    -- the predecessors followed from v, in enough steps, are a route of just its label's length
-    chain-route : {v d : ℕ} (m : ℕ) → Depth g predecessors v d → d ≤ m → at labels v ≢ top
-        → Route g (g .source) (followed g predecessors m v) v × (routeLength g (followed g predecessors m v) ≡ at labels v)
-    chain-route {v} m (home l e) lm r =
-        rw (followed-home g predecessors m v e) (route-none g (g .source) v (sym e), length-none g ∙ sym (t .source-label) ∙ ap (at labels) (sym e))
-    chain-route zero (back l n p) lm r = absurd (omega arith)
-    chain-route {v} (suc m) (back l n p) lm r =
+    -- the predecessors followed from v, in enough steps, have just its label's length
+    chain-length : {v d : ℕ} (m : ℕ) → Depth g predecessors v d → d ≤ m → at labels v ≢ top → routeLength g (followed g predecessors m v) ≡ at labels v
+    chain-length {v} m (home l e) lm r =
+        rw (followed-home g predecessors m v e) (length-none g ∙ sym (t .source-label) ∙ ap (at labels) (sym e))
+    chain-length zero (back l n p) lm r = absurd (omega arith)
+    chain-length {v} (suc m) (back l n p) lm r =
         let f = t .fed v l r n in
         let a = at predecessors v in
-        let rest = chain-route m p (omega arith) (f .from-reached) in
-        rw (followed-back g predecessors m v n) (
-          route-more g (g .source) (followed g predecessors m (tail g a)) a v (rest .0) (f .is-arc) (f .to-node),
-          length-more g (followed g predecessors m (tail g a)) a ∙ ap (λ (x : ℕ). x + len g a) (rest .1) ∙ f .tight,
-        )
+        rw (followed-back g predecessors m v n)
+        (length-more g (followed g predecessors m (tail g a)) a ∙ ap (λ (x : ℕ). x + len g a) (chain-length m p (omega arith) (f .from-reached)) ∙ f .allows)
 
+    -- and are a route
     chain-shortest : (v : ℕ) → v < g .nodes → at labels v ≢ top
         → Route g (g .source) (chainTo g predecessors v) v × (routeLength g (chainTo g predecessors v) ≡ at labels v)
-    chain-shortest v l r = let p = t .led v l r in chain-route (g .nodes) (p .1) (omega (arith, depth-below g predecessors (p .1))) r
+    chain-shortest v l r =
+        let p = t .led v l r in
+        let few : p .0 ≤ g .nodes = omega (arith, depth-below g predecessors (p .1)) in
+        let route = depth-route g predecessors (λ u. (u < g .nodes) × (at labels u ≢ top))
+        (λ u q n. let f = t .fed u (q .0) (q .1) n in (f .is-arc, f .to-node, (ok .tail-in (at predecessors u) (f .is-arc), f .from-reached)))
+        (g .nodes) (p .1) few (l, r) in
+        (route, chain-length (g .nodes) (p .1) few r)
 
     -- A tight tree is shortest.
     pub tree-shortest : Shortest g labels predecessors
@@ -101,18 +108,6 @@ module _ {most : ℕ} (g : Graph) (ok : GraphOk most g) (labels predecessors : L
     -- a node that a route leads to is reached
     reached-by : (v : ℕ) → v < g .nodes → (way : List ℕ) → Route g (g .source) way v → at labels v ≢ top
     reached-by v l way r e = s .unreached v l .0 e way r
-
-    -- the predecessors followed from v, where they are a route, have a depth
-    followed-depth : (n v : ℕ) → v < g .nodes → Route g (g .source) (followed g predecessors n v) v → (d : ℕ) × Depth g predecessors v d
-    followed-depth zero v l r = (0, home l (sym (route-none-ends g (g .source) v (rw followed-none at r))))
-    followed-depth (suc n) v l r =
-        by-equal v (g .source)
-        (λ e. (0, home l e))
-        (λ e.
-        let a = at predecessors v in
-        let p = route-last g (g .source) (followed g predecessors n (tail g a)) a v (rw (followed-back g predecessors n v e) at r) in
-        let q = followed-depth n (tail g a) (ok .tail-in a (p .1)) (p .0) in
-        (suc (q .0), back l e (q .1)))
 
     -- one arc more on the chain to its tail is a route
     shortest-relaxed : (a : ℕ) → a < arcs g → at labels (tail g a) ≢ top → at labels (head g a) ≤ at labels (tail g a) + len g a
@@ -136,7 +131,7 @@ module _ {most : ℕ} (g : Graph) (ok : GraphOk most g) (labels predecessors : L
           is-arc = q .1;
           to-node = q .2;
           from-reached = from-reached;
-          tight = omega (
+          allows = omega (
             arith,
             s .least (tail g a) from way (q .0),
             shortest-relaxed a (q .1) from-reached,
@@ -155,7 +150,7 @@ module _ {most : ℕ} (g : Graph) (ok : GraphOk most g) (labels predecessors : L
       unfed = s .unfed;
       fed = λ v l. shortest-fed (pred (g .nodes)) v (omega arith) l;
       relaxed = shortest-relaxed;
-      led = λ v l r. followed-depth (g .nodes) v l (s .chain v l r .0);
+      led = λ v l r. followed-depth ok predecessors (g .nodes) v l (s .chain v l r .0);
     }
 
     -- the chain of a reached node has fewer arcs than there are nodes
@@ -169,11 +164,6 @@ module _ {most : ℕ} (g : Graph) (ok : GraphOk most g) (labels predecessors : L
     below : (v : ℕ) → v < g .nodes → at labels v ≢ top → at labels v < top
     below v l r = let cap = s .capped v l in omega arith
 
-    led-depth : {v : ℕ} → LeadsBack g labels predecessors v → v < g .nodes → (d : ℕ) × Depth g predecessors v d
-    led-depth (led-home e) l = (0, home l e)
-    led-depth {v} (led-back a la e to down rest) l =
-        by-equal v (g .source) (λ h. (0, home l h)) (λ n. let p = led-depth rest (ok .tail-in a la) in (suc (p .0), back l n (rw e (p .1))))
-
     led-fed : {v : ℕ} → LeadsBack g labels predecessors v → v < g .nodes → at labels v ≢ top → v ≢ g .source → Fed g labels predecessors v
     led-fed (led-home e) l r n = absurd (n e)
     led-fed {v} (led-back a la e to down rest) l r n =
@@ -182,7 +172,7 @@ module _ {most : ℕ} (g : Graph) (ok : GraphOk most g) (labels predecessors : L
           is-arc = rw e la;
           to-node = rw e to;
           from-reached = rw e (omega arith);
-          tight = rw e (omega (arith, s .relaxed a la (omega arith), ap (at labels) to));
+          allows = rw e (omega (arith, s .relaxed a la (omega arith), ap (at labels) to));
         }
 
     -- Where no leaf has a key there is a tight tree.
@@ -193,7 +183,7 @@ module _ {most : ℕ} (g : Graph) (ok : GraphOk most g) (labels predecessors : L
       unfed = s .unfed;
       fed = λ v l r. led-fed (s .led v l (below v l r)) l r;
       relaxed = λ a la r. s .relaxed a la (below (tail g a) (ok .tail-in a la) r);
-      led = λ v l r. led-depth (s .led v l (below v l r)) l;
+      led = λ v l r. led-depth ok (s .led v l (below v l r)) l;
     }
 
 -- Where no leaf has a key, labels and predecessors are shortest.

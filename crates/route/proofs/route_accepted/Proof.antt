@@ -59,8 +59,8 @@ route-accepted-spec =
     (λ c κs. search (needs, front-there))
     returns
     (λ c κs. search (needs, front-there))
+    (λ c κs. (search needs, search needs))
     returns-2
-    (λ c κs. search (needs, front-there))
     (λ c κs. table-fits (search needs) (search needs) (sized (search needs)))
     returns-3
     (λ c. omega (arith, few-nodes, node-below _ _ (below (search needs))))

@@ -6,8 +6,7 @@ use Rattle.indices.specs.Steps.{if_then_else_}
 use Rattle.answer.specs.Answer.{ended, paused}
 use Rattle.judgement.proofs.Accepted.{front-there}
 use Rattle.calls.specs.Tables.{wrongLength}
-use Rattle.calls.proofs.Outcome.{right-length, refused-table, made}
-use Rattle.table.proofs.read.Fitted.{table-fits}
+use Rattle.calls.proofs.Outcome.{refused-table, made}
 use Rattle.run.proofs.run_accepted.Statement.{statement}
 use Rattle.run.proofs.run_accepted.Tie as tie
 
@@ -27,14 +26,14 @@ returns c =
 run-accepted-requires : tie.Need-run-in-arrays-requires
 run-accepted-requires c κs =
     let fits : tie.Else1 = search needs in
-    table-fits (c .before .find-sections .ensures) (entry fits .pre) (right fits)
+    record { located = search needs; accepted = entry fits .pre; right = right fits }
 
 returns-2 : tie.Need-returns-2
 returns-2 c =
     let fits : tie.Else1 = search needs in
     let ran : tie.After-run-in-arrays = search needs in
     let a = entry fits .args in
-    let done = made (a .sheet .now) (a .limit) (a .table .now) (entry fits .pre) (right-length _ _ (right fits)) in (
+    let done = made (a .sheet .now) (a .limit) (a .table .now) (entry fits .pre) (right fits) in (
       c .of-status .ensures ∙ ap (λ (x : Bool). if x then ended else paused) (ran .run-in-arrays .ensures .status) ∙ done .0,
       ran .run-in-arrays .ensures .words ∙ done .1,
     )
@@ -44,9 +43,9 @@ run-accepted-spec =
     tie.close
     (tie.spec
     (λ c κs. search (needs, front-there))
+    (λ c κs. (search needs, search needs))
     (λ c. search needs)
     returns
-    (λ c κs. search (needs, front-there))
     run-accepted-requires
     (λ c κs. search needs)
     (λ c. search needs)

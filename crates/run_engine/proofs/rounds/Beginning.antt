@@ -12,6 +12,7 @@ use Rattle.procedure.specs.Division.{Division, regions}
 use Rattle.procedure.specs.State.{Queues, State}
 use Rattle.procedure.specs.Queues.{updateOutgoing}
 use Rattle.procedure.specs.Procedure.{start}
+use Rattle.theory.specs.Sound.{noKeys}
 use Rattle.theory.specs.Counts.{Small}
 use Rattle.theory.proofs.Final.{few-each-way, no-rounds, after-small}
 use Rattle.run_counts.specs.Figures.{Figures, started}
@@ -20,10 +21,7 @@ use Rattle.run_arrays.specs.Trees.{LaidOut, QueuesOk}
 use Rattle.run_arrays.specs.States.{HoldsQueues, UpdatingOutgoing, LeavesQueues, Represents, Blank}
 use Rattle.run_arrays.proofs.arrays.Filled.{labels-none, predecessors-none, own-none}
 
--- the queues without a key, and the start from a source, where its queues are q
-abbrev pub noKeys : Graph → Division → Queues
-noKeys g d = record { own = replicate (arcs g) top; keys = replicate (regions d) top; updates = 0 }
-
+-- the start from a source, where its queues are q
 abbrev startWith : Graph → ℕ → Queues → State
 startWith g source q = record {
   labels = set (replicate (g .nodes) top) source 0;

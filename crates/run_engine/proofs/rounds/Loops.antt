@@ -12,12 +12,12 @@ use Rattle.procedure.specs.Graph.{Graph}
 use Rattle.procedure.specs.Division.{Division}
 use Rattle.procedure.specs.State.{State}
 use Rattle.procedure.specs.Queues.{minKey}
-use Rattle.procedure.specs.Procedure.{countRound, ended, process, round, roundBy}
+use Rattle.procedure.specs.Procedure.{countRound, ended, process, round, more, roundBy}
 use Rattle.theory.specs.Counts.{Small}
 use Rattle.theory.proofs.Process.{key-running, none-ended}
 use Rattle.theory.proofs.Grows.{grows-small, process-grows, rounds-grow}
 use Rattle.run_counts.specs.Figures.{Figures, roundMore}
-use Rattle.run_arrays.specs.States.{Represents, Workable, moreRounds}
+use Rattle.run_arrays.specs.States.{Represents, Workable}
 use Rattle.run_engine.proofs.region.Loops.{Looping, loop-off, loop-on}
 
 -- "A run has ended when region 0's smallest key is none."
@@ -39,9 +39,9 @@ module _ {g : Graph} {d : Division} {spans : List ℕ} {s : State} {fixed weight
     (R : Represents g d spans s fixed weights state winners c) (W : Workable d 0 (round g d spans s)) where
   pub round-count-fits : c .rounds + 1 < 18446744073709551616
   round-count-fits =
-      let more = process-grows g d (R .fixed-ok .ok .division) spans 0 (countRound g d s) (W .in-range) in
+      let grown = process-grows g d (R .fixed-ok .ok .division) spans 0 (countRound g d s) (W .in-range) in
       let all = ap (λ (w : State). w .rounds) (by-process g d spans s) in
-      omega (arith, R .rounds, more .rounds, round-counted g d s, all, W .small .rounds)
+      omega (arith, R .rounds, grown .rounds, round-counted g d s, all, W .small .rounds)
 
   -- n is the counts with the round counted
   pub round-begun : {n : Figures} → n ≡ roundMore c → Represents g d spans (countRound g d s) fixed weights state winners n
@@ -70,20 +70,20 @@ rounds-first R = record { represents = R; sofar = refl }
 
 pub rounds-ended : {g : Graph} {d : Division} {spans fixed weights : List ℕ} {limit : ℕ} {s₀ : State} {left : ℕ} {s : State} {state winners : List ℕ}
     {c : Figures} → Looping g d spans fixed weights (running g d) (round g d spans) limit s₀ left s state winners c → ended g d s ≡ true
-    → Represents g d spans (moreRounds g d spans limit s₀) fixed weights state winners c
+    → Represents g d spans (more g d spans limit s₀) fixed weights state winners c
 rounds-ended L e = loop-off L (ap not e)
 
 -- the run goes on, and a round is left to make
 pub record Going (g : Graph) (d : Division) (spans fixed weights : List ℕ) (limit : ℕ) (s₀ : State) (left : ℕ) (s : State) (state winners : List ℕ)
     (c : Figures) : Type 0 where
-  pub small : Small (moreRounds g d spans limit s₀)
+  pub small : Small (more g d spans limit s₀)
   pub loop : Looping g d spans fixed weights (running g d) (round g d spans) limit s₀ left s state winners c
   pub positive : 0 < left
   pub running : ended g d s ≡ false
 
 module _ {g : Graph} {d : Division} {spans fixed weights : List ℕ} {limit : ℕ} {s₀ : State} {left : ℕ} {s : State} {state winners : List ℕ} {c : Figures}
     (G : Going g d spans fixed weights limit s₀ left s state winners c) where
-  onward-rounds : moreRounds g d spans (left - 1) (round g d spans s) ≡ moreRounds g d spans limit s₀
+  onward-rounds : more g d spans (left - 1) (round g d spans s) ≡ more g d spans limit s₀
   onward-rounds = loop-on (G .loop) (G .positive) (ap not (G .running))
 
   -- the counts at the end are small, and so are those of every round

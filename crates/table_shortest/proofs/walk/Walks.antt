@@ -13,7 +13,6 @@ use borrow.Author.Tests.{eq-eqb, ne-eqb}
 use Rattle.indices.specs.Columns.{at}
 use Rattle.indices.specs.Tests.{count}
 use Rattle.indices.proofs.Steps.{by-equal, by-truth, set-elim}
-use Rattle.indices.proofs.Tests.{and-right, all-at}
 use Rattle.indices.proofs.Tally.{blank}
 use Rattle.indices.proofs.Totals.{count-one}
 use Rattle.sheet.specs.declared.Sections.{Sections}
@@ -23,15 +22,12 @@ use Rattle.judgement.proofs.Accepted.{few-nodes, source-in}
 use Rattle.procedure.specs.OfSheet.{graphOf}
 use Rattle.procedure.proofs.OfSheet.{graph-nodes, graph-source, graph-arcs}
 use Rattle.theory_shortest.proofs.WellFormed.{accepted-well-formed}
-use Rattle.theory_shortest.specs.TableTest.{unfedTest, leadsBack, ledTest}
+use Rattle.theory_shortest.specs.TableTest.{leadsBack, ledTest}
 use Rattle.theory_shortest.proofs.Depth.{Depth, home, back, depth-unique, depth-below}
 use Rattle.theory_shortest.proofs.LeadsBack.{depth-leads, leads-depth}
-use Rattle.theory_shortest.proofs.TightTree.{Fed}
-use Rattle.theory_shortest.proofs.TableTest.{fed-passes}
 use Rattle.calls.specs.Tables.{labelIn, predecessorIn}
 use Rattle.table.specs.Fitting.{labels, predecessors, nodeBefore}
 use Rattle.table.proofs.read.Columns.{label-there, predecessor-there}
-use Rattle.table_shortest.specs.NodeChecks.{nodeFits}
 use Rattle.table_shortest.specs.WalkChecks.{nodeLed}
 use Rattle.table_shortest.specs.Stamps.{Followable, leads, Stamped}
 
@@ -94,17 +90,11 @@ module _ {b table : List ℕ} where
     led-reached v r =
         rw (ne-eqb (at (labels b table) v) top r) (ap (λ (n : ℕ). leadsBack (graphOf b) (predecessors b table) (pred n) v) (graph-nodes b))
 
-    -- a reached node other than the source is fed
-    fed : (v : ℕ) → v < nodeCount b → at (labels b table) v ≢ top → v ≢ source b → Fed (graphOf b) (labels b table) (predecessors b table) v
-    fed v l r n =
-        fed-passes (graphOf b) (labels b table) (predecessors b table) v
-        (and-right (unfedTest (graphOf b) (labels b table) (predecessors b table) v) _ (all-at (nodeFits b table) (nodeCount b) v (F .fit) l)) r
-        (λ e. n (e ∙ graph-source b))
-
+    -- the feeder of a reached node other than the source is a node
     before-in : (v : ℕ) → v < nodeCount b → at (labels b table) v ≢ top → v ≢ source b → nodeBefore b table v < nodeCount b
     before-in v l r n =
         let good = accepted-well-formed b (F .fitting .accepted) .graph in
-        omega (arith, graph-nodes b, good .tail-in (at (predecessors b table) v) (fed v l r n .is-arc))
+        omega (arith, graph-nodes b, good .tail-in (at (predecessors b table) v) (F .onward v l r n .is-arc))
 
     -- a reached node that leads back has a depth
     led-depth : (v : ℕ) → v < nodeCount b → at (labels b table) v ≢ top → leads b table v ≡ true → Leads b table v
@@ -112,7 +102,7 @@ module _ {b table : List ℕ} where
         leads-depth (graphOf b) (predecessors b table) (λ u. (u < nodeCount b) × (at (labels b table) u ≢ top)) (λ u q. omega (arith, q .0, graph-nodes b))
         (λ u q n.
         let other : u ≢ source b = λ e. n (e ∙ sym (graph-source b)) in
-        (before-in u (q .0) (q .1) other, fed u (q .0) (q .1) other .from-reached))
+        (before-in u (q .0) (q .1) other, F .onward u (q .0) (q .1) other .from-reached))
         (pred (nodeCount b)) v (l, r)
 
     -- the source leads back, and has the first stamp
@@ -155,14 +145,14 @@ module _ {b table : List ℕ} where
 
         -- its predecessor is an arc
         pub walk-arc : predecessorIn table u < arcCount b
-        walk-arc = let f = fed u (W .inside) (W .reached) walk-away in omega (arith, f .is-arc, graph-arcs b, predecessor-there b table u (W .inside))
+        walk-arc = let f = F .onward u (W .inside) (W .reached) walk-away in omega (arith, f .is-arc, graph-arcs b, predecessor-there b table u (W .inside))
 
         -- u gets the stamp, and the walk goes on
         pub walk-on : Walking b table (set stamps u (v + 2)) v (nodeBefore b table u)
         walk-on = record {
           long = simp length-set (W .long);
           inside = before-in u (W .inside) (W .reached) walk-away;
-          reached = fed u (W .inside) (W .reached) walk-away .from-reached;
+          reached = F .onward u (W .inside) (W .reached) walk-away .from-reached;
           home = set-elim (λ (x : ℕ). x ≡ 1) stamps u (source b) (v + 2) 0 u-in (λ e. absurd (walk-away (sym e))) (λ _. W .home);
           low = λ w l. set-elim (λ (x : ℕ). x ≤ v + 2) stamps u w (v + 2) 0 u-in (λ _. omega arith) (λ _. W .low w l);
           led = λ w l. set-elim (λ (x : ℕ). x ≢ 0 → x ≢ v + 2 → leads b table w ≡ true) stamps u w (v + 2) 0 u-in (λ _ _ n. absurd (n refl))

@@ -7,8 +7,8 @@ use Rattle.listing.proofs.status_line.put_count.Tie as tie
 returns : tie.Need-returns
 returns c =
     let name : tie.After-put-text = search needs in
-    let read : tie.After-count-at = search needs in
-    wrote-then (name .put-text .ensures) (rw (read .count-at .ensures) at (c .before .before .put-number .ensures))
+    let read : tie.After-count-of = search needs in
+    wrote-then (name .put-text .ensures) (rw (read .count-of .ensures) at (c .before .before .put-number .ensures))
 
 pub put-count-spec : {M : Type 1} → statement M
 put-count-spec =
@@ -16,6 +16,6 @@ put-count-spec =
     (tie.spec
     (λ c κs. search (needs, room-before))
     (λ c κs. search needs)
-    (λ c κs. rw (c .before .count-at .ensures) (search (needs, room-after)))
+    (λ c κs. rw (c .before .count-of .ensures) (search (needs, room-after)))
     (λ c. search needs)
     returns)

@@ -9,10 +9,10 @@ use Rattle.listing.proofs.status_line.put_status.Tie as tie
 
 -- the status is the text of the branch taken
 ended : (c : tie.Then1) → let start : tie.Start = search needs in status (start .args .table .now) ≡ ascii "ended"
-ended c = status-ended _ (sym (c .before .payload-at .ensures) ∙ c .if1 .taken)
+ended c = status-ended _ (sym (c .before .status-of .ensures) ∙ c .if1 .taken)
 
 paused : (c : tie.Else1) → let start : tie.Start = search needs in status (start .args .table .now) ≡ ascii "paused"
-paused c = status-paused _ (λ e. c .if1 .left (c .before .payload-at .ensures ∙ e))
+paused c = status-paused _ (λ e. c .if1 .left (c .before .status-of .ensures ∙ e))
 
 pub put-status-spec : {M : Type 1} → statement M
 put-status-spec =

@@ -1,4 +1,4 @@
--- `run_laid` meets its contract: the start leaves the state after no rounds, the rounds that which the run defines, and the table is made of it.
+-- `run_laid` meets its contract: the start leaves the state after no rounds, and the rest is that state worked and written.
 use borrow.Author.Needs.{needs}
 use mathlib.Core.Path.{refl, sym, _∙_}
 use Rattle.sheet.specs.Words.{top}
@@ -7,23 +7,16 @@ use Rattle.procedure.specs.Procedure.{start}
 use Rattle.procedure.proofs.OfSheet.{division-regions}
 use Rattle.run_counts.specs.Figures.{figuresIn}
 use Rattle.run_arrays.specs.States.{Represents, Blank}
-use Rattle.run_engine.proofs.rounds.Runs.{after-start, started-small}
-use Rattle.run.proofs.laid.Stages.{Ran, nodes-fit, outcome}
+use Rattle.run.proofs.laid.Stages.{finishing, outcome}
 use Rattle.run.proofs.laid.run_laid.Statement.{statement}
 use Rattle.run.proofs.laid.run_laid.Tie as tie
 
--- THE PLACES: the entry, the source known, the run started, the rounds made
+-- THE PLACES: the entry, the source known
 abbrev entry : tie.After-source-of → tie.Start
 entry c = search needs
 
 abbrev sourced : tie.After-start → tie.After-source-of
 sourced c = search needs
-
-abbrev begun : tie.After-run-rounds → tie.After-start
-begun c = search needs
-
-abbrev outset : tie.After-run-rounds → tie.Start
-outset c = entry (sourced (begun c))
 
 -- what the start asks
 blank : (c : tie.After-source-of) → let a = entry c .args in let b = a .s .now in
@@ -49,48 +42,19 @@ started : (c : tie.After-start) → let a = entry (sourced c) .args in let b = a
     (left .0) (left .1 .0) (figuresIn (left .1 .1 .1 .1 .0))
 started c = c .start .ensures _ _ _ _ (blank (sourced c))
 
-rounds-requires : tie.Need-run-rounds-requires
-rounds-requires c κs =
+finish-requires : tie.Need-finish-requires
+finish-requires c κs =
     let begun : tie.After-start = search needs in
-    let R = started begun in
-    record { graph = _; division = _; spans = _; current = _; represents = R; small = started-small (R .fixed-ok .ok) _ }
+    let pre = entry (sourced begun) .pre in
+    record { sheet = _; current = _; finishing = finishing _ (pre .accepted) (pre .in-use .nodes-all) _ (pre .right) _ (started begun) }
 
--- THE ROUNDS leave the state that the run defines
-ran : (c : tie.After-run-rounds) → let a = outset c .args in let left = c .run-rounds .last .1 .1 in
-    Ran (a .s .now) (a .limit) (a .fixed .now) (a .weights .now) (left .0) (left .1 .0) (figuresIn (left .1 .1 .1 .0)) (a .sizes .nodes)
-ran c =
-    let R = started (begun c) in
-    let start = outset c in
-    let limit = start .args .limit in
-    record {
-      accepted = start .pre .accepted;
-      nodes = start .pre .in-use .nodes-all;
-      represents = rw (after-start _ _ _ limit) at (c .run-rounds .ensures _ _ _ _ R (started-small (R .fixed-ok .ok) limit));
-    }
-
-has-ended-requires : tie.Need-has-ended-requires
-has-ended-requires c κs =
-    let Q = ran (search needs) .represents .queues .keys .valid in
-    record { division = _; keys = _; queues = Q; inside = Q .seated .laid .planned .counted .numbered .root }
-
--- THE TABLE is that of this state
 returns : tie.Need-returns
 returns c =
-    let told : tie.After-has-ended = search needs in
-    let made : tie.After-run-rounds = search needs in
-    let written : tie.After-write-nodes = search needs in
-    let R = ran made .represents in
-    outcome (ran made) (told .has-ended .ensures _ _ _ (R .queues .keys .valid) (R .fixed-ok .ok .division .root-inner)) (written .write-nodes .ensures)
+    let begun : tie.After-start = search needs in
+    let pre = entry (sourced begun) .pre in
+    let worked : tie.After-finish = search needs in
+    outcome _ (pre .accepted) (pre .in-use .nodes-all) _ (pre .right) _
+    (worked .finish .ensures _ _ (finishing _ (pre .accepted) (pre .in-use .nodes-all) _ (pre .right) _ (started begun)))
 
 pub run-laid-spec : {M : Type 1} → statement M
-run-laid-spec =
-    tie.close
-    (tie.spec
-    (λ c κs. search needs)
-    (λ c. search needs)
-    start-requires
-    rounds-requires
-    has-ended-requires
-    (λ c κs. let made : tie.After-run-rounds = search needs in nodes-fit (ran made) (outset made .pre .sized))
-    (λ c. search needs)
-    returns)
+run-laid-spec = tie.close (tie.spec (λ c κs. search needs) (λ c. search needs) start-requires finish-requires (λ c. search needs) returns)

@@ -6,10 +6,10 @@ use mathlib.Core.List.{List}
 use Rattle.procedure.specs.Graph.{Graph}
 use Rattle.procedure.specs.Division.{Division}
 use Rattle.procedure.specs.State.{State}
-use Rattle.procedure.specs.Procedure.{countRound, ended, round}
+use Rattle.procedure.specs.Procedure.{countRound, ended, round, more}
 use Rattle.theory.specs.Counts.{Small}
 use Rattle.run_counts.specs.Figures.{figuresIn}
-use Rattle.run_arrays.specs.States.{Represents, moreRounds}
+use Rattle.run_arrays.specs.States.{Represents}
 use Rattle.run_engine.proofs.region.Loops.{Looping, loop-spent}
 use Rattle.run_engine.proofs.rounds.Loops.{
   Going,
@@ -28,7 +28,7 @@ use Rattle.run_engine.proofs.rounds.run_rounds.Tie as tie
 abbrev Inv-loop : tie.InvT-loop
 Inv-loop fixed weights state₀ winners₀ limit counts₀ left₀ state winners counts left =
     (g : Graph) (d : Division) (spans : List ℕ) (s₀ : State) → Represents g d spans s₀ fixed weights state₀ winners₀ (figuresIn counts₀)
-    → Small (moreRounds g d spans left₀ s₀)
+    → Small (more g d spans left₀ s₀)
     → ((s : State) × Looping g d spans fixed weights (running g d) (round g d spans) left₀ s₀ left s state winners (figuresIn counts))
 
 abbrev μ-loop : tie.MeasureT-loop
@@ -70,7 +70,7 @@ Next c g d spans s₀ s =
 
 going : (c : Goes-on) (g : Graph) (d : Division) (spans : List ℕ) (s₀ : State) → let a = entry (looped (c .before)) .args in
     Represents g d spans s₀ (a .fixed .now) (a .weights .now) (a .state .now) (a .winners .now) (figuresIn (a .counts .now))
-    → Small (moreRounds g d spans (a .limit) s₀) → ((s : State) × Next c g d spans s₀ s)
+    → Small (more g d spans (a .limit) s₀) → ((s : State) × Next c g d spans s₀ s)
 going c g d spans s₀ R small =
     let L = looped (c .before) .loop .inv g d spans s₀ R small in
     (L .0, record { small = small; loop = L .1; positive = search needs; running = told (c .before) (L .1 .represents) ∙ c .if1 .left })

@@ -6,9 +6,10 @@ use Prim.Native.Nat.{ℕ}
 use Rattle.sheet.specs.Words.{top}
 use Rattle.procedure.specs.Graph.{Graph}
 use Rattle.procedure.specs.Division.{Division, regions}
+use Rattle.theory.specs.Sound.{noKeys}
 use Rattle.run_arrays.specs.Trees.{QueuesOk}
 use Rattle.run_arrays.specs.States.{Blank}
-use Rattle.run_engine.proofs.rounds.Beginning.{noKeys, source-in, start-laid, start-asks, start-held, begun}
+use Rattle.run_engine.proofs.rounds.Beginning.{source-in, start-laid, start-asks, start-held, begun}
 use Rattle.run_engine.proofs.rounds.start.Statement.{statement}
 use Rattle.run_engine.proofs.rounds.start.Tie as tie
 

@@ -1,8 +1,12 @@
--- `feeds` meets its contract: the head is compared with the node, the tail's label with 'unreached', and then the sum with the node's label.
+-- `feeds` meets its contract: the head is compared with the node, the tail's label with 'unreached', and then the sum with the node's label, as is asked.
+use Prim.Native.Nat.{_+_}
+use mathlib.Core.Bool.{Bool, true, false}
+use mathlib.Core.Path.{_≡_}
 use borrow.Author.Needs.{needs}
 use native.Mathlib.Omega.{arith}
 use Rattle.sheet.specs.Words.{top}
 use Rattle.judgement.proofs.Accepted.{tail-in, length-short}
+use Rattle.table_shortest.specs.NodeChecks.{allowed, feeds}
 use Rattle.table_shortest.proofs.nodes.Checked.{feeds-elsewhere, feeds-unreached, feeds-compared}
 use Rattle.table_shortest.proofs.nodes.feeds.Statement.{statement}
 use Rattle.table_shortest.proofs.nodes.feeds.Tie as tie
@@ -20,25 +24,32 @@ tailed c = search needs
 returns : tie.Need-returns
 returns c =
     let head : tie.After-end-at = search needs in
-    feeds-elsewhere (entry head .pre .fitting) (entry head .pre .arc-in) (head .end-at .ensures .0) (c .if1 .taken)
+    feeds-elsewhere (entry head .pre .fitting) (entry head .args .exact) (entry head .pre .arc-in) (head .end-at .ensures .0) (c .if1 .taken)
 
 returns-2 : tie.Need-returns-2
 unfolding top
 returns-2 c =
-    let pre = entry (headed (c .before)) .pre in
+    let start = entry (headed (c .before)) in
     let met : tie.Else1 = search needs in
-    feeds-unreached (pre .fitting) (pre .arc-in) (tailed (c .before) .end-at2 .ensures .0) (c .before .label-of .ensures)
+    feeds-unreached (start .pre .fitting) (start .args .exact) (start .pre .arc-in) (tailed (c .before) .end-at2 .ensures .0) (c .before .label-of .ensures)
     (headed (c .before) .end-at .ensures .0) (met .if1 .left) (c .if2 .taken)
 
-returns-3 : tie.Need-returns-3
+-- the sum and the node's label, compared as is asked
+compared : (c : tie.After-label-of2) (asked : Bool) → let start : tie.Start = search needs in
+    let from : tie.After-label-of = search needs in
+    let length : tie.After-length-at = search needs in
+    start .args .exact ≡ asked → allowed asked (from .label-of .result + length .length-at .result) (c .label-of2 .result)
+    ≡ feeds (start .args .s .now) (start .args .table .now) (start .args .exact) (start .args .a .0) (start .args .v .0)
 unfolding top
-returns-3 c =
+compared c asked e =
     let label : tie.After-label-of = search needs in
-    let pre = entry (headed label) .pre in
+    let start = entry (headed label) in
     let met : tie.Else1 = search needs in
     let reached : tie.Else2 = search needs in
-    feeds-compared (pre .fitting) (pre .arc-in) (tailed label .end-at2 .ensures .0) (label .label-of .ensures) (reached .if2 .left)
-    (c .before .length-at .ensures) (pre .node-in) (headed label .end-at .ensures .0) (met .if1 .left) (c .label-of2 .ensures)
+    let length : tie.After-length-at = search needs in
+    rw (← e)
+    (feeds-compared (start .pre .fitting) (start .args .exact) (start .pre .arc-in) (tailed label .end-at2 .ensures .0) (label .label-of .ensures)
+    (reached .if2 .left) (length .length-at .ensures) (start .pre .node-in) (headed label .end-at .ensures .0) (met .if1 .left) (c .label-of2 .ensures))
 
 pub feeds-spec : {M : Type 1} → statement M
 unfolding top
@@ -53,4 +64,5 @@ feeds-spec =
     (λ c κs. search needs)
     (λ c. let start : tie.Start = search needs in omega (arith, length-short _ (start .pre .fitting .accepted) _ (start .pre .arc-in)))
     (λ c κs. search needs)
-    returns-3)
+    (λ c. compared (search needs) true (c .if3 .taken))
+    (λ c. compared (search needs) false (c .if3 .left)))

@@ -14,7 +14,7 @@ use Rattle.table_shortest.proofs.nodes.node_fits.Tie as tie
 
 -- the answer that is asked for
 abbrev fits : tie.Start → Bool
-fits c = nodeFits (c .args .s .now) (c .args .table .now) (c .args .v .0)
+fits c = nodeFits (c .args .s .now) (c .args .table .now) (c .args .exact) (c .args .v .0)
 
 -- a reached node other than the source: its predecessor decides
 no-arc : (c : tie.Else2) → let start : tie.Start = search needs in let read : tie.After-predecessor-of = search needs in
@@ -24,7 +24,7 @@ no-arc c none = search (needs, fits-no-arc)
 
 an-arc : (c : tie.Else2) → let start : tie.Start = search needs in let read : tie.After-predecessor-of = search needs in
     let a = read .predecessor-of .result in
-    a < arcCount (start .args .s .now) → feeds (start .args .s .now) (start .args .table .now) a (start .args .v .0) ≡ fits start
+    a < arcCount (start .args .s .now) → feeds (start .args .s .now) (start .args .table .now) (start .args .exact) a (start .args .v .0) ≡ fits start
 unfolding top
 an-arc c some = search (needs, fits-arc)
 

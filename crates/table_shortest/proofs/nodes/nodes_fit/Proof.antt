@@ -17,8 +17,8 @@ pub nodes-fit-spec : {M : Type 1} → statement M
 nodes-fit-spec =
     tie.close
     (tie.spec
-    (λ s sections table nodes v₀ v. (v ≤ nodeCount s) × (all (nodeFits s table) v ≡ true))
-    (λ s sections table nodes v₀ v. nodeCount s - v)
+    (λ s sections table exact nodes v₀ v. (v ≤ nodeCount s) × (all (nodeFits s table exact) v ≡ true))
+    (λ s sections table exact nodes v₀ v. nodeCount s - v)
     (λ c κs. search needs)
     (λ c. omega (arith, few-nodes))
     (λ c. (omega arith, all-none _))

@@ -4,8 +4,8 @@ use mathlib.Core.Path.{_≡_}
 use lib.ListN.{length}
 use Rattle.procedure.specs.Table.{countsLength}
 use Rattle.run_counts.proofs.Figures.{written-out}
-use Rattle.run.proofs.laid.write_nodes.Statement.{statement}
-use Rattle.run.proofs.laid.write_nodes.Tie as tie
+use Rattle.run_table.proofs.write_nodes.Statement.{statement}
+use Rattle.run_table.proofs.write_nodes.Tie as tie
 
 write-table-requires : tie.Need-write-table-requires
 write-table-requires c κs =

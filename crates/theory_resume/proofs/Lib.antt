@@ -1,0 +1,9 @@
+pub mod Keys
+pub mod Rebuilt
+pub mod Sounded
+pub mod ReadBack
+pub mod Resumed
+pub mod Written
+pub mod SameHall
+pub mod Changed
+pub mod Resumes
