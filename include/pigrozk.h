@@ -132,8 +132,8 @@ uint32_t pigrozk_route(const uint8_t *sheet, size_t sheet_bytes, const uint32_t 
 
 /* Writes the canonical form of a sheet: the words of kinds 1 to 5 as given, the regions numbered parent first and depth first from region 0, children in order
  * of the lowest arc that they hold. Two sheets have the same one exactly when they share nodes, source, spans, arcs and nesting; then their distances are the
- * same, but not always their tables, since ties go by region number. It is as long as the sheet and stands at the front of the buffer, and the rest of the
- * buffer stays; PIGROZK_MOST_BYTES are room for every one. Written, or a refusal from 1 to 14 or 31. */
+ * same, but not always their tables, since ties between regions of one height go by region number. It is as long as the sheet and stands at the front of the
+ * buffer, and the rest of the buffer stays; PIGROZK_MOST_BYTES are room for every one. Written, or a refusal from 1 to 14 or 31. */
 uint32_t pigrozk_canonical(const uint8_t *sheet, size_t sheet_bytes, uint8_t *out, size_t out_bytes);
 
 #ifdef __cplusplus

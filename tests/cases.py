@@ -4,19 +4,20 @@ import sys
 from collections import Counter
 from pathlib import Path
 
-from paper import BASE, BEFORE_2026_06, TODAY
+from paper import BASE, BEFORE_2026_06, BEFORE_2026_07, TODAY
+from procedure import Hall
 
 ROOT = Path(__file__).resolve().parent.parent
 
 # What the cases of one call may take in a file, so that a family that grows unseen is noticed.
-MOST_BYTES = 7_500_000
+MOST_BYTES = 8_500_000
 
 # The vectors of the base paper were made when a node had at most two arcs each way, and those before 2026-06 when there was no longer table.
-# The refusals that alone may have moved since.
-MAY_MOVE = {BASE: ('refused input 10', 'refused 10', 'refused state 21'), BEFORE_2026_06: ('refused state 21',)}
+# The refusals that alone may have moved since. What a run leaves may have moved too, where the choice among equal keys has (`may_move`).
+REFUSED_THEN = {BASE: ('refused input 10', 'refused 10', 'refused state 21'), BEFORE_2026_06: ('refused state 21',), BEFORE_2026_07: ()}
 
 # The change requests. Each has its vectors in a file of its own.
-REQUESTS = ['2026-01', '2026-02', '2026-03', '2026-04', '2026-05', '2026-06']
+REQUESTS = ['2026-01', '2026-02', '2026-03', '2026-04', '2026-05', '2026-06', '2026-07']
 
 # The answers, numbered from 0 as the program numbers them.
 ANSWERS = ['refused input', 'refused state', 'accepted', 'ended', 'paused', 'no route', 'route', 'written']
@@ -35,12 +36,17 @@ def change_fields(request, call):
             yield fields
 
 
+def rules_of(request):
+    """The rules by which the vectors of a request hold."""
+    return BEFORE_2026_06 if request < '2026-06' else BEFORE_2026_07 if request < '2026-07' else TODAY
+
+
 def vectors_of(request, stated_by, *form):
     """The family of the vectors of a request. `stated_by` gives its cases; where tables had another form, it is also told what leads to today's."""
     def family():
         return stated_by(request, *form)
     family.__name__ = 'vectors of ' + request
-    family.rules = BEFORE_2026_06 if request < '2026-06' else TODAY
+    family.rules = rules_of(request)
     return family
 
 
@@ -118,18 +124,37 @@ def counted(kinds):
     return ', '.join('%s: %d' % pair for pair in sorted(kinds.items()))
 
 
+def is_of_rounds(answer):
+    """Whether an answer tells of a state after rounds: that of a run, of going on or of the listing."""
+    return answer.startswith(('ended', 'paused'))
+
+
+def height_may_decide(sheet):
+    """Whether under some region a child is higher than one with a higher number. Where none is, to choose by height and then number is to choose by number."""
+    hall = Hall(sheet)
+    heights = [[hall.heights[child] for child in children] for children in hall.children]
+    return any(under != sorted(under) for under in heights)
+
+
+def may_move(rules, case, then, answer):
+    """Whether the answer to a case may be another today: a refusal for which rules have changed, or a state after rounds where the tie rule may decide."""
+    if then in REFUSED_THEN[rules]:
+        return True
+    return not rules.ties_by_height and is_of_rounds(then) and is_of_rounds(answer) and height_may_decide(bytes_in(case.split()[4]))
+
+
 def held_by_rules(family, answered, rules, before, kind):
-    """The cases of vectors with the answers of today. By the rules of their time they are as stated; only the refusals that may move do."""
+    """The cases of vectors with the answers of today. By the rules of their time they are as stated; only the answers that may move do."""
     moved = Counter()
     for (case, then, stated), (_, answer, _) in zip(answered(family, rules), answered(family), strict=True):
         hold(family, case, before(then), stated)
-        if then not in MAY_MOVE[rules]:
-            hold(family, case, answer, then)
-        elif answer != then:
-            moved['from %s to %s' % (kind(then), kind(answer))] += 1
+        if answer != then:
+            if not may_move(rules, case, then, answer):
+                hold(family, case, answer, then)
+            moved['from %s to %s' % (kind(then), kind(answer)) if kind(then) != kind(answer) else kind(then) + ' otherwise'] += 1
         yield case, answer
     if moved:
-        print('%s: %s' % (family.__name__, counted(moved)))
+        print('%s: %d moved, %s' % (family.__name__, sum(moved.values()), counted(moved)))
 
 
 def held_vectors(family, answered, rules, before, kind):

@@ -1,8 +1,8 @@
 """The cases of the listing: a sheet, and what `marks` prints of it.
 
-What is expected comes from tests/procedure.py. It has to agree with every line of tests/marks_vectors.txt, with the limit of that time, and
-of the vectors of every change request, from tests/2026-01_vectors.txt on, where tests/before.py says how with the older ones, and with each
-text that a case states, and what is printed of an ended run has to be shortest. Otherwise the script stops.
+What is expected comes from tests/procedure.py. It has to agree with every line of tests/marks_vectors.txt and of the vectors of every change
+request, from tests/2026-01_vectors.txt on, by the rules of their time, where tests/before.py says how with the older ones, and with each text
+that a case states, and what is printed of an ended run has to be shortest. Otherwise the script stops.
 """
 from before import listing_before
 from cases import bytes_in, case_of, change_fields, data, lines_of, vectors_of, vectors_since
@@ -12,6 +12,7 @@ from sheets import (
     FAULTS, HALL_A, WIDE, Chance, balanced, chain, changed, divided, each_way, flat, halving, high_halls, ladder, one_deep, packed, random_arcs,
     random_regions, turntable, uneven_halls, with_faults,
 )
+from ties import SHALLOW_FIRST, tie_halls
 
 
 # Each family yields sheets, each with the text stated, None where the procedure alone says it.
@@ -93,7 +94,12 @@ def full_size():
     yield divided(512, 511, each_way(4, 512), flat(2048), lambda h: 2), None
 
 
-FAMILIES = [marked, refused, sizes, small_halls, levels, full_size]
+def ties():
+    yield SHALLOW_FIRST, 'ended rounds 3 leaves 5 inner 1 3 updates 11\n0 0 -\n1 200 0\n2 500 3\n3 700 2'
+    yield from ((sheet, None) for sheet in tie_halls())
+
+
+FAMILIES = [marked, refused, sizes, small_halls, levels, full_size, ties]
 
 
 def vectors():
@@ -110,7 +116,7 @@ def stated_by(request):
 def answered(family, rules=TODAY):
     """The cases of a family with the texts expected and stated."""
     for sheet, stated in family():
-        yield case_of(5, sheet), '\n'.join(printed(sheet, rules.most_each_way)), stated
+        yield case_of(5, sheet), '\n'.join(printed(sheet, rules)), stated
 
 
 def kind(text):

@@ -7,11 +7,13 @@ from collections import namedtuple
 # The most arcs from a node, and the most to a node. The paper says two, change request 2026-01 four.
 MOST_EACH_WAY = 4
 
-# What has changed in the refusals of a sheet and of a table's length: the most arcs each way, and since request 2026-06 the longer form.
-Rules = namedtuple('Rules', 'most_each_way longer_form')
-TODAY = Rules(MOST_EACH_WAY, True)
-BEFORE_2026_06 = Rules(MOST_EACH_WAY, False)
-BASE = Rules(2, False)
+# What has changed: the most arcs each way, since request 2026-06 the longer form of a table, and since 2026-07 the choice among equal keys, which went to
+# the lower region number alone.
+Rules = namedtuple('Rules', 'most_each_way longer_form ties_by_height')
+TODAY = Rules(MOST_EACH_WAY, True, True)
+BEFORE_2026_07 = TODAY._replace(ties_by_height=False)
+BEFORE_2026_06 = BEFORE_2026_07._replace(longer_form=False)
+BASE = BEFORE_2026_06._replace(most_each_way=2)
 
 
 class Lists:

@@ -1,14 +1,15 @@
 """The procedure, its answer table, the route reader and going on from a table, written from the paper. They share nothing with the Rattle code.
 
 `Run` keeps a heap for each inner region, `PlainRun` looks through all children instead; the cases hold the two to each other. Distances
-are found a second way, by `distances`, and every ended table is held to them. The limit of arcs each way is the judge's alone.
+are found a second way, by `distances`, and every ended table is held to them. Rules of before can be given: the limit of arcs each way is
+the judge's, the longer form that of a table's length, and the choice among equal keys the run's.
 
 A run counts the workings of each region; the figures by height are added up where the table is made. Tables are made in the longer form of
 request 2026-06; the usual form is their front.
 """
 from heapq import heapify, heappop, heappush
 
-from paper import MOST_EACH_WAY, TODAY, Lists, judge
+from paper import TODAY, Lists, judge
 
 NONE = 2**28 - 1
 MOST_HEIGHT = 15
@@ -43,8 +44,8 @@ class Hall:
 class Run:
     """A run of a hall: its start, or the state that a longer table stands for, then a round at a time."""
 
-    def __init__(self, hall, table=None):
-        self.hall = hall
+    def __init__(self, hall, table=None, rules=TODAY):
+        self.hall, self.rules = hall, rules
         # A leaf's own key is its one item; an inner region has a key for each child.
         self.own_keys = {leaf: NONE for leaf in hall.arc_of}
         self.keys = [NONE] * len(hall.parents)
@@ -77,20 +78,24 @@ class Run:
             self.write(region, self.smallest(region))
 
     def first(self, region):
-        """The key of an inner region's first-chosen item, and the item: lowest key, then lowest region number."""
+        """The key of an inner region's first-chosen item, and the item: the lowest key, then as `entry` has it."""
         heap = self.heaps[region]
-        while heap and heap[0][0] != self.keys[heap[0][1]]:
+        while heap and heap[0][0] != self.keys[heap[0][2]]:
             heappop(heap)
-        return heap[0] if heap else (NONE, None)
+        return heap[0][::2] if heap else (NONE, None)
+
+    def entry(self, item):
+        """"The choice among equal keys goes to the region of lower height, then to the lower number." """
+        return self.keys[item], self.hall.heights[item] if self.rules.ties_by_height else 0, item
 
     def write(self, item, key):
         """Writes an item's key in its region."""
         self.keys[item] = key
         heap = self.heaps[self.hall.parents[item]]
         if key != NONE:
-            heappush(heap, (key, item))
+            heappush(heap, self.entry(item))
         if len(heap) > 64 + 4 * len(self.hall.children[self.hall.parents[item]]):
-            heap[:] = [(self.keys[child], child) for child in self.hall.children[self.hall.parents[item]] if self.keys[child] != NONE]
+            heap[:] = [self.entry(child) for child in self.hall.children[self.hall.parents[item]] if self.keys[child] != NONE]
             heapify(heap)
 
     def smallest(self, region):
@@ -160,8 +165,16 @@ class PlainRun(Run):
     """The same with no heap: the first-chosen item by a look through all children."""
 
     def first(self, region):
-        key, child = min(((self.keys[child], child) for child in self.hall.children[region]), default=(NONE, None))
-        return (key, child) if key != NONE else (NONE, None)
+        children = self.hall.children[region]
+        key = min((self.keys[child] for child in children), default=NONE)
+        return (NONE, None) if key == NONE else (key, self.chosen([child for child in children if self.keys[child] == key]))
+
+    def chosen(self, children):
+        """Of children with equal keys, in order of their numbers: the first of those that are as low as any."""
+        if self.rules.ties_by_height:
+            least = min(self.hall.heights[child] for child in children)
+            children = [child for child in children if self.hall.heights[child] == least]
+        return children[0]
 
     def write(self, item, key):
         self.keys[item] = key
@@ -192,9 +205,9 @@ def counts_of(table):
     return [high << 28 | low for high, low in zip(halves[::2], halves[1::2])]
 
 
-def longer_tables(hall, limits=None, run=Run):
+def longer_tables(hall, limits=None, run=Run, rules=TODAY):
     """The longer tables after at most so many rounds, for each of the limits listed, None for no limit."""
-    made, going, limits = {}, run(hall), limits or [None]
+    made, going, limits = {}, run(hall, rules=rules), limits or [None]
     for limit in sorted(limits, key=lambda limit: (limit is None, limit)):
         while not going.ended() and (limit is None or going.rounds < limit):
             going.round()
@@ -221,13 +234,13 @@ def distances(hall):
     return found
 
 
-def printed(sheet, most_each_way=MOST_EACH_WAY):
+def printed(sheet, rules=TODAY):
     """The lines that `marks` prints. An ended run is held to `shortest`."""
-    number = judge(sheet, most_each_way)
+    number = judge(sheet, rules.most_each_way)
     if number:
         return ['refused %d' % number]
     hall = Hall(sheet)
-    run = Run(hall)
+    run = Run(hall, rules=rules)
     while not run.ended():
         run.round()
     if not shortest(hall, run.labels, run.feeding):
@@ -390,9 +403,9 @@ def broken_clauses(hall, table):
     return [clause for clause, holds in CLAUSES.items() if not holds(state)]
 
 
-def resume(sheet, table, rounds, run=Run):
+def resume(sheet, table, rounds, run=Run, rules=TODAY):
     """('ended', table), ('paused', table), ('input', number) or ('state', number)."""
-    number = judge(sheet)
+    number = judge(sheet, rules.most_each_way)
     if number:
         return 'input', number
     hall = Hall(sheet)
@@ -400,7 +413,7 @@ def resume(sheet, table, rounds, run=Run):
         return 'state', 32
     if broken_clauses(hall, table):
         return 'state', 33
-    going = run(hall, table)
+    going = run(hall, table, rules)
     last = going.rounds + rounds
     while not going.ended() and going.rounds < last:
         going.round()

@@ -1,16 +1,17 @@
 """The cases of going on: a sheet, a table's words and a number of rounds, and the answer and the table expected, or the refusal.
 
 What is expected comes from tests/procedure.py. It has to agree with every line for this call of the vectors of change requests, from
-tests/2026-06_vectors.txt on, and with each answer that a case states: a table in parts with that of a run, a damaged one with the clause of
-33 that alone is broken. Each table that is expected is held to what request 2026-06 claims: it is a possible state where no count of the
-table before it was 2^54 or more, by any spans, each count has grown by less than 2^54, and an ended one is shortest; on small halls the run
-without heaps has to make the same. Otherwise the script stops.
+tests/2026-06_vectors.txt on, by the rules of their time, and with each answer that a case states: a table in parts with that of a run, a
+damaged one with the clause of 33 that alone is broken. Each table that is expected is held to what request 2026-06 claims: it is a possible
+state where no count of the table before it was 2^54 or more, by any spans, each count has grown by less than 2^54, and an ended one is
+shortest; on small halls the run without heaps has to make the same. The halls of tests/ties.py have to tell wrong choices among equal keys
+from that of request 2026-07 here too. Otherwise the script stops.
 """
 import sys
 from collections import Counter
 
 from cases import bytes_in, case_of, change_fields, counted, lines_of, stated_in, vectors_since, with_words, words_in
-from paper import Lists
+from paper import BEFORE_2026_07, TODAY, Lists
 from procedure import (
     CLAUSES, COUNTS, HEADER, MOST_HEIGHT, NONE, Hall, PlainRun, broken_clauses, columns, counts_of, halves_of, longer_size, longer_tables,
     resume, shortest, table_of, table_size,
@@ -21,6 +22,7 @@ from sheets import (
     FAULTS, HALL_A, WIDE, Chance, alternate, balanced, changed, divided, each_way, flat, halving, high_halls, one_deep, packed, random_arcs,
     random_regions, sheet_of, uneven_halls, with_faults, woken,
 )
+from ties import hold_told_apart, tie_halls
 
 A = packed(HALL_A)
 
@@ -176,18 +178,28 @@ def other_states():
                 yield (sheet, table, rounds), None
 
 
+def leaving(hall, table):
+    """The arcs that leave a node which is reached in a table."""
+    return [arc for arc, tail in enumerate(hall.tails) if table[label_at(tail)] % 2**28 != NONE]
+
+
+def keyed_anew(hall, table, arcs):
+    """An ended table with a key for each of some arcs."""
+    words = with_payload(table, 0, 0)
+    for arc in arcs:
+        words = with_payload(words, table_size(hall.nodes) + arc, 1)
+    return words
+
+
 def all_keyed():
     """Ended tables with arcs keyed anew: one, and all that leave a reached node. The rounds that follow change counts alone."""
     for sheet in (A, *small_halls(31, 6, 6, 2)):
         hall, table = Hall(sheet), longer(sheet)
-        leaving = [at for at, tail in enumerate(hall.tails) if table[label_at(tail)] % 2**28 != NONE]
-        for some in (leaving[:1], leaving):
+        arcs = leaving(hall, table)
+        for some in (arcs[:1], arcs):
             if some:
-                words = with_payload(table, 0, 0)
-                for arc in some:
-                    words = with_payload(words, table_size(hall.nodes) + arc, 1)
-                yield (sheet, words, 1), None
-                yield (sheet, words, MOST_LIMIT), None
+                yield (sheet, keyed_anew(hall, table, some), 1), None
+                yield (sheet, keyed_anew(hall, table, some), MOST_LIMIT), None
 
 
 # No arcs; nothing to do.
@@ -516,6 +528,26 @@ def counts_carry_on():
         yield (sheet, with_counts(table, high), MOST_LIMIT), None
 
 
+# The choice among equal keys.
+
+def ties():
+    """From the table after each round one round on, as a run; to the end with other spans; from the table that the choice of before leaves; all keyed anew."""
+    for at, sheet in enumerate(tie_halls()):
+        hall, rounds = Hall(sheet), rounds_of(sheet)
+        made = longer_tables(hall, [*range(rounds + 1)])
+        for done in range(at % 2, rounds, 2):
+            yield (sheet, made[done], 1), stands(made[done + 1])
+        yield (with_other_spans(sheet, OTHER_SPANS[at % 6]), made[at % 2], MOST_LIMIT), None
+        if at % 2:
+            yield (sheet, longer_tables(hall, [1], rules=BEFORE_2026_07)[1], 1 + at % 4), None
+        else:
+            yield (sheet, keyed_anew(hall, made[rounds], leaving(hall, made[rounds])), 1 + at % 3), None
+
+
+def hold_ties():
+    hold_told_apart('resume', [case for case, _ in ties()], lambda run, sheet, table, rounds: resume(sheet, table, rounds, run))
+
+
 # Larger halls.
 
 def full_size():
@@ -539,7 +571,7 @@ def full_size():
 
 FAMILIES = [
     marked, parts, breaks, every_span_of_hall_a, other_states, all_keyed, no_arcs, ended_given_back, refusals, wide, forms, lengths,
-    *CLAUSE_FAMILIES, one_off, counts_carry_on, full_size,
+    *CLAUSE_FAMILIES, one_off, counts_carry_on, full_size, ties,
 ]
 
 
@@ -582,24 +614,25 @@ def see(hall, table, answer):
         SEEN['left no possible state'] += bool(broken_clauses(hall, left))
 
 
-def expected(sheet, table, rounds):
+def expected(sheet, table, rounds, rules):
     """The answer, where it is as the request claims, and where the run without heaps has the same on a small hall."""
-    answer = resume(sheet, table, rounds)
+    answer = resume(sheet, table, rounds, rules=rules)
     if answer[0] == 'input':
         return answer
     hall = Hall(sheet)
-    see(hall, table, answer)
+    if rules == TODAY:
+        see(hall, table, answer)
     if answer[0] != 'state' and not as_claimed(hall, table, rounds, answer[1]):
         sys.exit('what is left is not as claimed: %s' % case_of(7, sheet, rounds, len(table), table)[:300])
-    if len(hall.tails) < 40 and resume(sheet, table, rounds, PlainRun) != answer:
+    if len(hall.tails) < 40 and resume(sheet, table, rounds, PlainRun, rules) != answer:
         sys.exit('the run without heaps differs: %s' % sheet.hex()[:300])
     return answer
 
 
-def answered(family):
+def answered(family, rules=TODAY):
     """The cases of a family with the answers expected and stated."""
     for (sheet, table, rounds), stated in family():
-        yield case_of(7, sheet, rounds, len(table), table), said(expected(sheet, table, rounds), table), stated
+        yield case_of(7, sheet, rounds, len(table), table), said(expected(sheet, table, rounds, rules), table), stated
 
 
 def hold_kinds():
@@ -612,4 +645,5 @@ def hold_kinds():
 def lines():
     found = lines_of(([], [], vectors_since('2026-06', stated_by)), FAMILIES, answered)
     hold_kinds()
+    hold_ties()
     return found

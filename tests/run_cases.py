@@ -4,7 +4,8 @@ What is expected comes from tests/procedure.py. It has to agree with every line 
 and of the vectors of every change request, from tests/2026-01_vectors.txt on, by the rules of their time, where tests/before.py says how
 with the older ones, and with each answer that a case states; every ended table has to hold the distances found a second way, and as much
 work as tests/work.py says, every longer table has to be a possible state of request 2026-06, and on small halls the run without heaps has to
-make the same tables. Otherwise the script stops.
+make the same tables. The halls of tests/ties.py have to tell wrong choices among equal keys from that of request 2026-07, and hall A has to be
+as it was by the choice of before. Otherwise the script stops.
 """
 import sys
 from collections import Counter
@@ -13,16 +14,17 @@ from before import MORE, answer_before, listing_before
 from cases import (
     bytes_in, case_of, change_fields, counted, data, lines_of, stated_in, vectors_of, vectors_since, with_words, words_in,
 )
-from paper import BASE, TODAY, judge
+from paper import BASE, BEFORE_2026_07, TODAY, judge
 from procedure import (
     COUNTS, HEADER, MOST_HEIGHT, NONE, Hall, PlainRun, Run, broken_clauses, columns, counts_of, distances, halves_of, longer_size, longer_tables,
     printed, shortest, table_of, table_refusal, table_size, tables,
 )
 from sheets import (
     FAULTS, HALL_A, WIDE, Chance, Parts, alternate, balanced, beneath, chain, changed, divided, each_way, flat, halving, high_halls, inner,
-    ladder, leaf, many_chains, one_deep, packed, random_arcs, random_regions, sheet_of, side_by_side, single_children, turntable,
+    ladder, leaf, many_chains, nested, one_deep, packed, random_arcs, random_regions, sheet_of, side_by_side, single_children, turntable,
     uneven as uneven_regions, uneven_halls, with_faults, woken,
 )
+from ties import SHALLOW_FIRST, hold_decided, hold_told_apart, tie_halls
 from work import Work
 
 MOST_LIMIT = 2**32 - 1
@@ -427,9 +429,53 @@ def longer_full_size():
     yield longest, [(None, length, 'refused state 21') for length in (4132, 4134)]
 
 
+# The choice among equal keys.
+
+def ties_by_hand():
+    """Two halls round by round, by hand.
+
+    In the first a leaf, an inner region of height 1 and one of height 2 hang on region 0, the highest with the lowest number, each with an arc from the source,
+    and all spans are 1: the leaf is worked in the first round, then the region of height 1, then that of height 2. In the second region 1 and the leaf of arc 3
+    have the key 0 at the start, and the leaf is worked first: node 2 is at 500 when region 1 is worked, with a span of 3, up to arc 2, which feeds node 3.
+    """
+    heights = divided(4, 0, [(0, 1, 1), (0, 2, 1), (0, 3, 1)], nested([[[0]], [1], 2]), lambda h: 1)
+    rounds = [
+        as_marked('paused', [0, 0, 0, 0, 0, 9], [0, NONE, NONE, NONE], [NONE] * 4, [1, 1, 1]),
+        as_marked('paused', [1, 1, 0, 0, 1, 9], [0, NONE, NONE, 1], [NONE, NONE, NONE, 2], [1, 1, 0]),
+        as_marked('paused', [2, 2, 1, 0, 2, 9], [0, NONE, 1, 1], [NONE, NONE, 1, 2], [1, 0, 0]),
+        as_marked('ended', [3, 3, 2, 1, 3, 9], [0, 1, 1, 1], [NONE, 0, 1, 2], [0, 0, 0]),
+    ]
+    yield heights, [(limit, longer(heights), answer) for limit, answer in enumerate(rounds)]
+    rounds = [
+        as_marked('paused', [0, 0, 0, 0, 5], [0, NONE, NONE, NONE], [NONE] * 4, [1, 0, 0, 1, 0]),
+        as_marked('paused', [1, 1, 0, 1, 7], [0, NONE, 500, NONE], [NONE, NONE, 3, NONE], [1, 0, 1, 0, 0]),
+        as_marked('paused', [2, 4, 1, 2, 11], [0, 200, 500, 700], [NONE, 0, 3, 2], [0, 0, 0, 0, 1]),
+        as_marked('ended', [3, 5, 1, 3, 11], [0, 200, 500, 700], [NONE, 0, 3, 2], [0] * 5),
+    ]
+    yield SHALLOW_FIRST, [(limit, longer(SHALLOW_FIRST), answer) for limit, answer in enumerate(rounds)]
+
+
+def ties():
+    """Each limit from 0 to the end in the longer form, and none in the usual one."""
+    for sheet in tie_halls():
+        yield sheet, [(limit, longer(sheet), None) for limit in range(rounds_of(sheet) + 1)] + [(None, right(sheet), None)]
+
+
+def hold_ties():
+    """Also stops where hall A is not as by the choice of before: "hall A prints as before", and every limit of rounds leaves the same table."""
+    def left(run, sheet, limit, length):
+        return longer_tables(Hall(sheet), [limit], run)[limit][:length]
+    hold_told_apart('run', [(sheet, limit, length) for sheet, cases in ties() for limit, length, _ in cases], left)
+    hold_decided()
+    a = packed(HALL_A)
+    limits = [*range(rounds_of(a) + 2), None]
+    if longer_tables(Hall(a), limits) != longer_tables(Hall(a), limits, rules=BEFORE_2026_07) or printed(a) != printed(a, BEFORE_2026_07):
+        sys.exit('hall A is not as before')
+
+
 FAMILIES = [
     marked, lengths_of_tables, refused, wide, small, uneven, high, middling, woken_again, full_size, full_size_wide, work_done, longer_forms,
-    longer_full_size,
+    longer_full_size, ties_by_hand, ties,
 ]
 
 
@@ -453,7 +499,7 @@ def marks_vectors():
     for line in data('marks_vectors.txt'):
         digits, stated = line.split(' ', 1)
         sheet = bytes_in(digits)
-        found = listing_before('|'.join(printed(sheet, BASE.most_each_way)))
+        found = listing_before('|'.join(printed(sheet, BASE)))
         if found != stated:
             sys.exit('marks prints %s: %s' % (found[:200], line[:200]))
         lengths = ([FAULTY] if judge(sheet, BASE.most_each_way) else []) + ([] if judge(sheet) else [right(sheet)])
@@ -483,10 +529,10 @@ def answers(sheet, wanted, rules):
     if all(refusals):
         return ['refused %s %d' % refusal for refusal in refusals]
     hall = Hall(sheet)
-    made = longer_tables(hall, [limit for limit, _ in wanted])
+    made = longer_tables(hall, [limit for limit, _ in wanted], rules=rules)
     if not all(sound(hall, table) for table in made.values()):
         sys.exit('a table is not one of a run: %s' % sheet.hex()[:300])
-    if len(hall.tails) < 40 and longer_tables(hall, list(made), PlainRun) != made:
+    if len(hall.tails) < 40 and longer_tables(hall, list(made), PlainRun, rules) != made:
         sys.exit('the run without heaps differs: %s' % sheet.hex()[:300])
     said = [with_words(('paused', 'ended')[made[limit][0] % 2], made[limit][:length]) for limit, length in wanted]
     return ['refused %s %d' % refusal if refusal else answer for refusal, answer in zip(refusals, said)]
@@ -566,4 +612,5 @@ def lines():
     vectors = [limited_vectors, marks_vectors], [vectors_of('2026-01', stated_by, MORE)], vectors_since('2026-02', stated_by)
     found = lines_of(vectors, FAMILIES, answered, before=answer_before)
     hold_work(found)
+    hold_ties()
     return found

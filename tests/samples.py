@@ -1,17 +1,19 @@
 """Checks the samples: what `./mark` prints for each samples/NAME.hex is samples/NAME.txt, and that is what the procedure of tests/procedure.py gives.
 
 The sheets that are said to have one neat copy have it, by tests/canonical.py. The practical, rounds with one set of spans and then with
-another, is as samples/practical.txt has it. It also tries `./mark` on files that hold something else than words. Run it by
+another, is as samples/practical.txt has it. What the sample of request 2026-07 prints, and what it printed before, is as its comment says; all
+others print what they printed. It also tries `./mark` on files that hold something else than words. Run it by
 `python3 tests/samples.py`; with `--write` it writes the .txt files from tests/procedure.py, which shares nothing with the Rattle code.
 """
 import re
 import subprocess
 import sys
 import tempfile
+from itertools import groupby
 from pathlib import Path
 
 from canonical import form
-from paper import Lists
+from paper import BEFORE_2026_07, TODAY, Lists
 from procedure import NONE, Hall, columns, counts_of, longer_tables, printed, resume
 
 ROOT = Path(__file__).resolve().parent.parent
@@ -24,6 +26,9 @@ ONE_COPY = ('hall-a', 'renumbered', 'neat')
 PRACTICAL = ('practical-first', 'practical-then')
 ROUNDS = 3
 
+# The sample that prints otherwise than before request 2026-07, and has both texts in its comment. All others, hall A among them, print what they printed.
+OTHERWISE = 'shallow-first'
+
 
 def sheet_of(text):
     return bytes.fromhex(''.join(re.sub('#.*', '', text).split()))
@@ -31,6 +36,18 @@ def sheet_of(text):
 
 def sample(name):
     return sheet_of((ROOT / 'samples' / (name + '.hex')).read_text())
+
+
+def texts_in(name):
+    """The texts in the comment of a sample: lines that are set in."""
+    lines = (ROOT / 'samples' / (name + '.hex')).read_text().splitlines()
+    return [[line[6:] for line in some] for is_text, some in groupby(lines, lambda line: line.startswith('#     ')) if is_text]
+
+
+def prints_otherwise(name):
+    """Whether the comment of a sample has what it prints and what it printed before request 2026-07, which is something else."""
+    texts = [printed(sample(name), rules) for rules in (TODAY, BEFORE_2026_07)]
+    return texts_in(name) == texts and texts[0] != texts[1]
 
 
 def have_one_copy():
@@ -94,8 +111,12 @@ def main():
             wrong.append(f'{beside.name} is not what the procedure gives')
         if mark(path) != (0, expected, ''):
             wrong.append(f'./mark {path.name} prints something else')
+        if path.stem != OTHERWISE and printed(sample(path.stem)) != printed(sample(path.stem), BEFORE_2026_07):
+            wrong.append(f'{path.name} prints otherwise than before request 2026-07')
     refused = [('10000001\n\n2000000g\n', 3), ('1000000120000000\n', 1), ('# a comment\n10000001 2000 # another\n', 2), ('10000001\n-\n', 2)]
     wrong += [f'{text!r} is not refused' for text, line in refused if not refuses(text, line)]
+    if not prints_otherwise(OTHERWISE):
+        wrong.append(f'{OTHERWISE}.hex: the comment has not what is printed and what was')
     if not have_one_copy():
         wrong.append('%s: not one neat copy' % ', '.join(ONE_COPY))
     beside = ROOT / 'samples' / 'practical.txt'

@@ -4,11 +4,12 @@ use bench::generate::halls::{self, WIDE};
 use bench::generate::tables::{before, since, MORE};
 use bench::generate::{random::Random, sheets};
 use bench::reference::judge::{accepted, accepted_within, Accepted, Judged};
+use bench::reference::procedure::Ties;
 use bench::reference::table::{self, HEADER, HEIGHTS};
-use bench::reference::{self, Answer, TOP};
+use bench::reference::{self, listing, Answer, TOP};
 
 /// The change requests that have vectors.
-const REQUESTS: [&str; 6] = ["2026-01", "2026-02", "2026-03", "2026-04", "2026-05", "2026-06"];
+const REQUESTS: [&str; 7] = ["2026-01", "2026-02", "2026-03", "2026-04", "2026-05", "2026-06", "2026-07"];
 
 fn lines(name: &str) -> Vec<Vec<String>> {
     let path = format!("{}/../tests/{name}_vectors.txt", env!("CARGO_MANIFEST_DIR"));
@@ -39,12 +40,14 @@ fn answer(text: &str) -> Answer {
 
 type Judge = fn(&[u8]) -> Judged;
 
-/// By which judge a case holds, and the form of its tables: with one inner count, or level by level; and whether there was a longer form.
+/// By which judge a case holds, and the form of its tables: with one inner count, or level by level; whether there was a longer form; and how equal keys were
+/// chosen.
 #[derive(Clone, Copy)]
 struct Era {
     judge: Judge,
     one_inner: bool,
     longer_form: bool,
+    ties: Ties,
 }
 
 impl Era {
@@ -89,17 +92,20 @@ fn two_each_way(bytes: &[u8]) -> Judged {
 
 /// Cases made before request 2026-01 hold by the judge of that time, and by today's unless they were refused as 10.
 fn each_before_2026_01(name: &str, holds: impl Fn(Era, &[String])) {
+    let era = Era { judge: two_each_way, one_inner: true, longer_form: false, ties: Ties::ByNumber };
     for case in lines(name) {
-        holds(Era { judge: two_each_way, one_inner: true, longer_form: false }, &case);
+        holds(era, &case);
         if !matches!(two_each_way(&bytes(&case[0])), Err(10)) {
-            holds(Era { judge: accepted, one_inner: true, longer_form: false }, &case);
+            holds(Era { judge: accepted, ..era }, &case);
         }
     }
 }
 
-/// The cases of a call among those of a request hold by today's judge. Since request 2026-02 their tables are level by level, since 2026-06 in two forms.
+/// The cases of a call among those of a request hold by today's judge. Since request 2026-02 their tables are level by level, since 2026-06 in two forms, and
+/// since 2026-07 equal keys are chosen by height.
 fn each_of_a_request(request: &str, call: &str, holds: impl Fn(Era, &[String])) {
-    let era = Era { judge: accepted, one_inner: request < "2026-02", longer_form: request >= "2026-06" };
+    let ties = if request < "2026-07" { Ties::ByNumber } else { Ties::ByHeight };
+    let era = Era { judge: accepted, one_inner: request < "2026-02", longer_form: request >= "2026-06", ties };
     let lines = lines(request);
     let cases: Vec<_> = lines.iter().filter(|case| case[0] == call).collect();
     assert!(!cases.is_empty());
@@ -131,14 +137,14 @@ fn judge_agrees() {
 
 /// What is printed after `inner`: the figures of the sheet's heights or, with one inner count, their sum. Region 0 alone is as high as there are spans,
 /// and a round works it once; above it all figures are 0.
-fn inner_of(table: &[u32], spans: usize, one_inner: bool) -> String {
+fn inner_of(table: &[u32], spans: usize, one_inner: bool) -> Vec<u64> {
     let figures: Vec<u64> = (0..HEIGHTS).map(|at| table::count(table, 2 + at)).collect();
     assert_eq!(figures[spans - 1], table::count(table, 0));
     assert!(figures[spans..].iter().all(|figure| *figure == 0));
-    if one_inner {
-        return figures.iter().sum::<u64>().to_string();
+    match one_inner {
+        true => vec![figures.iter().sum()],
+        false => figures[..spans].to_vec(),
     }
-    figures[..spans].iter().map(u64::to_string).collect::<Vec<_>>().join(" ")
 }
 
 /// What `marks` prints, its lines joined by '|'.
@@ -148,12 +154,8 @@ fn printed(era: Era, sheet: &[u8]) -> String {
         Ok(accepted) => (vec![0; table::length(accepted.sheet.nodes())], accepted.sheet.spans().len()),
         Err(number) => return format!("refused {number}"),
     };
-    assert_eq!(reference::run_of(judged, None, &mut table), Answer::Ended);
-    let shown = |word: u32| if word & TOP == TOP { "-".to_string() } else { (word & TOP).to_string() };
-    let [rounds, leaves, updates] = [0, 1, 2 + HEIGHTS].map(|at| table::count(&table, at));
-    let first = format!("ended rounds {rounds} leaves {leaves} inner {} updates {updates}", inner_of(&table, spans, era.one_inner));
-    let nodes = table[HEADER..].chunks(2).enumerate().map(|(node, pair)| format!("{node} {} {}", shown(pair[0]), shown(pair[1])));
-    std::iter::once(first).chain(nodes).collect::<Vec<_>>().join("|")
+    assert_eq!(reference::run_of(judged, era.ties, None, &mut table), Answer::Ended);
+    listing::lines_with(&table, &inner_of(&table, spans, era.one_inner)).join("|")
 }
 
 /// A line has blanks, or '_' for them and a last '|'.
@@ -173,7 +175,7 @@ fn limited_run_holds(era: Era, case: &[String]) {
         return assert_eq!(case[3], "state:21");
     }
     let mut table = lent.clone();
-    let answered = reference::run_of((era.judge)(&bytes(&case[0])), Some(case[1].parse().unwrap()), &mut table);
+    let answered = reference::run_of((era.judge)(&bytes(&case[0])), era.ties, Some(case[1].parse().unwrap()), &mut table);
     assert_eq!(answered, answer(&case[3]), "{}", case[0]);
     match case[4].as_str() {
         "-" => assert_eq!(table, lent, "{}", case[0]),
@@ -226,10 +228,11 @@ fn canonical_agrees() {
 
 #[test]
 fn resume_agrees() {
-    let holds = |_: Era, case: &[String]| {
+    let holds = |era: Era, case: &[String]| {
         let lent = words(&case[1]);
         let mut table = lent.clone();
-        assert_eq!(reference::resume(&bytes(&case[0]), case[2].parse().unwrap(), &mut table), answer(&case[3]), "{}", case[0]);
+        let answered = reference::resume_of((era.judge)(&bytes(&case[0])), era.ties, case[2].parse().unwrap(), &mut table);
+        assert_eq!(answered, answer(&case[3]), "{}", case[0]);
         assert_eq!(table, if case[4] == "-" { lent } else { words(&case[4]) }, "{}", case[0]);
     };
     each_since("2026-06", "resume", holds);

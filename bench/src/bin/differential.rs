@@ -3,8 +3,8 @@
 //! Compared are the answers, every word or byte of the tables and buffers lent and of what lies around them, and that a refusal changed nothing. Every
 //! table left as ended is held to request 2026-03, the canonical forms of some sheets to request 2026-04, every refusal with 2 to the list of cases of
 //! request 2026-05, and rounds made in parts and with other spans to request 2026-06. Ends with 1 at the first difference, or if a refusal number, an answer,
-//! a number of arcs one way, a sort of ended tables, a change to a sheet, two kinds next to each other, a broken clause of a possible state or a sort of
-//! resumed tables were never seen, or no inner region of some height was worked.
+//! a number of arcs one way, a sort of ended tables, a change to a sheet, two kinds next to each other, a broken clause of a possible state, a sort of resumed
+//! tables or a table that the choice among equal keys of request 2026-07 changes were never seen, or no inner region of some height was worked.
 
 use bench::generate::changes::{self, Change, CHANGES};
 use bench::generate::random::Random;
@@ -14,6 +14,7 @@ use bench::reference::judge::{accepted, Judged, MOST_EACH_WAY};
 use bench::reference::neighbours::{self, Place, PLACES};
 use bench::reference::nesting::alike;
 use bench::reference::possible::{broken, Clause, CLAUSES};
+use bench::reference::procedure::Ties;
 use bench::reference::sheet::{words, Sheet};
 use bench::reference::table::{self, HEIGHTS};
 use bench::reference::work::Work;
@@ -30,6 +31,9 @@ const GUARD: usize = 4;
 /// Of so many accepted sheets one is held to request 2026-04, and all that have more than so many region words.
 const HELD_TO_2026_04: usize = 8;
 const MANY_REGIONS: usize = 2_000;
+
+/// Of so many cases the tables of one are also made with the choice among equal keys from before request 2026-07.
+const MADE_AS_BEFORE: u64 = 4;
 
 /// What was called and how the two differ.
 struct Difference(String);
@@ -59,7 +63,7 @@ const WRITTEN: u32 = 131_072;
 
 /// How often each call gave each answer. How many sheets there were of each sort, and by the most arcs that a node has one way, how many accepted ones and how
 /// many refused as 10. How many finished tables have a figure above 0 at each height. How many ended tables there were of each of `SORTS`. What was seen of
-/// canonical forms, and of kinds.
+/// canonical forms, of kinds, of possible states, and, by call, of the choice among equal keys.
 #[derive(Default)]
 struct Tally {
     answers: BTreeMap<(&'static str, u32), u64>,
@@ -71,6 +75,34 @@ struct Tally {
     forms: Forms,
     kinds: Kinds,
     states: States,
+    choices: BTreeMap<&'static str, Choices>,
+}
+
+/// The calls that make rounds.
+const ROUNDS: [&str; 3] = ["run", "run_limited", "resume"];
+
+/// Request 2026-07: how many tables of a call were also made with the choice of before, how many of these are others, and how many of the others are ended and
+/// have other feeding arcs.
+#[derive(Clone, Copy, Default)]
+struct Choices {
+    made: u64,
+    other: u64,
+    other_feeds: u64,
+}
+
+impl Choices {
+    fn count(&mut self, sheet: &Sheet, table: &[u32], before: &[u32]) {
+        let feeds = |table: &[u32]| (0..sheet.nodes()).map(|node| table[table::feed_at(node)]).collect::<Vec<_>>();
+        self.made += 1;
+        self.other += (table != before) as u64;
+        self.other_feeds += (table[0] & before[0] & 1 == 1 && feeds(table) != feeds(before)) as u64;
+    }
+
+    fn unseen(&self) -> impl Iterator<Item = &'static str> {
+        let counts =
+            [(self.other, "another table than by the choice of before"), (self.other_feeds, "other feeding arcs than by the choice of before")];
+        counts.into_iter().filter(|(count, _)| *count == 0).map(|(_, name)| name)
+    }
 }
 
 /// Request 2026-06: how many refusals with 33 break each clause alone, and how many several. How many breaks there were, how many with other spans than before;
@@ -260,6 +292,10 @@ impl Tally {
         self.forms.print();
         self.kinds.print();
         self.states.print();
+        for call in ROUNDS {
+            let Choices { made, other, other_feeds } = self.chosen(call);
+            println!("{call}, tables also made with the tie rule of before: {made}, others {other}, ended with other feeding arcs {other_feeds}");
+        }
         for call in ["judge", "run", "run_limited", "route", "canonical", "resume"] {
             let answers = self.answers.iter().filter(|((of, _), _)| *of == call);
             let parts: Vec<String> = answers.map(|((_, code), count)| format!("{} {count}", named(*code))).collect();
@@ -268,7 +304,12 @@ impl Tally {
         println!("calls compared: {}", self.answers.values().sum::<u64>());
     }
 
-    /// The numbers, answers, numbers of arcs one way, worked heights, sorts of ended tables, changes, neighbouring kinds and states that were never seen.
+    fn chosen(&self, call: &str) -> Choices {
+        self.choices.get(call).copied().unwrap_or_default()
+    }
+
+    /// The numbers, answers, numbers of arcs one way, worked heights, sorts of ended tables, changes, neighbouring kinds, states and choices that were never
+    /// seen.
     fn unseen(&self) -> Vec<String> {
         let wanted = (1..=15).chain(21..=25).chain(31..=33).chain(256..=259).chain([ROUTE, WRITTEN]);
         let answers = wanted.filter(|code| !self.answers.keys().any(|(_, seen)| seen == code)).map(named);
@@ -276,7 +317,8 @@ impl Tally {
         let arcs = (0..=MOST_EACH_WAY + 2).filter(|most| !seen.contains(most)).map(|most| ways(most) + " arcs one way");
         let heights = (0..HEIGHTS).filter(|at| self.worked[*at] == 0).map(|at| format!("workings at height {}", at + 1));
         let sorts = SORTS.iter().zip(self.ended).filter(|(_, tables)| *tables == 0).map(|((sort, _), _)| format!("ended tables, {sort}"));
-        let of_requests = self.forms.unseen().chain(self.kinds.unseen()).chain(self.states.unseen());
+        let choices = ROUNDS.into_iter().flat_map(|call| self.chosen(call).unseen().map(move |name| format!("{call}, {name}")));
+        let of_requests = self.forms.unseen().chain(self.kinds.unseen()).chain(self.states.unseen()).chain(choices);
         answers.chain(arcs).chain(heights).chain(sorts).chain(of_requests).collect()
     }
 }
@@ -371,11 +413,12 @@ fn compared<T: Item>(
     Ok((answer, got.part().to_vec()))
 }
 
-/// One sheet with what its calls need.
+/// One sheet with what its calls need, and whether its tables are also made with the choice among equal keys of before.
 struct Trial<'a> {
     bytes: &'a [u8],
     random: &'a mut Random,
     tally: &'a mut Tally,
+    as_before: bool,
 }
 
 impl Trial<'_> {
@@ -513,6 +556,7 @@ impl Trial<'_> {
         let told = || format!("with a table of {length} words");
         let (answer, table) = compared("run", told, lent, self.tally, |table| proved::run(bytes, table), |table| reference::run(bytes, table))?;
         self.held("run", told, answer, &table)?;
+        self.chosen("run", &table, &table, |judged, table| reference::run_of(judged, Ties::ByNumber, None, table));
         Ok(table)
     }
 
@@ -523,6 +567,7 @@ impl Trial<'_> {
         let of_proved = |table: &mut [u32]| proved::run_limited(bytes, rounds, table);
         let (answer, table) = compared("run_limited", told, lent, self.tally, of_proved, |table| reference::run_limited(bytes, rounds, table))?;
         self.held("run_limited", told, answer, &table)?;
+        self.chosen("run_limited", &table, &table, |judged, table| reference::run_of(judged, Ties::ByNumber, Some(rounds), table));
         Ok((answer, table))
     }
 
@@ -607,7 +652,7 @@ impl Trial<'_> {
 
     /// The same trial of another sheet.
     fn of<'a>(&'a mut self, bytes: &'a [u8]) -> Trial<'a> {
-        Trial { bytes, random: self.random, tally: self.tally }
+        Trial { bytes, random: self.random, tally: self.tally, as_before: self.as_before }
     }
 
     /// The canonical form that the proved call writes of a sheet, or nothing where it refuses the sheet.
@@ -670,7 +715,9 @@ impl Trial<'_> {
             format!("for {rounds} rounds more of the sheet {} with the table {words}", hexadecimal(bytes))
         };
         let of_proved = |table: &mut [u32]| proved::resume(bytes, rounds, table);
-        compared("resume", told, lent, self.tally, of_proved, |table| reference::resume(bytes, rounds, table))
+        let (answer, left) = compared("resume", told, lent, self.tally, of_proved, |table| reference::resume(bytes, rounds, table))?;
+        self.chosen("resume", table, &left, |judged, table| reference::resume_of(judged, Ties::ByNumber, rounds, table));
+        Ok((answer, left))
     }
 
     /// Tables of the longer form: runs fill it, routes are read out of it, and rounds go on from it.
@@ -783,6 +830,20 @@ impl Trial<'_> {
     }
 }
 
+/// Request 2026-07.
+impl Trial<'_> {
+    /// Of some cases, counts how a table that a call has left differs from that which the choice of before leaves of what was lent.
+    fn chosen(&mut self, call: &'static str, lent: &[u32], left: &[u32], before: impl FnOnce(Judged, &mut [u32]) -> Answer) {
+        if !self.as_before {
+            return;
+        }
+        let mut table = lent.to_vec();
+        if let (Answer::Ended | Answer::Paused, Ok(accepted)) = (before(accepted(self.bytes), &mut table), accepted(self.bytes)) {
+            self.tally.choices.entry(call).or_default().count(&accepted.sheet, left, &table);
+        }
+    }
+}
+
 /// The words of a table that say the distances.
 fn labels<'a>(sheet: &Sheet, table: &'a [u32]) -> impl Iterator<Item = &'a u32> {
     table[table::HEADER..table::length(sheet.nodes())].iter().step_by(2)
@@ -829,7 +890,8 @@ fn main() -> ExitCode {
         let mut random = Random::of_case(seed, case);
         let (sort, bytes) = sheet_of(&mut random);
         *tally.sheets.entry(sort).or_default() += 1;
-        if let Err(Difference(text)) = (Trial { bytes: &bytes, random: &mut random, tally: &mut tally }).all() {
+        let as_before = case % MADE_AS_BEFORE == 0;
+        if let Err(Difference(text)) = (Trial { bytes: &bytes, random: &mut random, tally: &mut tally, as_before }).all() {
             println!("DIFFERENCE in case {case} of seed {seed} ({sort}): {text}\nsheet {}", hexadecimal(&bytes));
             return ExitCode::from(1);
         }

@@ -4,6 +4,7 @@ pub mod canonical;
 pub mod dijkstra;
 pub mod judge;
 pub mod linear;
+pub mod listing;
 pub mod neighbours;
 pub mod nesting;
 pub mod possible;
@@ -14,6 +15,7 @@ pub mod table;
 pub mod work;
 
 use judge::{accepted, Judged};
+use procedure::Ties;
 use sheet::Sheet;
 
 /// The payload that stands for 'unreached', for the key 'none' and for 'no arc'.
@@ -51,23 +53,19 @@ pub fn judge(bytes: &[u8]) -> Answer {
 }
 
 pub fn run(bytes: &[u8], table: &mut [u32]) -> Answer {
-    run_of(accepted(bytes), None, table)
+    run_of(accepted(bytes), Ties::ByHeight, None, table)
 }
 
 pub fn run_limited(bytes: &[u8], rounds: u32, table: &mut [u32]) -> Answer {
-    run_of(accepted(bytes), Some(rounds), table)
+    run_of(accepted(bytes), Ties::ByHeight, Some(rounds), table)
 }
 
 pub fn route(bytes: &[u8], table: &[u32], node: u32, buffer: &mut [u32]) -> Answer {
     route_of(accepted(bytes), table, node, buffer)
 }
 
-/// Goes on from a longer table: 32 "in the place of 21 and 22", then 33, then so many rounds.
 pub fn resume(bytes: &[u8], rounds: u32, table: &mut [u32]) -> Answer {
-    match accepted(bytes).and_then(|accepted| resumable(accepted, table)) {
-        Err(number) => Answer::Refused(number),
-        Ok(accepted) => procedure::resume(&accepted, rounds, table),
-    }
+    resume_of(accepted(bytes), Ties::ByHeight, rounds, table)
 }
 
 fn resumable(accepted: judge::Accepted, table: &[u32]) -> Judged {
@@ -103,7 +101,7 @@ pub fn run_dijkstra(bytes: &[u8], table: &mut [u32]) -> Answer {
     }
 }
 
-/// The calls on a sheet that has been judged, by whichever limit.
+/// The calls on a sheet that has been judged, by whichever limit, and with whichever choice among equal keys.
 pub fn judge_of(judged: Judged) -> Answer {
     match judged {
         Ok(_) => Answer::Accepted,
@@ -111,10 +109,18 @@ pub fn judge_of(judged: Judged) -> Answer {
     }
 }
 
-pub fn run_of(judged: Judged, limit: Option<u32>, table: &mut [u32]) -> Answer {
+pub fn run_of(judged: Judged, ties: Ties, limit: Option<u32>, table: &mut [u32]) -> Answer {
     match fitting(judged, table) {
         Err(number) => Answer::Refused(number),
-        Ok(accepted) => procedure::run(&accepted, limit, table),
+        Ok(accepted) => procedure::run(&accepted, ties, limit, table),
+    }
+}
+
+/// Goes on from a longer table: 32 "in the place of 21 and 22", then 33, then so many rounds.
+pub fn resume_of(judged: Judged, ties: Ties, rounds: u32, table: &mut [u32]) -> Answer {
+    match judged.and_then(|accepted| resumable(accepted, table)) {
+        Err(number) => Answer::Refused(number),
+        Ok(accepted) => procedure::resume(&accepted, ties, rounds, table),
     }
 }
 

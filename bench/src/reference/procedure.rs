@@ -1,7 +1,7 @@
 //! The nested-region procedure, written for speed: one winner tree for each region.
 //!
 //! The tree of a region with f children has 2f places. Its children stand at places f to 2f - 1, place p below f holds the better of places
-//! 2p and 2p + 1, and place 1 the first-chosen child. A place holds key and region number in one number, so that the better one is the lower one.
+//! 2p and 2p + 1, and place 1 the first-chosen child. A place holds key, height and region number in one number, so that the better one is the lower one.
 //! A leaf's own key and its key in its parent are equal whenever one of them is read, and stand in the parent's tree alone.
 
 use super::judge::{Accepted, MOST_EACH_WAY};
@@ -9,27 +9,46 @@ use super::sheet::{is_leaf, leaf_arc, parent, payload, Arc};
 use super::table::{feed_at, key_at, label_at, length, write_header, write_key, write_node, Counts};
 use super::{Answer, TOP};
 
-const NONE: u64 = (TOP as u64) << 16;
+/// The choice among equal keys. Since request 2026-07 it "goes to the region of lower height, then to the lower number"; before, to the lower number alone.
+#[derive(Clone, Copy, Debug, PartialEq, Eq)]
+pub enum Ties {
+    ByHeight,
+    ByNumber,
+}
 
-fn item(key: u32, region: usize) -> u64 {
-    (key as u64) << 16 | region as u64
+impl Ties {
+    /// Of regions with equal keys the one is chosen for which this is lowest.
+    fn rank(self, height: u8, region: usize) -> u32 {
+        match self {
+            Ties::ByHeight => (height as u32) << 16 | region as u32,
+            Ties::ByNumber => region as u32,
+        }
+    }
+}
+
+const NONE: u64 = (TOP as u64) << 32;
+
+fn item(key: u32, rank: u32) -> u64 {
+    (key as u64) << 32 | rank as u64
 }
 
 fn key(item: u64) -> u32 {
-    (item >> 16) as u32
+    (item >> 32) as u32
 }
 
 fn region(item: u64) -> usize {
     item as u16 as usize
 }
 
-/// What is known of a region: where it stands in its parent's tree, where its own tree begins, its height, and its span, or its arc for a leaf.
+/// What is known of a region: where it stands in its parent's tree, where its own tree begins, its height, its rank among equal keys, and its span, or its
+/// arc for a leaf.
 #[derive(Clone, Copy)]
 struct Region {
     parent: u16,
     place: u16,
     tree: u16,
     height: u8,
+    rank: u32,
     span_or_arc: u32,
 }
 
@@ -56,16 +75,16 @@ struct Run {
 }
 
 /// Runs an accepted sheet for at most so many rounds, or to its end, and writes the table in the form whose length it has.
-pub fn run(accepted: &Accepted, limit: Option<u32>, table: &mut [u32]) -> Answer {
-    let mut run = Run::new(accepted);
+pub fn run(accepted: &Accepted, ties: Ties, limit: Option<u32>, table: &mut [u32]) -> Answer {
+    let mut run = Run::new(accepted, ties);
     run.start(accepted.sheet.source());
     run.rounds(limit);
     run.answer(table)
 }
 
 /// Goes on from a longer table that is a possible state, for at most so many rounds, and writes the new state over the old.
-pub fn resume(accepted: &Accepted, rounds: u32, table: &mut [u32]) -> Answer {
-    let mut run = Run::new(accepted);
+pub fn resume(accepted: &Accepted, ties: Ties, rounds: u32, table: &mut [u32]) -> Answer {
+    let mut run = Run::new(accepted, ties);
     run.go_on(table);
     run.rounds(Some(rounds));
     run.answer(table)
@@ -84,27 +103,28 @@ fn trees_and_children(words: &[u32]) -> (Vec<u16>, Vec<u16>) {
     (places, children)
 }
 
-fn regions(accepted: &Accepted) -> Vec<Region> {
+fn regions(accepted: &Accepted, ties: Ties) -> Vec<Region> {
     let words = accepted.sheet.regions();
     let spans = accepted.sheet.spans();
     let (trees, mut free) = trees_and_children(words);
     let mut regions = Vec::with_capacity(words.len() + 1);
     let height = spans.len() as u8;
-    regions.push(Region { parent: 0, place: 0, tree: 0, height, span_or_arc: payload(spans[spans.len() - 1]) });
+    regions.push(Region { parent: 0, place: 0, tree: 0, height, rank: 0, span_or_arc: payload(spans[spans.len() - 1]) });
     for (at, word) in words.iter().enumerate() {
         let parent = parent(*word);
         let height = accepted.heights[at + 1] as u8;
         let span_or_arc = if is_leaf(*word) { leaf_arc(*word) as u32 } else { payload(spans[height as usize - 1]) };
-        regions.push(Region { parent: parent as u16, place: free[parent], tree: trees[at + 1], height, span_or_arc });
+        let rank = ties.rank(height, at + 1);
+        regions.push(Region { parent: parent as u16, place: free[parent], tree: trees[at + 1], height, rank, span_or_arc });
         free[parent] += 1;
     }
     regions
 }
 
 impl Run {
-    fn new(accepted: &Accepted) -> Run {
+    fn new(accepted: &Accepted, ties: Ties) -> Run {
         let sheet = &accepted.sheet;
-        let regions = regions(accepted);
+        let regions = regions(accepted, ties);
         let trees = vec![NONE; 2 * regions.len()];
         let arcs: Vec<Arc> = sheet.arcs().collect();
         let mut leaves = vec![0u16; arcs.len()];
@@ -137,7 +157,7 @@ impl Run {
             let row = self.regions[child];
             let smallest = if row.is_leaf() { self.own_key(table, row.span_or_arc as usize) } else { key(self.trees[row.tree as usize + 1]) };
             if smallest < TOP {
-                self.write(self.regions[row.parent as usize].tree as usize, row.place as usize, item(smallest, child));
+                self.write(self.regions[row.parent as usize].tree as usize, row.place as usize, item(smallest, row.rank));
             }
         }
     }
@@ -198,7 +218,6 @@ impl Run {
     /// An update that starts at a leaf and climbs while smallest keys fall.
     fn update(&mut self, leaf: usize, new: u32) {
         self.counts.updates += 1;
-        let mut at = leaf;
         let mut row = self.regions[leaf];
         let mut tree = self.regions[row.parent as usize].tree as usize;
         if key(self.trees[tree + row.place as usize]) <= new {
@@ -207,12 +226,11 @@ impl Run {
         loop {
             self.counts.updates += 1;
             let before = key(self.trees[tree + 1]);
-            self.write(tree, row.place as usize, item(new, at));
+            self.write(tree, row.place as usize, item(new, row.rank));
             if row.parent == 0 || key(self.trees[tree + 1]) >= before {
                 return;
             }
-            at = row.parent as usize;
-            row = self.regions[at];
+            row = self.regions[row.parent as usize];
             tree = self.regions[row.parent as usize].tree as usize;
         }
     }
@@ -249,7 +267,7 @@ impl Run {
                 self.process(child);
                 match self.trees[row.tree as usize + 1] {
                     NONE.. => NONE,
-                    first => item(key(first), child),
+                    first => item(key(first), row.rank),
                 }
             };
             self.write(tree, row.place as usize, after);

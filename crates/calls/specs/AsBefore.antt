@@ -1,4 +1,4 @@
--- What requests leave as it was before them. Definitions.
+-- What requests leave as it was before them, one by one: all else is today's on both sides, the choice among equal keys (2026-07) too. Definitions.
 use Prim.Native.Nat.{ℕ, _+_, _*_}
 use mathlib.Core.Path.{_≡_}
 use mathlib.Core.List.{List, [], _∷_}
@@ -24,7 +24,7 @@ pub record SameUnder (few most : ℕ) (b : List ℕ) : Type 0 where
   pub answers : (call : Call) → callAnswer (refusalsUnder most b) call ≡ callAnswer (refusalsUnder few b) call
   pub words : (call : Call) → lentAfter (refusalsUnder most b) call ≡ lentAfter (refusalsUnder few b) call
 
--- 2026-02: "The table's inner count gives way to fifteen". The state after at most k rounds of the procedure as it was, with one count for all inner regions,
+-- 2026-02: "The table's inner count gives way to fifteen". The state after at most k rounds of the procedure with one count for all inner regions, as it was,
 abbrev pub stateBefore : List ℕ → ℕ → State
 stateBefore b k = let g = graphOf b in let d = divisionOf b in afterBy g d (countInnerBefore g d) (spansOf b) k
 

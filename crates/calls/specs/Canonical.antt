@@ -48,6 +48,6 @@ pub record Copies (b : List ℕ) : Type 0 where
   pub own : canonical (canonical b) ≡ canonical b
   -- "Two sheets have the same neat copy exactly when they share nodes, source, spans, arcs and nesting, chains of single children counted."
   pub exactly : (b′ : List ℕ) → Accepted b′ → (canonical b ≡ canonical b′) ↔ Alike b b′
-  -- their tables need not be the same, since ties go by region number, but once they are left as ended they have the same distances
+  -- their tables need not be the same, since ties between regions of one height go by number, but once they are left as ended they have the same distances
   pub distances : (b′ : List ℕ) → Accepted b′ → canonical b ≡ canonical b′ → (k k′ : ℕ) → statusIn (runTable b k) ≡ 1 → statusIn (runTable b′ k′) ≡ 1
       → SameDistances b (runTable b k) b′ (runTable b′ k′)

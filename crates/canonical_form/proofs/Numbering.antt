@@ -6,15 +6,15 @@ use mathlib.Core.Logic.{_≢_, ⊎-elim}
 use mathlib.Core.List.{List, [], _∷_, _++_}
 use native.Mathlib.Nat.{zero-add, suc-add, not-suc-le-zero}
 use native.Mathlib.Omega.{arith}
-use borrow.Author.Tests.{ltb-true, eqb-true, eq-eqb, lt-ltb}
+use borrow.Author.Tests.{eqb-true, eq-eqb, lt-ltb}
 use lib.Dec.{ltb, eqb, ltb→lt}
-use Rattle.indices.proofs.Tests.{never, and-left, and-right, and-both, any-hit, any-found, count-le, count-out-all}
+use Rattle.indices.proofs.Tests.{never, any-hit, any-found, count-le, count-out-all}
 use Rattle.indices.proofs.Totals.{count-less}
 use Rattle.indices.proofs.Least.{least-le, least-at}
 use Rattle.indices.proofs.Renumbering.{search-reaches}
 use Rattle.indices.proofs.Steps.{if-cong, eq-or-ne, lt-or-le}
 use Rattle.sheet.specs.Words.{top}
-use Rattle.procedure.specs.Division.{Division, regions, parent, arcOf, isChild}
+use Rattle.procedure.specs.Division.{Division, regions, parent, arcOf}
 use Rattle.canonical_form.specs.Numbering.{sooner, above, ancestor, holds, lowestArc, pathFor, path, newNumber, oldNumber}
 use Rattle.canonical_form.specs.Inner.{Proper}
 use Rattle.canonical_form.proofs.Dictionary.{nothing-sooner, sooner-irreflexive, sooner-onward, onward-apart, rank-rises, rank-apart}
@@ -25,16 +25,6 @@ held-value true x y e l = (refl, e)
 held-value false x y e l = absurd (omega arith)
 
 module _ (d : Division) where
-  -- CHILDREN
-  pub child-later : (p c : ℕ) → isChild d p c ≡ true → 0 < c
-  child-later p c h = ltb-true 0 c (and-left (ltb 0 c) (eqb (parent d c) p) h)
-
-  pub child-parent : (p c : ℕ) → isChild d p c ≡ true → parent d c ≡ p
-  child-parent p c h = eqb-true (parent d c) p (and-right (ltb 0 c) (eqb (parent d c) p) h)
-
-  pub is-child : (c : ℕ) → 0 < c → isChild d (parent d c) c ≡ true
-  is-child c pos = and-both (ltb 0 c) _ (lt-ltb 0 c pos) (eq-eqb (parent d c) (parent d c) refl)
-
   pub above-parent : (r : ℕ) → 0 < r → above d r ≡ parent d r
   above-parent r pos = rw (lt-ltb 0 r pos)
 

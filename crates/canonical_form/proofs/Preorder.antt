@@ -14,10 +14,11 @@ use Rattle.indices.proofs.Tests.{same-truth, never, and-left, and-right, and-bo
 use Rattle.indices.proofs.Totals.{count-sum, count-single}
 use Rattle.indices.proofs.Steps.{eq-or-ne}
 use Rattle.procedure.specs.Division.{Division, regions, parent, isChild}
+use Rattle.procedure.proofs.Children.{child-later, child-parent, is-child}
 use Rattle.canonical_form.specs.Numbering.{sooner, above, ancestor, holds, size, lowestArc, path, newNumber, rise, Preorder}
 use Rattle.canonical_form.proofs.Dictionary.{nothing-sooner, sooner-irreflexive, sooner-onward, onward-apart}
 use Rattle.canonical_form.specs.Inner.{Proper}
-use Rattle.canonical_form.proofs.Numbering.{child-later, child-parent, is-child, above-parent, holds-ancestor, held-below, holder-le}
+use Rattle.canonical_form.proofs.Numbering.{above-parent, holds-ancestor, held-below, holder-le}
 use Rattle.canonical_form.proofs.Numbering.{one-holds, path-root, path-step, paths-apart, new-root}
 
 -- LISTS
@@ -110,7 +111,7 @@ module _ (d : Division) (P : Proper d) where
       let down = P .lower (suc s) pos l in
       let up : above d (suc s) ≡ parent d (suc s) = above-parent d (suc s) pos in
       ⊎-elim
-      (λ (w : above d (suc s) ≡ r). (suc s, l, rw (← sym up ∙ w) (is-child d (suc s) pos), holds-ancestor d P 0 (suc s) (suc s) l refl))
+      (λ (w : above d (suc s) ≡ r). (suc s, l, rw (← sym up ∙ w) (is-child d _ (suc s) pos refl), holds-ancestor d P 0 (suc s) (suc s) l refl))
       (λ (w : above d (suc s) ≢ r).
       let g = child-towards k r (above d (suc s)) (omega arith) e w in
       (g .0, g .1, g .2, holds-down (g .0) (suc s) pos l (ap (holds d (g .0)) (sym up) ∙ g .3)))
@@ -242,7 +243,7 @@ module _ (d : Division) (P : Proper d) where
       (λ (none : zs ≡ []).
       let g = onward-apart (path d (parent d (suc s))) (path d p) (lowestArc d (suc s)) z (sym step ∙ e ∙ ap (λ (w : List ℕ). path d p ++ (z ∷ w)) none) in
       let same : parent d (suc s) ≡ p = paths-apart d P (parent d (suc s)) p (omega arith) lp (g .0) in
-      (suc s, ls, rw (← same) (is-child d (suc s) pos), g .1, holds-ancestor d P 0 (suc s) (suc s) ls (no-level (suc s))))
+      (suc s, ls, rw (← same) (is-child d _ (suc s) pos refl), g .1, holds-ancestor d P 0 (suc s) (suc s) ls (no-level (suc s))))
       (λ (more : (us : List ℕ) × (u : ℕ) × (zs ≡ us ++ (u ∷ []))).
       let way : (path d p ++ (z ∷ more .0)) ++ (more .1 ∷ []) ≡ path d (suc s) =
       append-assoc (path d p) (z ∷ more .0) (more .1 ∷ []) ∙ sym (e ∙ ap (λ (w : List ℕ). path d p ++ (z ∷ w)) (more .2)) in

@@ -18,15 +18,14 @@ use Rattle.run_arrays.specs.States.{HoldsQueues}
 use Rattle.run_layout.specs.Layout.{Laid}
 
 -- a table that resuming lets in, its sheet laid out, and its labels in the state's array
-pub record Relaid (b fixed table state : List ℕ) : Type 0 where
+pub record Relaid (b fixed weights table state : List ℕ) : Type 0 where
   pub standing : Standing b table
-  pub weights : List ℕ
   pub laid : Laid b fixed weights
   pub labels : take (graphOf b .nodes) (labelSection state) ≡ labelsIn (graphOf b .nodes) table
 
 -- no own key is entered yet, and there are so many regions
-pub record Keyless (b fixed table state : List ℕ) (count : ℕ) : Type 0 where
-  pub relaid : Relaid b fixed table state
+pub record Keyless (b fixed weights table state : List ℕ) (count : ℕ) : Type 0 where
+  pub relaid : Relaid b fixed weights table state
   pub none : take (arcs (graphOf b)) (ownSection state) ≡ replicate (arcs (graphOf b)) top
   pub all-regions : count ≡ regions (divisionOf b)
 
@@ -36,7 +35,8 @@ queuesUpTo b table a = rebuilt (divisionOf b) (ownIn (graphOf b) table) a (noKey
 
 -- these are entered, by so many updates
 pub record KeysUpTo (b fixed table state winners : List ℕ) (a count : ℕ) : Type 0 where
-  pub relaid : Relaid b fixed table state
+  pub weights : List ℕ
+  pub relaid : Relaid b fixed weights table state
   pub holds : HoldsQueues (graphOf b) (divisionOf b) (queuesUpTo b table a) fixed state winners count
 
 -- and arc a is next

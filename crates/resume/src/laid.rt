@@ -27,7 +27,7 @@ pub fn resume_laid(
     crate::entered::enter_nodes(table, nodes, &mut state);
     crate::entered::enter_counts(table, &mut counts);
     let regions = sizes.regions as u16;
-    crate::queues::rebuild(s, fixed, table, &mut state, &mut winners, regions);
+    crate::queues::rebuild(s, fixed, weights, table, &mut state, &mut winners, regions);
     run_table::finish(
         fixed,
         weights,

@@ -11,6 +11,7 @@ ghost use Rattle.resume.specs.Keys.{Keyless, queuesUpTo, KeysUpTo, KeyNe
 use run_arrays::arrays::FIXED;
 use run_arrays::arrays::PLACES;
 use run_arrays::arrays::STATE;
+use run_arrays::arrays::WEIGHTS;
 use sheet::Arc;
 
 // The key of arc a is entered, if its word says that it has one. How many updates there were.
@@ -62,16 +63,17 @@ fn enter_keys(
 pub fn rebuild(
     s: &[u8],
     fixed: &[u16; FIXED],
+    weights: &[u32; WEIGHTS],
     table: &[u32],
     state: &mut [u32; STATE],
     winners: &mut [u64; PLACES],
     count: u16,
 )
-    requires { ⌜ Keyless (now s) (now fixed) (now table) (now state) count ⌝ }
+    requires { ⌜ Keyless (now s) (now fixed) (now weights) (now table) (now state) count ⌝ }
     ensures { λ _. ⌜ LeavesQueues (graphOf (now (s .entry))) (divisionOf (now (s .entry)))
         (stateIn (graphOf (now (s .entry))) (divisionOf (now (s .entry))) (now (table .entry)) .queues)
         (now (fixed .entry)) (now (state .entry)) (now (state .exit)) (now (winners .exit)) (countIn (now (table .entry)) updatesPlace) ⌝ }
 {
-    run_queue::building::clear(fixed, winners, count);
+    run_queue::building::clear(fixed, weights, winners, count);
     let _updates = enter_keys(s, fixed, table, state, winners);
 }

@@ -28,6 +28,7 @@ pub fn run_laid(
     let regions = sizes.regions as u16;
     run_engine::rounds::start(
         fixed,
+        weights,
         &mut state,
         &mut winners,
         source,

@@ -32,6 +32,10 @@ pub record RegionArcs (d : Division) (arcs : List ℕ) : Type 0 where
   pub leaf : (r : ℕ) → r < regions d → isLeaf d r ≡ true → at arcs r ≡ arcOf d r
   pub inner : (r : ℕ) → r < regions d → isLeaf d r ≡ false → at arcs r ≡ noArc
 
+-- Each region's height.
+abbrev pub RegionHeights : Division → List ℕ → Type 0
+RegionHeights d heights = (r : ℕ) → r < regions d → at heights r ≡ height d r
+
 -- a region whose height has a span
 pub record HasSpan (heights : List ℕ) (r : ℕ) : Type 0 where
   pub in-range : r < mostRegions
@@ -46,5 +50,5 @@ pub record FixedOk (g : Graph) (d : Division) (spans fixed weights : List ℕ) :
   pub arc-count : arcCountOf fixed ≡ arcs g
   pub region-arcs : RegionArcs d (regionArcSection fixed)
   pub lengths : (a : ℕ) → a < arcs g → at weights a ≡ len g a
-  pub heights : (r : ℕ) → r < regions d → at (heightSection weights) r ≡ height d r
+  pub heights : RegionHeights d (heightSection weights)
   pub each-span : (h : ℕ) → h < length spans → at (spanSection weights) h ≡ at spans h

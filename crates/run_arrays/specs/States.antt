@@ -173,11 +173,10 @@ module _ (fixed weights state winners : List ℕ) where
     pub represents : Represents graph division spans current fixed weights state winners c
     pub small : Small (more graph division spans limit current)
 
--- `start`, which reads no weights, in an array of the state that is filled with 'none'
-pub record SomeBlank (fixed state : List ℕ) (source count : ℕ) : Type 0 where
+-- `start`, in an array of the state that is filled with 'none'
+pub record SomeBlank (fixed weights state : List ℕ) (source count : ℕ) : Type 0 where
   pub graph : Graph
   pub division : Division
   pub spans : List ℕ
-  pub weights : List ℕ
   pub blank : Blank graph division spans fixed weights source count
   pub none : state ≡ replicate stateLength top

@@ -1,8 +1,8 @@
--- One priority queue for each inner region, as winner trees in one list: a tree for each region, one after the other. The tree of a region with
--- n children has 2n places, and a place holds a key and a region as one number. The children stand at the places n to 2n - 1; a place p below n
--- holds the lower of places 2p and 2p + 1; so place 1 holds the first-chosen child and its key. Place 0 of a tree and the places behind the last tree are not read,
--- and nothing is said of them. Definitions.
-use Prim.Native.Nat.{ℕ, min, _+_, _*_, _/_, _≤_, _<_}
+-- One priority queue for each inner region, as winner trees in one list: a tree for each region, one after the other. The tree of a region with n children has
+-- 2n places, and a place holds a key, a height and a region as one number, its entry. The children stand at the places n to 2n - 1; a place p below n holds the
+-- lower of places 2p and 2p + 1; so place 1 holds the first-chosen child and its key. Place 0 of a tree and the places behind the last tree are not read, and
+-- nothing is said of them. Definitions.
+use Prim.Native.Nat.{ℕ, min, _+_, _*_, _/_, _%_, _≤_, _<_}
 use mathlib.Core.Bool.{Bool, false, _&&_}
 use mathlib.Core.Path.{_≡_}
 use mathlib.Core.Logic.{_≢_}
@@ -11,17 +11,42 @@ use lib.ListN.{length, set}
 use lib.Dec.{ltb}
 use Rattle.indices.specs.Columns.{at}
 use Rattle.indices.specs.Tests.{count}
-use Rattle.procedure.specs.Division.{Division, regions, parent, isLeaf, isChild}
+use Rattle.procedure.specs.Division.{Division, regions, parent, isLeaf, isChild, height}
 use Rattle.procedure.specs.Queues.{minKey}
 use Rattle.run_arrays.specs.Rows.{field}
+use Rattle.run_arrays.specs.Sections.{mostRegions, heightSection}
+use Rattle.run_arrays.specs.Fixed.{RegionHeights}
 
--- more than any region's number
-abbrev pub entryBase : ℕ
-entryBase = 65536
+-- what a step of the height adds to a rank, more than any region's number, and a step of the key to an entry, more than any rank
+abbrev pub heightStep : ℕ
+heightStep = 65536
 
--- the key and the number of region c as one number: of two, the lower one is chosen first
-abbrev pub entry : List ℕ → ℕ → ℕ
-entry keys c = at keys c * entryBase + c
+abbrev pub keyStep : ℕ
+keyStep = 4294967296
+
+-- a height and a region's number as one number, and a key and this as one
+abbrev pub rankOf : ℕ → ℕ → ℕ
+rankOf tall c = tall * heightStep + c
+
+abbrev pub entryOf : ℕ → ℕ → ℕ
+entryOf key below = key * keyStep + below
+
+-- what an entry tells
+abbrev pub entryKey : ℕ → ℕ
+entryKey e = e / keyStep
+
+abbrev pub entryRank : ℕ → ℕ
+entryRank e = e % keyStep
+
+abbrev pub entryRegion : ℕ → ℕ
+entryRegion e = entryRank e % heightStep
+
+-- the rank of region c, which decides among equal keys, and its entry: of two entries, the lower one is chosen first
+abbrev pub rank : Division → ℕ → ℕ
+rank d c = rankOf (height d c) c
+
+abbrev pub entry : Division → List ℕ → ℕ → ℕ
+entry d keys c = entryOf (at keys c) (rank d c)
 
 -- p and q are the two places that decide one place
 pub record Siblings (p q : ℕ) : Type 0 where
@@ -105,12 +130,18 @@ pub record LaidOut (d : Division) (rows winners : List ℕ) : Type 0 where
   pub planned : Planned d rows
   pub room : 2 * regions d ≤ length winners
 
--- The children are entered: there is a key of 32 bits for each region, and each region but 0 stands with its key at its place in its parent's tree.
+-- What the trees are built from: rows and places that are laid out, and the height of each region among the weights.
+pub record Buildable (d : Division) (rows weights winners : List ℕ) : Type 0 where
+  pub laid : LaidOut d rows winners
+  pub few : regions d ≤ mostRegions
+  pub heights : RegionHeights d (heightSection weights)
+
+-- The children are entered: there is a key of 32 bits for each region, and each region but 0 stands with its key and rank at its place in its parent's tree.
 pub record Seated (d : Division) (rows keys winners : List ℕ) : Type 0 where
   pub laid : LaidOut d rows winners
   pub keyed : length keys ≡ regions d
   pub fit : (c : ℕ) → at keys c < 4294967296
-  pub stands : (c : ℕ) → 0 < c → c < regions d → place d winners (parent d c) (seat d c) ≡ entry keys c
+  pub stands : (c : ℕ) → 0 < c → c < regions d → place d winners (parent d c) (seat d c) ≡ entry d keys c
 
 -- The queues are valid: the children are entered, and every place above them holds what it should.
 pub record QueuesOk (d : Division) (rows keys winners : List ℕ) : Type 0 where
@@ -131,10 +162,10 @@ pub record SomeParent (rows : List ℕ) (c : ℕ) : Type 0 where
   pub positive : 0 < c
   pub inside : c < regions division
 
--- room for the trees of so many regions
-pub record SomeLaidOut (rows winners : List ℕ) (count : ℕ) : Type 0 where
+-- what the trees of so many regions are built from
+pub record SomeBuildable (rows weights winners : List ℕ) (count : ℕ) : Type 0 where
   pub division : Division
-  pub laid : LaidOut division rows winners
+  pub buildable : Buildable division rows weights winners
   pub all-regions : count ≡ regions division
 
 -- valid queues, and one of the regions

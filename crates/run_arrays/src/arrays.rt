@@ -116,7 +116,8 @@ pub fn arc_of(fixed: &[u16; FIXED], r: Region) -> Arc
     Arc(fixed[i])
 }
 
-fn height_of(weights: &[u32; WEIGHTS], r: Region) -> u32
+// The height of region r.
+pub fn height_of(weights: &[u32; WEIGHTS], r: Region) -> u32
     requires { ⌜ r .0 < mostRegions ⌝ }
     ensures { λ h. ⌜ h ≡ at (heightSection (now (weights .entry))) (r .0) ⌝ }
 {

@@ -4,7 +4,8 @@ ghost use Prim.Native.Nat.{min, _+_, _*_, _<_};
 ghost use lib.ListN.{length};
 ghost use Rattle.procedure.specs.Division.{Division, regions, parent};
 ghost use Rattle.run_arrays.specs.Rows.{field, rowCount};
-ghost use Rattle.run_arrays.specs.Trees.{Siblings, Decided, ChildrenCounted, SomeParent, entryBase};
+ghost use Rattle.run_arrays.specs.Trees.{Siblings, Decided, ChildrenCounted, SomeParent};
+ghost use Rattle.run_arrays.specs.Trees.{rankOf, entryOf, entryKey, entryRank, entryRegion};
 use sheet::Region;
 
 // The entries of a region's row.
@@ -48,14 +49,44 @@ pub fn seat_of(rows: &[u16], r: Region) -> u16
     crate::rows::field(rows, r.0, SEAT)
 }
 
-// More than any region's number: an entry is a key times this, and a region.
-pub const ENTRY_BASE: u64 = 65536;
+// What a step of the height adds to a rank, more than any region's number, and a step of the key to an entry, more than any rank.
+const HEIGHT_STEP: u32 = 65536;
 
-// A key and a region as one number, in the order of keys, then of regions.
-pub fn entry_of(key: u32, c: Region) -> u64
-    ensures { λ x. ⌜ x ≡ key * entryBase + c .0 ⌝ }
+const KEY_STEP: u64 = 4294967296;
+
+// A height and a region as one number, in the order of heights, then of regions: of equal keys the lower rank is chosen first.
+pub fn rank_of(height: u16, c: Region) -> u32
+    ensures { λ r. ⌜ r ≡ rankOf height (c .0) ⌝ }
 {
-    key as u64 * ENTRY_BASE + c.0 as u64
+    height as u32 * HEIGHT_STEP + c.0 as u32
+}
+
+// A key and a rank as one number, in the order of keys, then of ranks.
+pub fn entry_of(key: u32, rank: u32) -> u64
+    ensures { λ e. ⌜ e ≡ entryOf key rank ⌝ }
+{
+    key as u64 * KEY_STEP + rank as u64
+}
+
+// The key of an entry.
+pub fn entry_key(entry: u64) -> u32
+    ensures { λ k. ⌜ k ≡ entryKey entry ⌝ }
+{
+    (entry / KEY_STEP) as u32
+}
+
+// The rank of an entry.
+pub fn entry_rank(entry: u64) -> u32
+    ensures { λ r. ⌜ r ≡ entryRank entry ⌝ }
+{
+    (entry % KEY_STEP) as u32
+}
+
+// The region of an entry.
+pub fn entry_region(entry: u64) -> Region
+    ensures { λ c. ⌜ c .0 ≡ entryRegion entry ⌝ }
+{
+    Region((entry_rank(entry) % HEIGHT_STEP) as u16)
 }
 
 // The lower of two entries.

@@ -21,20 +21,21 @@ use sheet::Node;
 use sheet::Region;
 
 // The state before the first round, in an array of the state that is filled with NONE; winners and counts may hold anything. There are `count` regions.
-// Weights are not read.
 pub fn start(
     fixed: &[u16; FIXED],
+    weights: &[u32; WEIGHTS],
     state: &mut [u32; STATE],
     winners: &mut [u64; PLACES],
     source: Node,
     count: u16,
     counts: &mut [u64; COUNTS],
 )
-    requires { ⌜ SomeBlank (now fixed) (now state) (source .0) count ⌝ }
-    ensures { λ _. ⌜ ((g : Graph) (d : Division) (spans weights : List ℕ) → Blank g d spans (now (fixed .entry)) weights (source .0) count
-        → Represents g d spans (start g d) (now (fixed .entry)) weights (now (state .exit)) (now (winners .exit)) (figuresIn (now (counts .exit)))) ⌝ }
+    requires { ⌜ SomeBlank (now fixed) (now weights) (now state) (source .0) count ⌝ }
+    ensures { λ _. ⌜ ((g : Graph) (d : Division) (spans : List ℕ) → Blank g d spans (now (fixed .entry)) (now (weights .entry)) (source .0) count
+        → Represents g d spans (start g d) (now (fixed .entry)) (now (weights .entry)) (now (state .exit)) (now (winners .exit))
+        (figuresIn (now (counts .exit)))) ⌝ }
 {
-    run_queue::building::clear(fixed, winners, count);
+    run_queue::building::clear(fixed, weights, winners, count);
     run_arrays::arrays::set_label(state, source, 0);
     let n = crate::updates::update_outgoing(fixed, state, winners, source, 0, 0);
     run_counts::array::start(counts, n);

@@ -1,4 +1,4 @@
-pub mod Comparison
+pub mod Entries
 pub mod Trees
 pub mod Reading
 pub mod Repair

@@ -1,5 +1,5 @@
 -- What the root of a tree tells in valid queues: the first-chosen child and the smallest key.
-use Prim.Native.Nat.{ℕ, _+_, _*_, _/_, _<_}
+use Prim.Native.Nat.{ℕ, _+_, _<_}
 use mathlib.Core.Path.{_≡_, sym, _∙_}
 use mathlib.Core.Logic.{_≢_}
 use mathlib.Core.List.{List}
@@ -9,21 +9,22 @@ use Rattle.indices.specs.Columns.{at}
 use Rattle.sheet.specs.Words.{top}
 use Rattle.procedure.specs.Division.{Division, regions}
 use Rattle.procedure.specs.Queues.{minItem}
-use Rattle.theory.proofs.Chosen.{Child, minKey-item, minKey-none}
+use Rattle.procedure.proofs.Choice.{minKey-item, minKey-none}
+use Rattle.theory.proofs.Chosen.{Child}
 use Rattle.run_arrays.specs.Rows.{field}
-use Rattle.run_arrays.specs.Trees.{entry, childCount, QueuesOk, entryBase}
+use Rattle.run_arrays.specs.Trees.{entryOf, entry, childCount, Numbered, QueuesOk}
 use Rattle.run_arrays.proofs.trees.Seats.{tree-room}
 use Rattle.run_queue.specs.First.{FirstEntry}
+use Rattle.run_queue.proofs.Entries.{key-of, region-of}
 use Rattle.run_queue.proofs.Trees.{minItem-place, minItem-childless}
 
 module _ {d : Division} {rows keys winners : List ℕ} (Q : QueuesOk d rows keys winners) {r : ℕ} (inside : r < regions d) where
   -- its row says that r has no child: key none and region 0
-  pub first-none : field rows r 1 ≡ 0 → {e : ℕ} → e ≡ top * entryBase + 0 → FirstEntry d keys r e
+  pub first-none : field rows r 1 ≡ 0 → {e : ℕ} → e ≡ entryOf top 0 → FirstEntry d keys r e
   unfolding top
   first-none none is = record {
     item = rw is (sym no-item);
     key = λ inner own updates. rw is (sym (minKey-none d (record { own = own; keys = keys; updates = updates }) r inner no-item));
-    fits = omega (arith, is);
   }
     where
       no-item : minItem d keys r ≡ 0
@@ -41,15 +42,16 @@ module _ {d : Division} {rows keys winners : List ℕ} (Q : QueuesOk d rows keys
     child : Child d r (minItem d keys r)
     child = minItem-place Q r count-some .0
 
-    held : at winners (start + 1) ≡ entry keys (minItem d keys r)
+    held : at winners (start + 1) ≡ entry d keys (minItem d keys r)
     held = rw (row, Q .seated .laid .planned .starts r inside) (minItem-place Q r count-some .1)
 
-    key-is : at winners (start + 1) / entryBase ≡ at keys (minItem d keys r)
-    key-is = omega (arith, held, child .in-range, Q .seated .laid .planned .counted .numbered .few)
+    abbrev N : Numbered d
+    N = Q .seated .laid .planned .counted .numbered
 
     pub first-some : FirstEntry d keys r (at winners (start + 1))
     first-some = record {
-      item = omega (arith, held, child .in-range, Q .seated .laid .planned .counted .numbered .few);
-      key = λ inner own updates. key-is ∙ minKey-item d (record { own = own; keys = keys; updates = updates }) r inner (child .positive);
-      fits = omega (arith, key-is, Q .seated .fit (minItem d keys r));
+      item = region-of N keys _ (child .in-range) held;
+      key =
+          λ inner own updates.
+          key-of N keys _ (child .in-range) held ∙ minKey-item d (record { own = own; keys = keys; updates = updates }) r inner (child .positive);
     }

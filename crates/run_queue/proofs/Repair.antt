@@ -10,8 +10,9 @@ use Rattle.indices.proofs.Steps.{by-equal}
 use Rattle.procedure.specs.Division.{Division, regions}
 use Rattle.theory.proofs.Chosen.{parent-child}
 use Rattle.run_arrays.specs.Rows.{field}
-use Rattle.run_arrays.specs.Trees.{Siblings, childCount, treeStart, place, QueuesOk}
+use Rattle.run_arrays.specs.Trees.{entryOf, entryRank, rank, entry, Siblings, childCount, treeStart, place, QueuesOk}
 use Rattle.run_arrays.proofs.trees.Seats.{tree-room, seat-low, seat-high}
+use Rattle.run_queue.proofs.Entries.{rank-in}
 use Rattle.run_queue.proofs.Trees.{Lies, seat-at, begins, place-same, seat-elim, ValidBut, valid-all, decided, written}
 
 -- what reading place q of the tree that begins at `start` asks for
@@ -27,19 +28,22 @@ pub record Repairing (d : Division) (r : ℕ) (rows keys winners : List ℕ) (st
   pub high : a < 2 * childCount d r
   pub held : place d winners r a ≡ best
 
--- it begins at the place of c, where its key k was written
-pub repair-start : {d : Division} {rows keys winners : List ℕ} {c up start p best : ℕ} (k : ℕ) → QueuesOk d rows keys winners → Lies d rows c up start p
-    → 0 < c → c < regions d → k < 4294967296 → best ≡ k * 65536 + c
+-- it begins at the place of c, where its key k was written, beside the rank that stood there
+pub repair-start : {d : Division} {rows keys winners : List ℕ} {c up start p below best : ℕ} (k : ℕ) → QueuesOk d rows keys winners → Lies d rows c up start p
+    → 0 < c → c < regions d → k < 4294967296 → below ≡ entryRank (at winners (start + p)) → best ≡ entryOf k below
     → Repairing d up rows (set keys c k) (set winners (start + p) best) start p best
-repair-start {d} {rows} {keys} {winners} {c} k Q L pos inside small is =
+repair-start {d} {rows} {keys} {winners} {c} {start = start} {p = p} k Q L pos inside small stood is =
     let h = parent-child d c pos inside in
     let P = Q .seated .laid .planned in
-    rw (seat-at P L pos inside, is, L .over, L .own ∙ P .seats c pos inside) (record {
+    let there : at winners (start + p) ≡ entry d keys c = rw (seat-at P L pos inside) (Q .seated .stands c pos inside) in
+    rw (seat-at P L pos inside, is, stood ∙ rank-in (P .counted .numbered) keys c inside there, L .over, L .own ∙ P .seats c pos inside) (record {
       row = rw (L .over) at (L .row);
       valid = written c k Q pos inside small;
       low = omega (arith, seat-low d h, seat-high d h);
       high = seat-high d h;
-      held = seat-elim d winners (Q .seated .laid .room) c (k * 65536 + c) pos inside (λ y. y ≡ k * 65536 + c) c pos inside (λ _. refl) (λ n. absurd (n refl));
+      held =
+          let x = entryOf k (rank d c) in
+          seat-elim d winners (Q .seated .laid .room) c x pos inside (λ y. y ≡ x) c pos inside (λ _. refl) (λ n. absurd (n refl));
     })
 
 module _ {d : Division} {r : ℕ} {rows keys winners : List ℕ} {start a best : ℕ} (R : Repairing d r rows keys winners start a best) where

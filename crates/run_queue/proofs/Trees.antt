@@ -10,12 +10,13 @@ use Rattle.indices.specs.Columns.{at}
 use Rattle.indices.proofs.Steps.{by-order, by-equal, set-elim}
 use Rattle.procedure.specs.Division.{Division, regions, parent}
 use Rattle.procedure.specs.Queues.{minItem}
-use Rattle.theory.proofs.Chosen.{Child, parent-child, minItem-first, first-one}
+use Rattle.procedure.proofs.Choice.{minItem-first, first-one}
+use Rattle.theory.proofs.Chosen.{Child, parent-child}
 use Rattle.run_arrays.specs.Rows.{field, rowCount}
-use Rattle.run_arrays.specs.Trees.{entry, childCount, treeStart, seat, place, Wins, Planned, LaidOut, QueuesOk, Seated}
+use Rattle.run_arrays.specs.Trees.{entryOf, rank, entry, childCount, treeStart, seat, place, Wins, Planned, LaidOut, QueuesOk, Seated}
 use Rattle.run_arrays.proofs.trees.Seats.{tree-room, trees-apart, seat-low, seat-high, seat-one, place-child, parent-in}
 use Rattle.run_arrays.proofs.trees.RegionRows.{row-in}
-use Rattle.run_queue.proofs.Comparison.{entry-behind}
+use Rattle.run_queue.proofs.Entries.{entry-behind}
 
 -- a store at place p of r's tree
 module _ (d : Division) (winners : List ℕ) (room : 2 * regions d ≤ length winners) (r p x : ℕ) (hp : p < 2 * childCount d r) where
@@ -158,23 +159,25 @@ module _ {d : Division} {rows keys winners : List ℕ} {Open : ℕ → ℕ → T
 
 -- a key written for c, and stored at its place, leaves open the place above
 pub written : {d : Division} {rows keys winners : List ℕ} (c k : ℕ) → QueuesOk d rows keys winners → 0 < c → c < regions d → k < 4294967296
-    → ValidBut d rows (set keys c k) (set winners (treeStart d (parent d c) + seat d c) (k * 65536 + c)) (λ r q. (r ≡ parent d c) × (q ≡ seat d c / 2))
+    → ValidBut d rows (set keys c k) (set winners (treeStart d (parent d c) + seat d c) (entryOf k (rank d c)))
+    (λ r q. (r ≡ parent d c) × (q ≡ seat d c / 2))
 written {d} {rows} {keys} {winners} c k Q pos inside small =
     let h = parent-child d c pos inside in
     let keyed : c < length keys = omega (arith, Q .seated .keyed) in
+    let x = entryOf k (rank d c) in
     record {
       seated =
           record {
-            laid = laid-set (treeStart d (parent d c) + seat d c) (k * 65536 + c) (Q .seated .laid);
+            laid = laid-set (treeStart d (parent d c) + seat d c) x (Q .seated .laid);
             keyed = simp length-set (Q .seated .keyed);
             fit = λ i. set-elim (λ y. y < 4294967296) keys c i k 0 keyed (λ _. small) (λ _. Q .seated .fit i);
             stands =
                 λ b pb lb.
-                seat-elim d winners (Q .seated .laid .room) c (k * 65536 + c) pos inside (λ y. y ≡ entry (set keys c k) b) b pb lb
+                seat-elim d winners (Q .seated .laid .room) c x pos inside (λ y. y ≡ entry d (set keys c k) b) b pb lb
                 (λ e. rw (e, getD-set-same keys c k 0 keyed)) (λ n. rw (getD-set-other keys c b k 0 n) (Q .seated .stands b pb lb));
           };
       rest =
-          rest-kept d winners (Q .seated .laid .room) (parent d c) (seat d c) (k * 65536 + c) (seat-high d h) (λ _ _. ⊥)
+          rest-kept d winners (Q .seated .laid .room) (parent d c) (seat d c) x (seat-high d h) (λ _ _. ⊥)
           (λ r q. (r ≡ parent d c) × (q ≡ seat d c / 2)) (λ r q p l. inl (Q .wins r q p l)) (λ r q o. absurd o)
           (λ l. absurd (omega (arith, seat-low d h))) (λ _. (refl, refl));
     }
@@ -182,7 +185,7 @@ written {d} {rows} {keys} {winners} c k Q pos inside small =
 module _ {d : Division} {rows keys winners : List ℕ} (Q : QueuesOk d rows keys winners) where
   -- place q of r's tree holds the entry of a child of r
   abbrev Held : ℕ → ℕ → Type 0
-  Held r q = (c : ℕ) × Child d r c × (place d winners r q ≡ entry keys c)
+  Held r q = (c : ℕ) × Child d r c × (place d winners r q ≡ entry d keys c)
 
   -- it is the entry of one of the two places below, or a child's own place
   held-step : (r q : ℕ) → 0 < q → q < 2 * childCount d r → (q < childCount d r → Held r (2 * q)) → (q < childCount d r → Held r (2 * q + 1)) → Held r q
@@ -218,11 +221,10 @@ module _ {d : Division} {rows keys winners : List ℕ} (Q : QueuesOk d rows keys
       (λ n. omega (arith, first-lowest r f (q / 2) (omega arith) (omega arith) (omega arith), no-lower r q (omega arith) l))
 
   -- place 1 holds the entry of the first-chosen child
-  pub minItem-place : (r : ℕ) → 0 < childCount d r → Child d r (minItem d keys r) × (place d winners r 1 ≡ entry keys (minItem d keys r))
+  pub minItem-place : (r : ℕ) → 0 < childCount d r → Child d r (minItem d keys r) × (place d winners r 1 ≡ entry d keys (minItem d keys r))
   minItem-place r some =
       let h = held r (2 * childCount d r) 1 (omega arith) (omega arith) (omega arith) in
       let k = h .1 in
-      let few = Q .seated .laid .planned .counted .numbered .few in
       let e : minItem d keys r ≡ h .0 =
       first-one d keys r (regions d) (minItem d keys r) (h .0) (minItem-first d keys r)
       (record {
@@ -231,9 +233,9 @@ module _ {d : Division} {rows keys winners : List ℕ} (Q : QueuesOk d rows keys
         least =
             λ c l pos u.
             let b : Child d r c = record { in-range = l; positive = pos; under = u } in
-            let at-seat : place d winners r (seat d c) ≡ entry keys c = rw u at (Q .seated .stands c pos l) in
+            let at-seat : place d winners r (seat d c) ≡ entry d keys c = rw u at (Q .seated .stands c pos l) in
             let lowest = first-lowest r (seat d c) (seat d c) (omega arith) (omega (arith, seat-low d b)) (seat-high d b) in
-            entry-behind d keys c (h .0) (omega (arith, few)) (omega (arith, few, k .in-range)) (omega (arith, lowest, at-seat, h .2));
+            entry-behind (Q .seated .laid .planned .counted .numbered) keys c (h .0) l (k .in-range) (omega (arith, lowest, at-seat, h .2));
       }) in
       rw e (k, h .2)
 

@@ -10,18 +10,17 @@ ghost use Rattle.procedure.specs.Division.{Division, regions};
 ghost use Rattle.procedure.specs.Queues.{minItem};
 ghost use Rattle.run_arrays.specs.Trees.{IsMinKey, QueuesOk, SomeQueue, SomeItem};
 ghost use Rattle.run_queue.specs.First.{FirstEntry};
-use run_arrays::trees::ENTRY_BASE;
 use sheet::NONE;
 use sheet::Region;
 
-// The root of r's tree, the entry of its first-chosen child; key none and region 0, which is nobody's child, where it has none.
+// The root of r's tree, the entry of its first-chosen child; where it has none, key none and region 0, which is nobody's child.
 fn first_entry(rows: &[u16], winners: &[u64], r: Region) -> u64
     requires { ⌜ SomeQueue (now rows) (now winners) (r .0) ⌝ }
     ensures { λ e. ⌜ ((d : Division) (keys : List ℕ) → QueuesOk d (now (rows .entry)) keys (now (winners .entry)) → r .0 < regions d
         → FirstEntry d keys (r .0) e) ⌝ }
 {
     if run_arrays::trees::children_of(rows, r) == 0 {
-        return run_arrays::trees::entry_of(NONE, Region(0));
+        return run_arrays::trees::entry_of(NONE, 0);
     }
     let start = run_arrays::trees::start_of(rows, r) as usize;
     winners[start + 1]
@@ -33,7 +32,7 @@ pub fn min_item(rows: &[u16], winners: &[u64], r: Region) -> Region
     ensures { λ c. ⌜ ((d : Division) (keys : List ℕ) → QueuesOk d (now (rows .entry)) keys (now (winners .entry)) → r .0 < regions d
         → c .0 ≡ minItem d keys (r .0)) ⌝ }
 {
-    Region((first_entry(rows, winners, r) % ENTRY_BASE) as u16)
+    run_arrays::trees::entry_region(first_entry(rows, winners, r))
 }
 
 // The smallest key of an inner region.
@@ -42,10 +41,11 @@ pub fn min_key(rows: &[u16], winners: &[u64], r: Region) -> u32
     ensures { λ k. ⌜ ((d : Division) (keys : List ℕ) → QueuesOk d (now (rows .entry)) keys (now (winners .entry)) → r .0 < regions d
         → IsMinKey d keys (r .0) k) ⌝ }
 {
-    (first_entry(rows, winners, r) / ENTRY_BASE) as u32
+    run_arrays::trees::entry_key(first_entry(rows, winners, r))
 }
 
-// Writes the key of a region other than 0 and repairs its parent's tree, from its place up, until a place does not change.
+// Writes the key of a region other than 0, beside the rank that stands at its place, and repairs its parent's tree, from that place up, until a place does not
+// change.
 pub fn write(rows: &[u16], winners: &mut [u64], child: Region, key: u32)
     requires { ⌜ SomeItem (now rows) (now winners) (child .0) ⌝ }
     ensures { λ _. ⌜ ((d : Division) (keys : List ℕ) → QueuesOk d (now (rows .entry)) keys (now (winners .entry)) → child .0 < regions d
@@ -54,7 +54,8 @@ pub fn write(rows: &[u16], winners: &mut [u64], child: Region, key: u32)
     let parent = run_arrays::trees::parent_of(rows, child);
     let start = run_arrays::trees::start_of(rows, parent) as usize;
     let mut place = run_arrays::trees::seat_of(rows, child) as usize;
-    let mut best = run_arrays::trees::entry_of(key, child);
+    let rank = run_arrays::trees::entry_rank(winners[start + place]);
+    let mut best = run_arrays::trees::entry_of(key, rank);
     winners[start + place] = best;
     while 1 < place {
         best = run_arrays::trees::lower(best, winners[start + run_arrays::trees::sibling(place)]);

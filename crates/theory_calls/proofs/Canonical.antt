@@ -76,8 +76,8 @@ pub record TwoTables (figure : List ℕ → ℕ) (b b′ : List ℕ) : Type 0 wh
   pub form : canonical b ≡ canonical b′
   pub figures : figure (runTable b enoughRounds) ≢ figure (runTable b′ enoughRounds)
 
--- Hall A, and hall A with the numbers of its two inner regions exchanged: both regions begin with key 0, the tie goes to the lower number, and one run ends
--- after three rounds, the other after two.
+-- Hall A, and hall A with the numbers of its two inner regions exchanged: both regions have height 1 and begin with key 0, the tie goes to the lower number,
+-- and one run ends after three rounds, the other after two.
 pub two-tables : TwoTables roundsIn (bytesOf hallA) (bytesOf renumbered)
 two-tables = record {
   accepted = ties .hall-a-accepted;

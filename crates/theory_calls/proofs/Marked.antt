@@ -13,7 +13,7 @@ use Rattle.sheet.specs.Sections.{spansFrom, arcsFrom, regionWords}
 use Rattle.sheet.specs.Arcs.{tail, head, arcLength}
 use Rattle.sheet.specs.Heights.{heightIn, heightOf}
 use Rattle.sheet.specs.Regions.{leafWord, parentWord, arcWord}
-use Rattle.sheet.proofs.Samples.{mostOfHallA, hallA, patient, onesBelow, byTwos, oneNode, uneven, turntable, fiveIn, fiveOut}
+use Rattle.sheet.proofs.Samples.{mostOfHallA, hallA, patient, onesBelow, byTwos, oneNode, uneven, shallowFirst, turntable, fiveIn, fiveOut}
 use Rattle.answer.specs.Answer.{input, state, Answer, accepted, ended, paused, route, written, refused}
 use Rattle.judgement.specs.Form.{wrongSize, outOfOrder, bitSet, nodesOutside, sourceOutside, spansOutside, tooMany}
 use Rattle.judgement.specs.Arcs.{endsOutside, lengthsOutside, crowdedNodes, tooManyAtNode}
@@ -149,12 +149,19 @@ ring =
     header 0x80000001 0xb0000000 0xb0000000 0xb0000000 0xb0000000 0xb0000000
     ++ (0x90000000 ∷ 0xafffffff ∷ 0x90000007 ∷ 0xa0000001 ∷ 0x90000007 ∷ 0xa0000000 ∷ [])
 
+-- the hall of samples/shallow-first.hex after one round, in the longer form
+abbrev shallowOnce : List ℕ
+shallowOnce =
+    header 0x80000000 0xb0000001 0xb0000001 0xb0000000 0xb0000001 0xb0000007
+    ++ (0x90000000 ∷ 0xafffffff ∷ 0x9fffffff ∷ 0xafffffff ∷ 0x900001f4 ∷ 0xa0000003 ∷ 0x9fffffff ∷ 0xafffffff ∷ [])
+    ++ (0xc0000001 ∷ 0xc0000000 ∷ 0xc0000001 ∷ 0xc0000000 ∷ 0xc0000000 ∷ [])
+
 abbrev rows : List Row
 rows =
     -- hall A, and the one-node hall
     judge hallA is accepted
     ∷ judge oneNode is accepted
-    -- "A to its end, as printed.", and 2026-02: "hall A shows `inner 3 3`"
+    -- "A to its end, as printed.", and 2026-02: "hall A shows `inner 3 3`"; 2026-07: "hall A prints as before"
     ∷ run hallA enoughRounds (blank 4) is ended leaving finishedA 0x90000008
     ∷ print hallA is accepted leaving (
     ascii "ended rounds 3 leaves 5 inner 3 3 updates 13\n"
@@ -293,6 +300,22 @@ rows =
     ∷ resume spanless 1 (replicate (tableLength 1) 7) is refused (input 14) leaving replicate (tableLength 1) 7
     ∷ resume hallA 1 usualA is refused (state 32) leaving usualA
     ∷ resume hallA 1 (set pausedA 0 0x80000001) is refused (state 33) leaving set pausedA 0 0x80000001
+    -- 2026-07: "The choice among equal keys goes to the region of lower height": the first round works leaf 5, arc 3, and not region 1,
+    -- in a run and gone on from the start
+    ∷ run shallowFirst 1 (blankLong 4 5) is paused leaving shallowOnce
+    ∷ resume shallowFirst 1 (
+    header 0x80000000 0xb0000000 0xb0000000 0xb0000000 0xb0000000 0xb0000005
+    ++ (0x90000000 ∷ 0xafffffff ∷ 0x9fffffff ∷ 0xafffffff ∷ 0x9fffffff ∷ 0xafffffff ∷ 0x9fffffff ∷ 0xafffffff ∷ [])
+    ++ (0xc0000001 ∷ 0xc0000000 ∷ 0xc0000000 ∷ 0xc0000001 ∷ 0xc0000000 ∷ [])
+    ) is paused leaving shallowOnce
+    -- by the rule of before, as tests/samples.py has it: rounds 4, leaves 6, inner 2 4, updates 14, and node 3 fed by arc 4
+    ∷ print shallowFirst is accepted leaving (
+    ascii "ended rounds 3 leaves 5 inner 1 3 updates 11\n"
+    ++ ascii "0 0 -\n"
+    ++ ascii "1 200 0\n"
+    ++ ascii "2 500 3\n"
+    ++ ascii "3 700 2\n"
+    )
     ∷ []
 
 -- Where ties decide (2026-04): hall A and the same nesting under other numbers, and both with arc 0 shortened, all accepted; how many rounds the first two

@@ -12,9 +12,9 @@ use Rattle.indices.proofs.Tests.{and-left, and-both, and-same, same-truth, coun
 use Rattle.indices.proofs.Totals.{total-same, total-one, total-le, total-mono}
 use Rattle.indices.proofs.Steps.{by-equal, set-elim}
 use Rattle.procedure.specs.Division.{Division, regions, parent, isChild}
+use Rattle.procedure.proofs.Children.{child-later, child-parent, is-child}
 use Rattle.canonical_form.specs.Numbering.{holds, size, sizesOf}
 use Rattle.canonical_form.specs.Inner.{Proper}
-use Rattle.canonical_form.proofs.Numbering.{child-later, child-parent, is-child}
 use Rattle.canonical_form.proofs.Preorder.{size-step}
 use Rattle.canonical_numbers.specs.Numbers.{Counted}
 
@@ -113,7 +113,7 @@ module _ {d : Division} {past past′ : ℕ → Bool} {counts : List ℕ} {r : �
           ap (at counts) e,
           sizes-one d (λ c. isChild d q c && past c) (λ c. isChild d q c && past′ c) r inside (other-child q)
               (ap (λ (b : Bool). isChild d q r && b) not-yet ∙ and-false (isChild d q r))
-              (and-both (isChild d q r) (past′ r) (ap (λ (q : ℕ). isChild d q r) e ∙ is-child d r later) now-past),
+              (and-both (isChild d q r) (past′ r) (is-child d q r later (sym e)) now-past),
         ))
         (λ ne.
         C .same q l

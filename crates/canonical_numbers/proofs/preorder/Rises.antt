@@ -13,8 +13,9 @@ use Rattle.indices.proofs.Tests.{or-left, never, and-same}
 use Rattle.indices.proofs.Steps.{by-equal, by-order, by-truth, set-elim}
 use Rattle.run_arrays.specs.Sections.{mostRegions}
 use Rattle.procedure.specs.Division.{Division, regions, parent, isChild}
+use Rattle.procedure.proofs.Children.{child-later, child-parent}
 use Rattle.canonical_form.specs.Numbering.{holds, lowestArc, rise}
-use Rattle.canonical_form.proofs.Numbering.{child-later, child-parent, lowest-leaf, siblings-apart, holds-ancestor, holder-le, lowest-le}
+use Rattle.canonical_form.proofs.Numbering.{lowest-leaf, siblings-apart, holds-ancestor, holder-le, lowest-le}
 use Rattle.canonical_form.proofs.Preorder.{no-level, holds-up, holds-down}
 use Rattle.canonical_numbers.specs.Numbers.{passed, Rising, Ready}
 use Rattle.canonical_numbers.proofs.preorder.Counted.{sizes-same, counted-as, counted-more, counted-fits}

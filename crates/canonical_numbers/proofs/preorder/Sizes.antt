@@ -11,8 +11,8 @@ use Rattle.indices.specs.Columns.{at}
 use Rattle.indices.proofs.Steps.{by-order}
 use Rattle.run_arrays.specs.Sections.{mostRegions}
 use Rattle.procedure.specs.Division.{Division, regions, parent}
+use Rattle.procedure.proofs.Children.{child-later, child-parent}
 use Rattle.canonical_form.specs.Numbering.{size}
-use Rattle.canonical_form.proofs.Numbering.{child-later, child-parent}
 use Rattle.canonical_numbers.specs.Numbers.{ParentsLaid, SizesFound, Counted}
 use Rattle.canonical_numbers.proofs.preorder.Counted.{counted-none, counted-all, counted-more, counted-fits}
 

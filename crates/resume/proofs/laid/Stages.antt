@@ -72,9 +72,9 @@ module _ {b : List ℕ} {sizes : Sizes} {fixed weights table : List ℕ} (L : Re
     same-predecessors : take (graphOf b .nodes) (predecessorSection entered) ≡ predecessorsIn (graphOf b .nodes) table
     same-predecessors = rw (← nodes-all) (E .predecessors)
 
-    pub keyless : Keyless b fixed table entered (sizes .regions)
+    pub keyless : Keyless b fixed weights table entered (sizes .regions)
     keyless = record {
-      relaid = record { standing = L .standing; weights = weights; laid = L .laid; labels = same-labels };
+      relaid = record { standing = L .standing; laid = L .laid; labels = same-labels };
       none = ap (take (arcs (graphOf b))) (E .own) ∙ own-none none (arcs (graphOf b)) (L .laid .fixed-ok .ok .graph .few-arcs);
       all-regions = L .in-use .regions-all ∙ sym (division-regions b);
     }

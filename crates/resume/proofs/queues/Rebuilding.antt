@@ -31,7 +31,7 @@ use Rattle.run_arrays.specs.Trees.{QueuesOk}
 use Rattle.run_arrays.specs.States.{UpdatingArc, LeavesQueues}
 use Rattle.resume.specs.Keys.{Relaid, Keyless, queuesUpTo, KeysUpTo, KeyNext}
 
-module _ {b fixed table state : List ℕ} (R : Relaid b fixed table state) where
+module _ {b fixed weights table state : List ℕ} (R : Relaid b fixed weights table state) where
   abbrev g : Graph
   g = graphOf b
 
@@ -112,12 +112,14 @@ module _ {b fixed table state winners : List ℕ} {a count : ℕ} (K : KeyNext b
 -- THE LOOP: the keys of the first a arcs are entered, and labels and predecessors stay
 pub record Entering (b fixed table state₀ state winners : List ℕ) (a count : ℕ) : Type 0 where
   pub within : a ≤ arcs (graphOf b)
-  pub relaid : Relaid b fixed table state₀
+  pub weights : List ℕ
+  pub relaid : Relaid b fixed weights table state₀
   pub leaves : LeavesQueues (graphOf b) (divisionOf b) (queuesUpTo b table a) fixed state₀ state winners count
 
 pub none-entered : {b fixed table state winners : List ℕ} → KeysUpTo b fixed table state winners 0 0 → Entering b fixed table state state winners 0 0
 none-entered K = record {
   within = omega arith;
+  weights = K .weights;
   relaid = K .relaid;
   leaves = record { nodes = record { labels = refl; predecessors = refl }; queues = K .holds };
 }
@@ -126,9 +128,9 @@ module _ {b fixed table state₀ state winners : List ℕ} {a count : ℕ} (E : 
   pub next-key : a < arcs (graphOf b) → KeyNext b fixed table state winners a count
   next-key l = record {
     sofar = record {
+      weights = E .weights;
       relaid = record {
         standing = E .relaid .standing;
-        weights = E .relaid .weights;
         laid = E .relaid .laid;
         labels = rw (E .leaves .nodes .labels) (E .relaid .labels);
       };
@@ -142,6 +144,7 @@ module _ {b fixed table state₀ state winners : List ℕ} {a count : ℕ} (E : 
       → Entering b fixed table state₀ state′ winners′ (a + 1) n
   one-more-key l L = record {
     within = omega arith;
+    weights = E .weights;
     relaid = E .relaid;
     leaves = record {
       nodes = record {
@@ -159,10 +162,11 @@ module _ {b fixed table state₀ state winners : List ℕ} {a count : ℕ} (E : 
       subst (λ (n : ℕ). LeavesQueues (graphOf b) (divisionOf b) (queuesUpTo b table n) fixed state₀ state winners count) e (E .leaves)
 
 -- THE WHOLE: cleared trees hold no key, and all keys entered are those of the table's state
-module _ {b fixed table state : List ℕ} {count : ℕ} (K : Keyless b fixed table state count) where
+module _ {b fixed weights table state : List ℕ} {count : ℕ} (K : Keyless b fixed weights table state count) where
   pub keys-cleared : {winners : List ℕ} → QueuesOk (divisionOf b) fixed (replicate (regions (divisionOf b)) top) winners
       → KeysUpTo b fixed table state winners 0 0
   keys-cleared valid = record {
+    weights = weights;
     relaid = K .relaid;
     holds = rw (rebuilt-none (divisionOf b) (ownIn (graphOf b) table) (noKeys (graphOf b) (divisionOf b)))
         (record { own = K .none; owned = length-replicate (arcs (graphOf b)) top; keys = record { valid = valid; counted = refl } });

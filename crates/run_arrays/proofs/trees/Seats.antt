@@ -4,27 +4,23 @@ use mathlib.Core.Bool.{Bool, true, false, cond, _&&_, and-false}
 use mathlib.Core.Path.{_≡_, refl}
 use mathlib.Core.Logic.{_≢_}
 use native.Mathlib.Omega.{arith}
-use borrow.Author.Tests.{lt-ltb, le-ltb, eq-eqb, ne-eqb, ltb-true, eqb-true}
+use borrow.Author.Tests.{lt-ltb, le-ltb, eq-eqb, ne-eqb}
 use lib.Dec.{ltb, eqb}
 use Rattle.indices.specs.Tests.{count}
-use Rattle.indices.proofs.Tests.{and-left, and-right, count-in, count-out-all, count-mono, count-le, count-some, count-nth}
+use Rattle.indices.proofs.Tests.{count-in, count-out-all, count-mono, count-le, count-some, count-nth}
 use Rattle.indices.proofs.Totals.{count-sum}
 use Rattle.indices.proofs.Steps.{by-order, by-equal}
 use Rattle.procedure.specs.Division.{Division, regions, parent, isChild}
+use Rattle.procedure.proofs.Children.{child-later, child-parent, is-child}
 use Rattle.theory.proofs.Chosen.{Child}
 use Rattle.run_arrays.specs.Trees.{childCount, lowerSiblings, underBelow, treeStart, seat}
 
 module _ (d : Division) where
   pub child-passes : {r c : ℕ} → Child d r c → isChild d r c ≡ true
-  child-passes {r} {c} h = rw (lt-ltb 0 c (h .positive)) (eq-eqb (parent d c) r (h .under))
+  child-passes {r} {c} h = is-child d r c (h .positive) (h .under)
 
   passes-child : (r c : ℕ) → c < regions d → isChild d r c ≡ true → Child d r c
-  passes-child r c l e =
-      record {
-        in-range = l;
-        positive = ltb-true 0 c (and-left (ltb 0 c) (eqb (parent d c) r) e);
-        under = eqb-true (parent d c) r (and-right (ltb 0 c) (eqb (parent d c) r) e);
-      }
+  passes-child r c l e = record { in-range = l; positive = child-later d r c e; under = child-parent d r c e }
 
   pub other-fails : (r c : ℕ) → parent d c ≢ r → isChild d r c ≡ false
   other-fails r c n = rw (ne-eqb (parent d c) r n) (and-false (ltb 0 c))

@@ -3,7 +3,7 @@ use Prim.Native.Nat.{ℕ, _<_}
 use mathlib.Core.Path.{_≡_, refl, ap, _∙_}
 use mathlib.Core.List.{List}
 use native.Mathlib.Omega.{arith}
-use lib.ListN.{length, set, take, replicate, length-replicate}
+use lib.ListN.{set, take, replicate, length-replicate}
 use lib.Seq.{take-set-lt}
 use Rattle.sheet.specs.Limits.{mostNodes, mostSpans}
 use Rattle.sheet.specs.Words.{top}
@@ -16,8 +16,8 @@ use Rattle.theory.specs.Sound.{noKeys}
 use Rattle.theory.specs.Counts.{Small}
 use Rattle.theory.proofs.Final.{few-each-way, no-rounds, after-small}
 use Rattle.run_counts.specs.Figures.{Figures, started}
-use Rattle.run_arrays.specs.Sections.{stateLength, mostPlaces, labelSection, LabelStored}
-use Rattle.run_arrays.specs.Trees.{LaidOut, QueuesOk}
+use Rattle.run_arrays.specs.Sections.{stateLength, labelSection, LabelStored}
+use Rattle.run_arrays.specs.Trees.{QueuesOk}
 use Rattle.run_arrays.specs.States.{HoldsQueues, UpdatingOutgoing, LeavesQueues, Represents, Blank}
 use Rattle.run_arrays.proofs.arrays.Filled.{labels-none, predecessors-none, own-none}
 
@@ -43,10 +43,6 @@ module _ {g : Graph} {d : Division} {spans fixed weights : List ℕ} {source cou
 
   pub source-in : source < mostNodes
   source-in = omega (arith, source-node, B .fixed-ok .ok .graph .few-nodes)
-
-  -- the array of the queues has room for the most regions
-  pub start-laid : {winners : List ℕ} → length winners ≡ mostPlaces → LaidOut d fixed winners
-  start-laid long = record { planned = B .planned; room = omega (arith, B .fixed-ok .ok .division .few-regions) }
 
   start-small : Small (start g d)
   start-small = rw (no-rounds g d spans) at (after-small (B .fixed-ok .ok) few-each-way 0)

@@ -10,7 +10,7 @@ use Rattle.indices.proofs.Steps.{by-order, by-equal}
 use Rattle.sheet.specs.Words.{top}
 use Rattle.procedure.specs.Division.{Division, regions, parent}
 use Rattle.run_arrays.specs.Rows.{field}
-use Rattle.run_arrays.specs.Trees.{entry, childCount, treeStart, seat, place, Decided, LaidOut, QueuesOk, Seated, ValidBelow}
+use Rattle.run_arrays.specs.Trees.{entryOf, rank, entry, childCount, treeStart, seat, place, Decided, LaidOut, QueuesOk, Seated, ValidBelow}
 use Rattle.run_arrays.proofs.trees.Seats.{tree-room, parent-in}
 use Rattle.run_queue.proofs.Trees.{Lies, seat-at, begins, seat-elim, ValidBut, laid-set, decided}
 
@@ -27,22 +27,21 @@ pub record Entering (d : Division) (rows winners : List ℕ) (c : ℕ) : Type 0 
   pub above : 0 < c
   pub within : c ≤ regions d
   pub laid : LaidOut d rows winners
-  pub stands : (b : ℕ) → 0 < b → b < c → place d winners (parent d b) (seat d b) ≡ entry (replicate (regions d) top) b
+  pub stands : (b : ℕ) → 0 < b → b < c → place d winners (parent d b) (seat d b) ≡ entry d (replicate (regions d) top) b
 
 pub entering-start : {d : Division} {rows winners : List ℕ} → LaidOut d rows winners → Entering d rows winners 1
 entering-start L = record { above = omega arith; within = L .planned .counted .numbered .root; laid = L; stands = λ b pos m. absurd (omega arith) }
 
-pub entering-step : {d : Division} {rows winners : List ℕ} {c up start p x : ℕ} → Entering d rows winners c → c < regions d → Lies d rows c up start p
-    → x ≡ 268435455 * 65536 + c → Entering d rows (set winners (start + p) x) (c + 1)
-unfolding top
-entering-step {d} {rows} {winners} {c} {up} {start} {p} {x} E l L is = rw (seat-at (E .laid .planned) L (E .above) l) (record {
+pub entering-step : {d : Division} {rows winners : List ℕ} {c up start p below x : ℕ} → Entering d rows winners c → c < regions d → Lies d rows c up start p
+    → below ≡ rank d c → x ≡ entryOf top below → Entering d rows (set winners (start + p) x) (c + 1)
+entering-step {d} {rows} {winners} {c} {x = x} E l L own is = rw (seat-at (E .laid .planned) L (E .above) l) (record {
   above = omega arith;
   within = omega arith;
   laid = laid-set (treeStart d (parent d c) + seat d c) x (E .laid);
   stands =
       λ b pos m.
-      seat-elim d winners (E .laid .room) c x (E .above) l (λ y. y ≡ entry (replicate (regions d) top) b) b pos (omega arith)
-      (λ e. rw (getD-replicate (regions d) b top 0 (omega arith)) (omega (arith, is))) (λ n. E .stands b pos (omega arith));
+      seat-elim d winners (E .laid .room) c x (E .above) l (λ y. y ≡ entry d (replicate (regions d) top) b) b pos (omega arith)
+      (λ e. rw (getD-replicate (regions d) b top 0 (omega arith), e) (rw own at is)) (λ n. E .stands b pos (omega arith));
 })
 
 pub entering-end : {d : Division} {rows winners : List ℕ} {c : ℕ} → Entering d rows winners c → regions d ≤ c

@@ -1,5 +1,5 @@
 -- `write` meets its contract: the loop repairs the places above the child, one after the other, until one does not change.
-use Prim.Native.Nat.{ℕ, _/_, _<_}
+use Prim.Native.Nat.{ℕ, _+_, _/_, _<_}
 use mathlib.Core.Path.{_≡_}
 use mathlib.Core.List.{List}
 use borrow.Author.Needs.{needs}
@@ -13,12 +13,12 @@ use Rattle.run_queue.proofs.write.Statement.{statement}
 use Rattle.run_queue.proofs.write.Tie as tie
 
 abbrev Inv-loop : tie.InvT-loop
-Inv-loop rows winners₀ key start place₀ best₀ winners place best =
+Inv-loop rows winners₀ key start place₀ rank best₀ winners place best =
     (length winners ≡ length winners₀)
     × ((d : Division) (keys : List ℕ) (r : ℕ) → Repairing d r rows keys winners₀ start place₀ best₀ → Repairing d r rows keys winners start place best)
 
 abbrev μ-loop : tie.MeasureT-loop
-μ-loop rows winners₀ key start place₀ best₀ winners place best = place
+μ-loop rows winners₀ key start place₀ rank best₀ winners place best = place
 
 abbrev Start : Type 0
 Start = tie.Start Inv-loop μ-loop
@@ -28,6 +28,9 @@ After-parent-of = tie.After-parent-of Inv-loop μ-loop
 
 abbrev After-seat-of : Type 0
 After-seat-of = tie.After-seat-of Inv-loop μ-loop
+
+abbrev After-entry-rank : Type 0
+After-entry-rank = tie.After-entry-rank Inv-loop μ-loop
 
 abbrev At-loop : Type 0
 At-loop = tie.At-loop Inv-loop μ-loop
@@ -65,11 +68,11 @@ start-of-requires c κs =
     let Q = given (entry c) in
     up-row (Q .queues .seated .laid .planned) (entry c .pre .positive) (Q .inside) (over c _ _ Q)
 
-slice-write-winners : tie.Need-slice-write-winners Inv-loop μ-loop
-slice-write-winners c =
+seat-there : (c : After-seat-of) → let start : Start = search needs in c .before .start-of .result + c .seat-of .result < length (start .args .winners .now)
+seat-there c =
     let start : Start = search needs in
     let Q = given start in
-    seat-inside (Q .queues .seated .laid .planned) (lies (c .before) _ _ Q) (start .pre .positive) (Q .inside) (Q .queues .seated .laid)
+    seat-inside (Q .queues .seated .laid .planned) (lies c _ _ Q) (start .pre .positive) (Q .inside) (Q .queues .seated .laid)
 
 -- THE REPAIR has come to the loop's place
 repairing : (c : At-loop) → let args = called c .args in
@@ -77,8 +80,10 @@ repairing : (c : At-loop) → let args = called c .args in
     → Repairing d (seated c .before .before .parent-of .result .0) (args .rows .now) (set keys (args .child .0) (args .key)) (c .loop .winners)
     (seated c .before .start-of .result) (c .loop .place) (c .loop .best)
 repairing c d keys Q =
+    let below : After-entry-rank = search needs in
     c .loop .inv .1 d _ _
-    (repair-start _ (Q .queues) (lies (seated c) d keys Q) (called c .pre .positive) (Q .inside) (omega (arith, called c .fits)) (c .before .entry-of .ensures))
+    (repair-start _ (Q .queues) (lies (seated c) d keys Q) (called c .pre .positive) (Q .inside) (omega (arith, called c .fits)) (below .entry-rank .ensures)
+    (c .before .entry-of .ensures))
 
 long : (c : At-loop) → length (c .loop .winners) ≡ length (called c .args .winners .now)
 long c = simp length-set at (c .loop .inv .0)
@@ -118,10 +123,14 @@ write-spec =
     (λ c. search needs)
     (λ c κs. search needs)
     (λ c. search needs)
+    (λ c. search needs)
+    (λ c. search needs)
+    (λ c. seat-there (search needs))
+    (λ c κs. search needs)
     (λ c κs. search needs)
     (λ c. search needs)
     (λ c. search needs)
-    slice-write-winners
+    (λ c. seat-there (search needs))
     (λ c. search needs)
     (λ c κs. repair-small (repairing (c .before) _ _ (given (called (c .before)))))
     (λ c. omega (arith, beside c .fits))

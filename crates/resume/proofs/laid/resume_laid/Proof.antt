@@ -44,7 +44,7 @@ abbrev Worked : tie.After-rebuild → Type 0
 Worked c =
     let start = entry (entered (counted c)) in
     let b = start .args .s .now in
-    let left = c .rebuild .last .1 .1 .1 in
+    let left = c .rebuild .last .1 .1 .1 .1 in
     Finishing b (stateIn (graphOf b) (divisionOf b) (start .args .table .now)) (start .args .fixed .now) (start .args .weights .now) (left .0) (left .1 .0)
     (figuresIn (counted c .enter-counts .last .1 .0)) (start .args .limit) (start .args .sizes .nodes) (length (start .args .table .now))
 

@@ -34,13 +34,13 @@ start-requires : tie.Need-start-requires
 unfolding top
 start-requires c κs =
     let source : tie.After-source-of = search needs in
-    record { graph = _; division = _; spans = _; weights = _; blank = blank source; none = refl }
+    record { graph = _; division = _; spans = _; blank = blank source; none = refl }
 
 -- THE START leaves the state after no rounds
-started : (c : tie.After-start) → let a = entry (sourced c) .args in let b = a .s .now in let left = c .start .last .1 in
+started : (c : tie.After-start) → let a = entry (sourced c) .args in let b = a .s .now in let left = c .start .last .1 .1 in
     Represents (graphOf b) (divisionOf b) (spansOf b) (start (graphOf b) (divisionOf b)) (a .fixed .now) (a .weights .now)
     (left .0) (left .1 .0) (figuresIn (left .1 .1 .1 .1 .0))
-started c = c .start .ensures _ _ _ _ (blank (sourced c))
+started c = c .start .ensures _ _ _ (blank (sourced c))
 
 finish-requires : tie.Need-finish-requires
 finish-requires c κs =

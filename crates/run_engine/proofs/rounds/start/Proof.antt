@@ -9,7 +9,8 @@ use Rattle.procedure.specs.Division.{Division, regions}
 use Rattle.theory.specs.Sound.{noKeys}
 use Rattle.run_arrays.specs.Trees.{QueuesOk}
 use Rattle.run_arrays.specs.States.{Blank}
-use Rattle.run_engine.proofs.rounds.Beginning.{source-in, start-laid, start-asks, start-held, begun}
+use Rattle.run_arrays.proofs.trees.Room.{can-build}
+use Rattle.run_engine.proofs.rounds.Beginning.{source-in, start-asks, start-held, begun}
 use Rattle.run_engine.proofs.rounds.start.Statement.{statement}
 use Rattle.run_engine.proofs.rounds.start.Tie as tie
 
@@ -18,16 +19,21 @@ abbrev entry : tie.After-clear → tie.Start
 entry c = search needs
 
 -- THE QUEUES are cleared
-cleared : (c : tie.After-clear) {g : Graph} {d : Division} {spans weights : List ℕ} → let a = entry c .args in
-    Blank g d spans (a .fixed .now) weights (a .source .0) (a .count) → QueuesOk d (a .fixed .now) (replicate (regions d) top) (c .clear .last .1 .0)
+cleared : (c : tie.After-clear) {g : Graph} {d : Division} {spans : List ℕ} → let a = entry c .args in
+    Blank g d spans (a .fixed .now) (a .weights .now) (a .source .0) (a .count)
+    → QueuesOk d (a .fixed .now) (replicate (regions d) top) (c .clear .last .1 .1 .0)
 unfolding top
-cleared c {d = d} B = c .clear .ensures d (start-laid B (c .before .clear-arg2 .given .0 .1)) (B .all-regions)
+cleared c {d = d} B = c .clear .ensures d (can-build (B .fixed-ok) (B .planned) (c .before .clear-arg2 .given .0 .1)) (B .all-regions)
 
 clear-requires : tie.Need-clear-requires
 clear-requires c κs =
     let start : tie.Start = search needs in
     let B = start .pre .blank in
-    record { division = start .pre .division; laid = start-laid B (c .clear-arg2 .given .0 .1); all-regions = B .all-regions }
+    record {
+      division = start .pre .division;
+      buildable = can-build (B .fixed-ok) (B .planned) (c .clear-arg2 .given .0 .1);
+      all-regions = B .all-regions;
+    }
 
 update-outgoing-requires : tie.Need-update-outgoing-requires
 update-outgoing-requires c κs =
@@ -44,7 +50,7 @@ update-outgoing-requires c κs =
     }
 
 returns : tie.Need-returns
-returns c g d spans weights B =
+returns c g d spans B =
     let start : tie.Start = search needs in
     let labelled : tie.After-set-label = search needs in
     let none = start .pre .none in
