@@ -19,7 +19,7 @@ use Rattle.procedure.specs.Queues.{before, choose, minItemBelow, minItem
 use Rattle.procedure.specs.Procedure.{processChild, alive}
 use Rattle.procedure.specs.Choice.{ChildOf, FirstChosen, Chooses}
 use Rattle.procedure.proofs.Children.{child-later, child-parent, is-child}
-use Rattle.procedure.proofs.Order.{NoBetter, no-better, before-irreflexive, before-asymmetric, before-transitive, before-antisymmetric}
+use Rattle.procedure.proofs.Order.{NoBetter, no-better, before-irreflexive, before-asymmetric, before-transitive, before-antisymmetric, before-key}
 
 -- x is the first-chosen child of r among the regions below n, or 0 if there is none
 pub record FirstBelow (d : Division) (keys : List ℕ) (r n x : ℕ) : Type 0 where
@@ -92,19 +92,19 @@ module _ (d : Division) (q : Queues) (r : ℕ) (inner : isLeaf d r ≡ false) wh
   unfolding minKey
   minKey-none e = rw (inner, eq-eqb (minItem d (q .keys) r) 0 e)
 
+  -- so a region whose smallest key isn't none has a first-chosen child
+  pub minKey-some : minKey d q r < top → 0 < minItem d (q .keys) r
+  minKey-some l = by-equal (minItem d (q .keys) r) 0 (λ e. absurd (omega (arith, minKey-none e))) (λ n. omega arith)
+
 -- IN THE WORDS OF THE REQUEST
 
 module _ (d : Division) (keys : List ℕ) (r : ℕ) where
   child-of : (c : ℕ) → c < regions d → 0 < c → parent d c ≡ r → ChildOf d r c
   child-of c l pos under = (l, is-child d r c pos under)
 
-  -- no child is better than the first-chosen one
-  none-better : (b : ℕ) → ChildOf d r b → NoBetter d keys b (minItem d keys r)
-  none-better b h = no-better d keys b (minItem d keys r) (minItem-first d keys r .least b (h .0) (child-later d r b (h .1)) (child-parent d r b (h .1)))
-
-  by-key : (b c : ℕ) → NoBetter d keys b c → at keys c ≤ at keys b
-  by-key b c (inl l) = omega arith
-  by-key b c (inr e) = omega (arith, e .0)
+  -- no child is before the first-chosen one
+  none-before : (b : ℕ) → ChildOf d r b → before d keys b (minItem d keys r) ≡ false
+  none-before b h = minItem-first d keys r .least b (h .0) (child-later d r b (h .1)) (child-parent d r b (h .1))
 
   by-height : (b c : ℕ) → NoBetter d keys b c → at keys b ≡ at keys c → height d c ≤ height d b
   by-height b c (inl l) same = absurd (omega arith)
@@ -121,9 +121,9 @@ module _ (d : Division) (keys : List ℕ) (r : ℕ) where
       let f = minItem-first d keys r .child pos in
       record {
         child = child-of _ (f .0) pos (f .1);
-        lowest-key = λ b k. by-key b _ (none-better b k);
-        lowest-height = λ b k. by-height b _ (none-better b k);
-        lowest-number = λ b k. by-number b _ (none-better b k);
+        lowest-key = λ b k. before-key d keys b _ (none-before b k);
+        lowest-height = λ b k. by-height b _ (no-better d keys b _ (none-before b k));
+        lowest-number = λ b k. by-number b _ (no-better d keys b _ (none-before b k));
       }
 
   first-chosen : (b : ℕ) → ChildOf d r b → FirstChosen d keys r (minItem d keys r)
@@ -153,7 +153,6 @@ chooses g d s r = record {
       let pos = child-later d r c (p .child .1) in
       sym (minKey-item d (s .queues) r inner (omega (arith, e, pos))) ∙ ap (at (s .queues .keys)) (sym e);
   turn = λ inner live process.
-      let l = ltb-true (minKey d (s .queues) r) top live in
-      by-equal (minItem d (s .queues .keys) r) 0 (λ e. absurd (omega (arith, l, minKey-none d (s .queues) r inner e)))
-      (λ n. (minItem d (s .queues .keys) r, positive-chosen d (s .queues .keys) r (omega arith), refl));
+      let pos = minKey-some d (s .queues) r inner (ltb-true (minKey d (s .queues) r) top live) in
+      (minItem d (s .queues .keys) r, positive-chosen d (s .queues .keys) r pos, refl);
 }

@@ -21,14 +21,14 @@ module _ {d : Division} (N : Numbered d) where
 
   -- an entry taken apart
   module _ (keys : List ℕ) (c : ℕ) (inside : c < regions d) {e : ℕ} (is : e ≡ entry d keys c) where
-    pub key-of : entryKey e ≡ at keys c
-    key-of = omega (arith, N .few, height-fits c)
+    pub key-in : entryKey e ≡ at keys c
+    key-in = omega (arith, N .few, height-fits c)
 
     pub rank-in : entryRank e ≡ rank d c
     rank-in = omega (arith, N .few, height-fits c)
 
-    pub region-of : entryRegion e ≡ c
-    region-of = omega (arith, N .few, rank-in)
+    pub region-in : entryRegion e ≡ c
+    region-in = omega (arith, N .few, rank-in)
 
   -- an item whose entry is no lower is not chosen before
   pub entry-behind : (keys : List ℕ) (a b : ℕ) → a < regions d → b < regions d → entry d keys b ≤ entry d keys a → before d keys a b ≡ false

@@ -15,7 +15,7 @@ use Rattle.run_arrays.specs.Rows.{field}
 use Rattle.run_arrays.specs.Trees.{entryOf, entry, childCount, Numbered, QueuesOk}
 use Rattle.run_arrays.proofs.trees.Seats.{tree-room}
 use Rattle.run_queue.specs.First.{FirstEntry}
-use Rattle.run_queue.proofs.Entries.{key-of, region-of}
+use Rattle.run_queue.proofs.Entries.{key-in, region-in}
 use Rattle.run_queue.proofs.Trees.{minItem-place, minItem-childless}
 
 module _ {d : Division} {rows keys winners : List ℕ} (Q : QueuesOk d rows keys winners) {r : ℕ} (inside : r < regions d) where
@@ -50,8 +50,8 @@ module _ {d : Division} {rows keys winners : List ℕ} (Q : QueuesOk d rows keys
 
     pub first-some : FirstEntry d keys r (at winners (start + 1))
     first-some = record {
-      item = region-of N keys _ (child .in-range) held;
+      item = region-in N keys _ (child .in-range) held;
       key =
           λ inner own updates.
-          key-of N keys _ (child .in-range) held ∙ minKey-item d (record { own = own; keys = keys; updates = updates }) r inner (child .positive);
+          key-in N keys _ (child .in-range) held ∙ minKey-item d (record { own = own; keys = keys; updates = updates }) r inner (child .positive);
     }
