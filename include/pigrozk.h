@@ -10,6 +10,18 @@
  * calls may be made in any number of threads.
  *
  * Each call returns one of the codes below. A refusal leaves all that was lent as it was.
+ *
+ * The words of a sheet: the top 4 bits are the kind, the low 28 the payload. In this order:
+ *
+ *     kind 1       once: the node count n
+ *     kind 2       once: the source node
+ *     kind 3       the spans for heights 1, 2, 3 and so on
+ *     kind 13      none, or n: the holds at nodes 0, 1, 2 and so on, in hundredths of a second
+ *     kinds 4, 5   in pairs, one arc each: tail in bits 19 to 10 and head in bits 9 to 0, then the length in hundredths of a second
+ *     kinds 6, 7   in any mixture, one region each: an inner region's parent, or a leaf's parent in bits 22 to 11 and its arc in bits 10 to 0
+ *
+ * A route is as long as its arcs and the holds of the nodes between its ends together; the source's own hold is never charged. Distances, routes and possible
+ * states are meant so: an arc's length is taken with its tail's hold added, 0 for the source.
  */
 #ifndef PIGROZK_H
 #define PIGROZK_H
@@ -25,8 +37,9 @@ extern "C" {
  * a run, 184,951 for a resume, 58,583 for a canonical form, 11,639 for a route and 9,367 for a judgement. */
 #define PIGROZK_STACK_BYTES 196608
 
-/* The limits of a sheet that is accepted. A node may have PIGROZK_MOST_ARCS_EACH_WAY arcs out of it, and as many into it. */
-#define PIGROZK_MOST_BYTES 32828
+/* The limits of a sheet that is accepted. A node may have PIGROZK_MOST_ARCS_EACH_WAY arcs out of it, and as many into it. PIGROZK_MOST_LENGTH limits the length
+ * of an arc, and its length with its tail's hold added, 0 for the source; so the source, and a node without outgoing arcs, may have any hold. */
+#define PIGROZK_MOST_BYTES 36924
 #define PIGROZK_MOST_NODES 1024
 #define PIGROZK_MOST_SPANS 15
 #define PIGROZK_MOST_SPAN 1000000
@@ -81,8 +94,10 @@ extern "C" {
  *     31       input  the buffer is shorter than the canonical form
  *     32       state  the table of a resume has not the longer length, or is at fault as in 22
  *     33       state  the table of a resume is not a possible state
+ *     34       input  the sheet, in every call: a tail's hold (0 for the source) and the arc's length are above 262,143 together
  *
- * Of several the first that applies is given, 31 after 14; of a resume 1 to 14, then 32, then 33. */
+ * Of several the first that applies is given, 34 after 9 and before 10, 31 after 14; of a resume those of the sheet, then 32, then 33. A number of holds that
+ * is neither 0 nor n is 2. */
 #define PIGROZK_IS_REFUSED(code) ((code) < 100u)
 #define PIGROZK_IS_FROM_STATE(code) \
     ((code) == 21u || (code) == 22u || (code) == 23u || (code) == 24u || (code) == 25u || (code) == 32u || (code) == 33u)
@@ -100,17 +115,18 @@ extern "C" {
 #define PIGROZK_IS_WRITTEN(code) ((code) >= PIGROZK_WRITTEN)
 #define PIGROZK_WRITTEN_BYTES(code) ((code) - PIGROZK_WRITTEN)
 
-/* Judges a sheet: accepted, or a refusal from 1 to 14. */
+/* Judges a sheet: accepted, or a refusal of the sheet, 1 to 14 or 34. */
 uint32_t pigrozk_judge(const uint8_t *sheet, size_t sheet_bytes);
 
-/* Runs a sheet to its end and fills the table, in the form whose length it has: ended, or a refusal from 1 to 14 or 21. */
+/* Runs a sheet to its end and fills the table, in the form whose length it has: ended, or a refusal of the sheet or 21. */
 uint32_t pigrozk_run(const uint8_t *sheet, size_t sheet_bytes, uint32_t *table, size_t table_words);
 
-/* The same for at most so many rounds: ended, paused, or a refusal from 1 to 14 or 21. */
+/* The same for at most so many rounds: ended, paused, or a refusal of the sheet or 21. */
 uint32_t pigrozk_run_limited(const uint8_t *sheet, size_t sheet_bytes, uint32_t rounds, uint32_t *table, size_t table_words);
 
-/* Goes on from a longer table for at most so many rounds more, and writes the new state over the old. The sheet has the nodes, source, arcs and division of
- * the one that the table is from, and the spans by which the rounds are to be made, which may be others. Counts carry on. A table is a possible state if:
+/* Goes on from a longer table for at most so many rounds more, and writes the new state over the old. The sheet has the nodes, source, holds, arcs and division
+ * of the one that the table is from, and the spans by which the rounds are to be made, which may be others. Counts carry on. A table is a possible state if,
+ * lengths being those with holds:
  *
  *     the source is at 0 and has no feeding arc;
  *     every other reached node is fed along a chain from the source, and not below its feeder's label plus the arc's length;
@@ -122,18 +138,18 @@ uint32_t pigrozk_run_limited(const uint8_t *sheet, size_t sheet_bytes, uint32_t 
  *
  * Every longer table that a run leaves is one. From a table whose counts are below 2^54, as every run's are, each further table is one, however often spans are
  * changed at breaks; the rounds come to an end, and the distances are then shortest; and with the same spans rounds in parts leave what rounds together do. An
- * ended table is given back. Ended, paused, or a refusal from 1 to 14, 32 or 33. */
+ * ended table is given back. Ended, paused, or a refusal of the sheet, 32 or 33. */
 uint32_t pigrozk_resume(const uint8_t *sheet, size_t sheet_bytes, uint32_t rounds, uint32_t *table, size_t table_words);
 
 /* Reads the route to a node out of a finished table of either form: the numbers of its arcs, from the source on, stand at the front of the buffer, and the
- * rest of the buffer stays. A route, no route, or a refusal from 1 to 15 or 21 to 25. */
+ * rest of the buffer stays. A route, no route, or a refusal of the sheet, 15 or 21 to 25. */
 uint32_t pigrozk_route(const uint8_t *sheet, size_t sheet_bytes, const uint32_t *table, size_t table_words, uint32_t node, uint32_t *buffer,
                        size_t buffer_words);
 
-/* Writes the canonical form of a sheet: the words of kinds 1 to 5 as given, the regions numbered parent first and depth first from region 0, children in order
- * of the lowest arc that they hold. Two sheets have the same one exactly when they share nodes, source, spans, arcs and nesting; then their distances are the
- * same, but not always their tables, since ties between regions of one height go by region number. It is as long as the sheet and stands at the front of the
- * buffer, and the rest of the buffer stays; PIGROZK_MOST_BYTES are room for every one. Written, or a refusal from 1 to 14 or 31. */
+/* Writes the canonical form of a sheet: the words of kinds 1 to 5 and 13 as given, the regions numbered parent first and depth first from region 0, children in
+ * order of the lowest arc that they hold. Two sheets have the same one exactly when they share nodes, source, spans, holds, arcs and nesting; then their
+ * distances are the same, but not always their tables, since ties between regions of one height go by region number. It is as long as the sheet and stands at
+ * the front of the buffer, and the rest of the buffer stays; PIGROZK_MOST_BYTES are room for every one. Written, or a refusal of the sheet or 31. */
 uint32_t pigrozk_canonical(const uint8_t *sheet, size_t sheet_bytes, uint8_t *out, size_t out_bytes);
 
 #ifdef __cplusplus

@@ -2,12 +2,13 @@
 
 "Write an accepted sheet anew: nodes, source, spans and arcs as given, regions numbered parent first and depth first from region 0, children
 in order of the lowest arc number they hold. Two sheets have the same neat copy exactly when they share nodes, source, spans, arcs and
-nesting, chains of single children counted."
+nesting, chains of single children counted." And from 2026-08: "The neat copy carries the holds." Where sheets share nodes, source and arcs they
+"have the same kind 13 words as well".
 
 `form` makes the copy. What holds of it is read off the words of sheets by `alike` and `is_neat`, which do not use `form`. All of it shares
 nothing with the Rattle code.
 """
-from paper import Lists, judge
+from paper import TODAY, Lists, judge
 
 LEAF = 7
 
@@ -45,9 +46,9 @@ def form(sheet):
     return sheet[:front] + b''.join(word.to_bytes(4, 'big') for word in words)
 
 
-def copied(sheet, room):
+def copied(sheet, room, rules=TODAY):
     """('written', the bytes at the front of a buffer with so much room) or ('input', number)."""
-    number = judge(sheet)
+    number = judge(sheet, rules)
     if number:
         return 'input', number
     copy = form(sheet)
@@ -57,8 +58,8 @@ def copied(sheet, room):
 # What two sheets share.
 
 def shared(sheet):
-    """Nodes, source, spans and arcs: the words of kinds 1 to 5, in order."""
-    return tuple(sheet[at:at + 4] for at in range(0, len(sheet), 4) if 1 <= sheet[at] >> 4 <= 5)
+    """Nodes, source, spans, holds and arcs: the words of kinds 1 to 5 and 13, in order."""
+    return tuple(sheet[at:at + 4] for at in range(0, len(sheet), 4) if sheet[at] >> 4 in (1, 2, 3, 13, 4, 5))
 
 
 def nesting(sheet):
@@ -80,7 +81,7 @@ def without_single_children(nested):
 
 
 def alike(sheet, other):
-    """Whether two accepted sheets share nodes, source, spans, arcs and nesting."""
+    """Whether two accepted sheets share nodes, source, spans, holds, arcs and nesting."""
     return shared(sheet) == shared(other) and nesting(sheet) == nesting(other)
 
 

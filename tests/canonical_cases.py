@@ -3,7 +3,7 @@
 What is expected comes from tests/canonical.py. It has to agree with every line for this call of the vectors of change requests, from
 tests/2026-04_vectors.txt on, and with each answer that a case states. Every copy that is expected is held to the sentences of request
 2026-04, read off the words of sheet and copy: it is accepted and its own copy, it is as long as its sheet and has its distances, and of
-all sheets of the cases two have the same copy exactly when they share nodes, source, spans, arcs and nesting. Otherwise the script stops.
+all sheets of the cases two have the same copy exactly when they share nodes, source, spans, holds, arcs and nesting. Otherwise the script stops.
 """
 import sys
 from collections import Counter
@@ -12,13 +12,14 @@ from itertools import product
 
 from canonical import alike, copied, form, is_neat, nesting, shared, without_single_children
 from cases import bytes_in, case_of, change_fields, counted, line_of, lines_of, name_in, vectors_since, with_bytes
+from holds import HELD_A, held_halls
 from line_cases import BYTES as MOST_ROOM
 from paper import TODAY, Lists, applies, judge
 from procedure import HEADER, Hall, distances, tables
 from sheets import (
-    FAULTS, HALL_A, WIDE, Chance, alternate, balanced, beneath, chain, changed, divided, each_way, every_division, flat, halving, high_halls,
-    inner, ladder, leaf, many_chains, nested, numbered, one_deep, packed, random_arcs, random_regions, sheet_of, side_by_side,
-    single_children, turntable, uneven_halls, with_faults, woken,
+    ANY_HOLD, FAULTS, HALL_A, KEPT, WIDE, Chance, alternate, balanced, beneath, chain, changed, divided, each_way, every_division, flat, halving, held,
+    high_halls, inner, ladder, later, leaf, left_for_holds, many_chains, nested, numbered, one_deep, packed, random_arcs, random_regions, sheet_of,
+    side_by_side, single_children, turntable, uneven_halls, with_faults, with_holds, words_in, woken,
 )
 
 # What lent bytes hold before the call.
@@ -52,9 +53,9 @@ def numberings(chance, regions, turns):
     return [regions] + [numbered(regions, choose) for choose in (lambda n: 0, lambda n: n - 1, *[chance.below] * turns)]
 
 
-def one_copy(chance, hall, regions, turns=2, span=lambda h: 1 + h % 3):
+def one_copy(chance, hall, regions, turns=2, span=lambda h: 1 + h % 3, holds=()):
     """The sheets of a hall and a division under several numbers. All have the copy of the first."""
-    sheets = [divided(*hall, words, span) for words in numberings(chance, regions, turns)]
+    sheets = [divided(*hall, words, span, holds) for words in numberings(chance, regions, turns)]
     copy = form(sheets[0])
     for turn, sheet in enumerate(sheets):
         yield from some_room(sheet, copy, turn + len(regions))
@@ -220,7 +221,7 @@ def full_size():
     longest = divided(*hall, one_deep(2032), lambda h: 1_000_000)
     copy = form(longest)
     if len(longest) != 32_828:
-        sys.exit('the longest sheet has %d bytes' % len(longest))
+        sys.exit('the longest sheet without holds has %d bytes' % len(longest))
     for sheet in (longest, divided(*hall, numbered(one_deep(2032), chance.below), lambda h: 1_000_000)):
         yield (sheet, MOST_ROOM), written(sheet, copy)
     yield (longest, 32_828), written(longest, copy)
@@ -248,14 +249,14 @@ def refused():
         yield (b'', room), 'refused input 2'
     for size in (1, 2, 3, 5):
         yield from (((A + A[:size], room), 'refused input 1') for room in (0, len(A), MOST_ROOM))
-    for size, number in ((32_828, 2), (32_829, 1), (32_832, 1)):
+    for size, number in ((32_828, 2), (32_832, 2), (36_924, 2), (36_925, 1), (36_928, 1)):
         yield (A.ljust(size, b'\0'), MOST_ROOM), 'refused input %d' % number
 
 
 def pairs():
     """Every two faults of a sheet together, into a buffer that is long enough and one that is too short."""
     for low, changes in FAULTS.items():
-        for high in range(low + 1, 15):
+        for high in later(low):
             made = [with_faults(one, other) for one in changes for other in FAULTS[high]]
             for at, sheet in enumerate(sheet for sheet in made if applies(low, sheet) and applies(high, sheet)):
                 yield (sheet, 400 if at % 2 else len(sheet) - 1), 'refused input %d' % low
@@ -270,8 +271,75 @@ def near():
         yield (A, room), written(A, NEAT_A) if room >= 72 else 'refused input 31'
 
 
+# Holds. "The neat copy carries the holds."
+
+NEAT_HELD = packed(words_in(HELD_A)[:8]) + NEAT_A[16:]
+
+
+def holds_by_hand():
+    """Hall A with holds, under its numbers and others; each bit of a hold turned where the sheet stays accepted; holds left out, and of 0."""
+    for regions in (HALL_A[12:], [inner(0), inner(0), leaf(2, 0), leaf(2, 3), leaf(1, 1), leaf(1, 2)]):
+        yield from rooms(packed(words_in(HELD_A)[:16] + regions), NEAT_HELD)
+    yield from rooms(NEAT_HELD, NEAT_HELD)
+    words = words_in(HELD_A)
+    for at in range(4, 8):
+        for bit in range(28):
+            sheet = packed(changed(words, at, words[at] ^ 1 << bit))
+            if not judge(sheet):
+                yield (sheet, 88 + bit % 4), written(sheet, sheet[:64] + NEAT_A[48:])
+    for listed in ([], [0] * 4, [ANY_HOLD, 0, 0, 0], [0, 0, 0, ANY_HOLD], [7, 3, 10, 100], [13, 6, 7, 1]):
+        sheet = with_holds(A, listed)
+        yield from rooms(sheet, with_holds(NEAT_A, listed))
+    for count in (1, 3, 5):
+        yield from (((with_holds(A, [0] * count), room), 'refused input 2') for room in (0, 99))
+    for node, hold in ((1, 262139), (2, 262142)):
+        sheet = with_holds(A, changed([0] * 4, node, hold))
+        yield from (((sheet, room), 'refused input 34') for room in (0, len(sheet) - 1, len(sheet), MOST_ROOM))
+
+
+def holds_alone():
+    """Sheets that differ in holds alone, and such without arcs: each has a copy of its own."""
+    for nodes, source in ((1, 0), (2, 1), (40, 3), (1024, 1023)):
+        for hold in (0, 1, 197, ANY_HOLD):
+            sheet = sheet_of(nodes, source, [5], holds=[hold] * nodes)
+            yield from some_room(sheet, sheet, hold % 5)
+    hall = 4, 0, ARCS_A
+    for holds in product((0, 1, 262138), repeat=4):
+        yield (divided(*hall, nested([[3, [1]], [0, 2]]), lambda h: 1, holds), 200), None
+
+
+def small_held():
+    """Divisions of small halls under several numbers, with holds by chance, and the halls of tests/holds.py."""
+    chance = Chance(106)
+    for turn in range(6):
+        nodes, ways = 2 + chance.below(6), 2 + turn % 3
+        arcs = random_arcs(chance, nodes, 1 + chance.below(ways * nodes), [0, 1, 2, 262143], ways)
+        hall = nodes, chance.below(nodes), arcs
+        holds = Lists(held(chance, divided(*hall, flat(len(arcs)), lambda h: 1))).holds
+        for regions in shapes(chance, len(arcs), turn)[turn % 2::2]:
+            yield from one_copy(chance, hall, regions, 1, holds=holds)
+    for turn, sheet in enumerate(held_halls()):
+        yield from some_room(sheet, b'', turn)
+    for change in KEPT:
+        yield from one_copy(chance, *of_sheet(with_faults(change)), 1, holds=Lists(with_faults(change)).holds)
+
+
+def holds_full_size():
+    """The longest sheet, 36,924 bytes, and one a word longer; the longest without arcs."""
+    chance = Chance(107)
+    plain = divided(1024, 1023, each_way(2, 1024), numbered(one_deep(2032), chance.below), lambda h: 1_000_000)
+    longest = with_holds(plain, left_for_holds(plain))
+    if len(longest) != TODAY.most_bytes:
+        sys.exit('the longest sheet has %d bytes' % len(longest))
+    yield (longest, 36_924), written(longest)
+    yield (longest, MOST_ROOM), written(longest)
+    yield (longest, 36_923), 'refused input 31'
+    yield (longest + packed([leaf(0, 0)]), MOST_ROOM), 'refused input 1'
+
+
 FAMILIES = [
     marked, by_hand, every_small_division, single_chains, no_arcs, fronts, small_halls, deep, middling, full_size, refused, pairs, near,
+    holds_by_hand, holds_alone, small_held, holds_full_size,
 ]
 
 
@@ -286,9 +354,9 @@ def said(answer):
 
 
 def answered(family, rules=TODAY):
-    """The cases of a family with the answers expected and stated, the same by all rules since request 2026-04."""
+    """The cases of a family with the answers expected and stated."""
     for (sheet, room), stated in family():
-        yield case_of(6, sheet, words=room), said(copied(sheet, room)), stated
+        yield case_of(6, sheet, words=room), said(copied(sheet, room, rules)), stated
 
 
 def kind(answer):
@@ -332,7 +400,7 @@ def as_said(sheet, copy):
 
 
 def exactly_when(copies):
-    """Of all sheets two have the same copy exactly when they share nodes, source, spans, arcs and nesting."""
+    """Of all sheets two have the same copy exactly when they share nodes, source, spans, holds, arcs and nesting."""
     pairs = {((shared(sheet), nesting(sheet)), copy) for sheet, copy in copies}
     return len({known for known, _ in pairs}) == len(pairs) == len({copy for _, copy in pairs})
 
@@ -340,7 +408,7 @@ def exactly_when(copies):
 # The kinds of sheets and pairs that there have to be: how many at least.
 KINDS = {
     'other numbers than the copy': 1200, 'their own copies': 250, 'copies of several sheets': 200, 'same front, other nesting': 1500,
-    'same front, other chains alone': 1200,
+    'same front, other chains alone': 1200, 'sheets with holds': 300, 'same but for holds': 500,
 }
 
 
@@ -354,12 +422,14 @@ def hold_copies(lines):
         sys.exit('two sheets have the same copy and are not alike, or are alike and have two')
     found = Counter('their own copies' if sheet == copy else 'other numbers than the copy' for sheet, copy in copies)
     found['copies of several sheets'] = sum(count > 1 for count in Counter(copy for _, copy in copies).values())
-    fronts, chains = Counter(), Counter()
+    found['sheets with holds'] = sum(bool(Lists(sheet).holds) for sheet, _ in copies)
+    fronts, chains, plain = Counter(), Counter(), Counter()
     for copy in {copy for _, copy in copies}:
         fronts[shared(copy)] += 1
         chains[shared(copy), without_single_children(nesting(copy))] += 1
-    found['same front, other nesting'], found['same front, other chains alone'] = (
-        sum(count * (count - 1) // 2 for count in counts.values()) for counts in (fronts, chains)
+        plain[with_holds(copy, [])] += 1
+    found['same front, other nesting'], found['same front, other chains alone'], found['same but for holds'] = (
+        sum(count * (count - 1) // 2 for count in counts.values()) for counts in (fronts, chains, plain)
     )
     print('sheets, copies and pairs of copies: ' + counted(found))
     few = [kind for kind, least in KINDS.items() if found[kind] < least]

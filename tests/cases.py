@@ -4,7 +4,7 @@ import sys
 from collections import Counter
 from pathlib import Path
 
-from paper import BASE, BEFORE_2026_06, BEFORE_2026_07, TODAY
+from paper import BASE, BEFORE_2026_06, BEFORE_2026_07, BEFORE_2026_08, TODAY, Lists
 from procedure import Hall
 
 ROOT = Path(__file__).resolve().parent.parent
@@ -13,11 +13,15 @@ ROOT = Path(__file__).resolve().parent.parent
 MOST_BYTES = 8_500_000
 
 # The vectors of the base paper were made when a node had at most two arcs each way, and those before 2026-06 when there was no longer table.
-# The refusals that alone may have moved since. What a run leaves may have moved too, where the choice among equal keys has (`may_move`).
-REFUSED_THEN = {BASE: ('refused input 10', 'refused 10', 'refused state 21'), BEFORE_2026_06: ('refused state 21',), BEFORE_2026_07: ()}
+# The refusals that alone may have moved since. What a run leaves may have moved too, where the choice among equal keys has, and 1 and 2 may have, of a sheet
+# with holds or one that was too long (`may_move`).
+REFUSED_THEN = {
+    BASE: ('refused input 10', 'refused 10', 'refused state 21'), BEFORE_2026_06: ('refused state 21',), BEFORE_2026_07: (), BEFORE_2026_08: (),
+}
+REFUSED_UNREAD = ('refused input 1', 'refused 1', 'refused input 2', 'refused 2')
 
 # The change requests. Each has its vectors in a file of its own.
-REQUESTS = ['2026-01', '2026-02', '2026-03', '2026-04', '2026-05', '2026-06', '2026-07']
+REQUESTS = ['2026-01', '2026-02', '2026-03', '2026-04', '2026-05', '2026-06', '2026-07', '2026-08']
 
 # The answers, numbered from 0 as the program numbers them.
 ANSWERS = ['refused input', 'refused state', 'accepted', 'ended', 'paused', 'no route', 'route', 'written']
@@ -38,7 +42,8 @@ def change_fields(request, call):
 
 def rules_of(request):
     """The rules by which the vectors of a request hold."""
-    return BEFORE_2026_06 if request < '2026-06' else BEFORE_2026_07 if request < '2026-07' else TODAY
+    since = {'2026-06': BEFORE_2026_06, '2026-07': BEFORE_2026_07, '2026-08': BEFORE_2026_08}
+    return next((rules for changed, rules in since.items() if request < changed), TODAY)
 
 
 def vectors_of(request, stated_by, *form):
@@ -136,11 +141,25 @@ def height_may_decide(sheet):
     return any(under != sorted(under) for under in heights)
 
 
+def is_let_in(sheet):
+    """Whether a sheet has words of kind 13, or is longer than one could be before request 2026-08 and not longer than one may be."""
+    return bool(Lists(sheet).holds) or BEFORE_2026_08.most_bytes < len(sheet) <= TODAY.most_bytes
+
+
+def sheet_in(case):
+    """The sheet of a case's line."""
+    fields = case.split()
+    return bytes_in(fields[4]) if int(fields[3], 16) else b''
+
+
 def may_move(rules, case, then, answer):
-    """Whether the answer to a case may be another today: a refusal for which rules have changed, or a state after rounds where the tie rule may decide."""
-    if then in REFUSED_THEN[rules]:
+    """Whether the answer to a case may be another today.
+
+    It was a refusal for which rules have changed, a refusal of a sheet that is read further today, or a state after rounds where the tie rule may decide.
+    """
+    if then in REFUSED_THEN[rules] or then in REFUSED_UNREAD and not rules.holds and is_let_in(sheet_in(case)):
         return True
-    return not rules.ties_by_height and is_of_rounds(then) and is_of_rounds(answer) and height_may_decide(bytes_in(case.split()[4]))
+    return not rules.ties_by_height and is_of_rounds(then) and is_of_rounds(answer) and height_may_decide(sheet_in(case))
 
 
 def held_by_rules(family, answered, rules, before, kind):

@@ -7,10 +7,11 @@ import sys
 from itertools import product
 
 from cases import bytes_in, case_of, change_fields, data, lines_of, vectors_of, vectors_since
+from holds import HELD_A, held_halls
 from paper import TODAY, applies, judge
 from sheets import (
-    FAULTS, HALL_A, WIDE, Chance, alternate, chain, changed, damaged, each_way, flat, halving, inner, leaf, many_chains, one_deep, packed,
-    random_words, sheet_of, side_by_side, with_faults, words_of,
+    ANY_HOLD, FAULTS, HALL_A, KEPT, WIDE, Chance, alternate, chain, changed, damaged, each_way, flat, halving, held, inner, later, leaf, left_for_holds,
+    many_chains, one_deep, packed, random_words, sheet_of, side_by_side, with_faults, with_holds, words_in, words_of,
 )
 
 # The cases: pairs of a sheet and the answer stated for it, None where the judge alone says it.
@@ -95,11 +96,12 @@ def degrees():
 
 
 def bits():
-    """Each payload bit of each word of hall A turned. What must be zero is stated: 27 to 20 of kind 4, 27 to 23 of kind 7."""
-    for at, word in enumerate(HALL_A):
-        zero = {4: 20, 7: 23}.get(word >> 28, 28)
-        for bit in range(27, -1, -1):
-            yield packed(changed(HALL_A, at, word ^ 1 << bit)), 3 if bit >= zero else None
+    """Each payload bit of each word of hall A turned, without holds and with. What must be zero is stated: 27 to 20 of kind 4, 27 to 23 of kind 7."""
+    for words in (HALL_A, words_in(HELD_A)):
+        for at, word in enumerate(words):
+            zero = {4: 20, 7: 23}.get(word >> 28, 28)
+            for bit in range(27, -1, -1):
+                yield packed(changed(words, at, word ^ 1 << bit)), 3 if bit >= zero else None
 
 
 def parents():
@@ -141,12 +143,12 @@ def childless_regions():
 
 
 def kinds():
-    """Every kind at every place of hall A, and put in before every place and at the end."""
-    for kind in range(16):
-        for at, word in enumerate(HALL_A):
-            yield packed(changed(HALL_A, at, kind << 28 | word % 2**28)), 0 if kind == word >> 28 else None
-        for at in range(len(HALL_A) + 1):
-            yield packed(HALL_A[:at] + [kind << 28] + HALL_A[at:]), None
+    """Every kind at every place of hall A, without holds and with, and put in before every place and at the end."""
+    for words, kind in product((HALL_A, words_in(HELD_A)), range(16)):
+        for at, word in enumerate(words):
+            yield packed(changed(words, at, kind << 28 | word % 2**28)), 0 if kind == word >> 28 else None
+        for at in range(len(words) + 1):
+            yield packed(words[:at] + [kind << 28] + words[at:]), None
 
 
 def order():
@@ -168,20 +170,22 @@ def order():
             yield packed(HALL_A[:at] + [word] + HALL_A[at:]), 2
 
 
-# Request 2026-05: which kinds may follow each kind, one case per kind, in the order of the sheet's description; which come first and last.
+# Request 2026-05: which kinds may follow each kind, one case per kind, in the order of the sheet's description; which come first and last. Kind 13, since
+# request 2026-08, is the digit d.
 MAY_FOLLOW = {
     '1': '2',
-    '2': '3467',
-    '3': '3467',
+    '2': '3d467',
+    '3': '3d467',
+    'd': 'd467',
     '4': '5',
     '5': '467',
     '6': '67',
     '7': '67',
 }
-FIRST, LAST = '1', '23567'
+FIRST, LAST = '1', '23d567'
 
 # By kind, the shortest front that leads to it, and the shortest end that leads on from it where it may not come last.
-FRONTS = {'1': '1', '2': '12', '3': '123', '4': '124', '5': '1245', '6': '126', '7': '127'}
+FRONTS = {'1': '1', '2': '12', '3': '123', 'd': '12d', '4': '124', '5': '1245', '6': '126', '7': '127'}
 ENDS = {'1': '2', '4': '5'}
 
 ALL_KINDS = '0123456789abcdef'
@@ -195,7 +199,9 @@ def let_through(listed):
 
 
 def far(listed):
-    """A sheet of these kinds that gets far: one node, spans of 1, regions and leaves in the last inner region, leaves of one arc after the other."""
+    """A sheet of these kinds that gets far: as many nodes as holds, or one, spans of 1, regions and leaves in the last inner region, leaves of one arc after
+    the other.
+    """
     words, above, regions, leaves = [], 0, 0, 0
     for kind in listed:
         regions += kind in '67'
@@ -206,8 +212,13 @@ def far(listed):
             words.append(leaf(above, leaves))
             leaves += 1
         else:
-            words.append(int(kind, 16) << 28 | (kind in '13'))
+            words.append(int(kind, 16) << 28 | {'1': max(1, listed.count('d')), '3': 1}.get(kind, 0))
     return packed(words)
+
+
+def of_holds(listed):
+    """A sheet of these kinds with payloads of 0, but as many nodes as holds."""
+    return packed([int(kind, 16) << 28 | (listed.count('d') if kind == '1' else 0) for kind in listed])
 
 
 def strings(kinds, lengths):
@@ -222,18 +233,21 @@ def next_to_each_other():
 
 
 def in_sections():
-    """Kinds in order as the description has them: up to three spans, two arcs and three regions."""
-    return ['12' + '3' * spans + '45' * arcs + regions for spans in range(4) for arcs in range(3) for regions in strings('67', range(4))]
+    """Kinds in order as the description has them: up to three spans, two holds, two arcs and three regions."""
+    fronts = ['12' + '3' * spans + 'd' * holds + '45' * arcs for spans in range(4) for holds in range(3) for arcs in range(3)]
+    return [front + regions for front in fronts for regions in strings('67', range(4 - front.count('d')))]
 
 
 def neighbours():
-    """2 exactly where the list of cases says no. Where it says yes, 4 if all payloads are 0, which is no number of nodes."""
+    """2 exactly where the list of cases says no. Where it says yes, 4 if all payloads are 0, which is no number of nodes, and 2 if there are holds then."""
     for listed in in_sections():
         if not let_through(listed):
             sys.exit('in order, but not by the list of cases: %s' % listed)
-    some = strings(ALL_KINDS, range(3)) + ['12' + listed for listed in strings('34567', range(5))]
+    some = strings(ALL_KINDS, range(3)) + ['12' + listed for listed in strings('34567', range(5))] + ['12' + listed for listed in strings('3d4567', range(4))]
     for listed in next_to_each_other() + in_sections() + some:
-        yield packed([int(kind, 16) << 28 for kind in listed]), 4 if let_through(listed) else 2
+        yield packed([int(kind, 16) << 28 for kind in listed]), 4 if let_through(listed) and 'd' not in listed else 2
+    for listed in next_to_each_other() + in_sections() + ['12' + listed for listed in strings('3d4567', range(5)) if 'd' in listed]:
+        yield of_holds(listed), None if let_through(listed) else 2
     for listed in next_to_each_other() + in_sections():
         yield far(listed), None if let_through(listed) else 2
 
@@ -248,11 +262,11 @@ def cuts():
 
 
 def pairs():
-    """Each fault alone, and every two together: the lower number is the answer. Where one change undoes the other, the sheet is left out."""
+    """Each fault alone, and every two together: the answer is the number that is looked at first. Where one change undoes the other, the sheet is left out."""
     yield with_faults(), 0
     for low, changes in FAULTS.items():
         yield from ((with_faults(change), low) for change in changes)
-        for high in range(low + 1, 15):
+        for high in later(low):
             made = [with_faults(one, other) for one in changes for other in FAULTS[high]]
             both = [sheet for sheet in made if applies(low, sheet) and applies(high, sheet)]
             if not both:
@@ -266,7 +280,7 @@ def wide_pairs():
     for wide in WIDE:
         yield with_faults(wide), 0
         for number, changes in FAULTS.items():
-            made = [with_faults(change, wide) if number < 10 else with_faults(wide, change) for change in changes]
+            made = [with_faults(change, wide) if 10 in later(number) else with_faults(wide, change) for change in changes]
             left = [sheet for sheet in made if applies(number, sheet)]
             if not left:
                 sys.exit('no wide sheet has fault %d' % number)
@@ -281,7 +295,7 @@ def full_size():
             sys.exit('a sheet of %d bytes has %d' % (size, len(words) * 4))
         yield packed(words), 0
     yield packed(full) + b'\0', 1
-    yield packed(full + [leaf(0, 0)]), 1
+    yield packed(full + [leaf(0, 0)]), 7
     yield packed(full[:-1] + [leaf(4094, full[-1] % 2048)]), 11
     yield packed(full[:-1] + [leaf(0, 2047)]), 12
     yield packed(full[:2] + full[3:]), 14
@@ -343,9 +357,134 @@ def random_wide():
         yield packed(damaged(chance, words, turn % 4)), None
 
 
+# Request 2026-08: holds, n of them or none, and 34.
+
+def numbers_of_holds():
+    """None, one, n - 1, n, n + 1 and twice n, of a sheet with regions, with arcs alone and with spans alone; n is that of kind 1, right or wrong."""
+    for nodes in (1, 2, 3, 4, 255, 256, 257, 1024):
+        for count in sorted({0, 1, nodes - 1, nodes, nodes + 1, 2 * nodes}):
+            good = count in (0, nodes)
+            yield sheet_of(nodes, 0, [1], [(0, 0)], flat(1), [0] * count), 0 if good else 2
+            yield sheet_of(nodes, nodes - 1, [1], holds=[ANY_HOLD] * count), 0 if good else 2
+            yield sheet_of(nodes, 0, [], [(0, 0)], holds=[5] * count), 12 if good else 2
+            yield sheet_of(nodes, 0, [], holds=[5] * count), 14 if good else 2
+    for nodes, count, number in (
+        (0, 0, 4), (0, 1, 2), (0, 2, 2), (1025, 0, 4), (1025, 1025, 4), (1025, 1024, 2), (1025, 1, 2), (2**28 - 1, 1, 2), (2**28 - 1, 1023, 2), (65537, 1, 2),
+    ):
+        yield sheet_of(nodes, 0, [1], holds=[0] * count), number
+
+
+def places_of_holds():
+    """The four holds of hall A together at every other place, apart, each at every other place, and the last at the front, in an arc and at the end."""
+    words, holds = HALL_A, words_in(HELD_A)[4:8]
+    for at in range(len(words) + 1):
+        yield packed(words[:at] + holds + words[at:]), 0 if at == 4 else 2
+        for apart in range(1, 4):
+            split = words[:4] + holds[:apart] + words[4:at] + holds[apart:] + words[at:]
+            yield packed(split if at > 4 else words[:at] + holds[:apart] + words[at:4] + holds[apart:] + words[4:]), 0 if at == 4 else 2
+    for order in ([3, 2, 1, 0], [0, 0, 0, 0]):
+        yield packed(words[:4] + [holds[at] for at in order] + words[4:]), 0
+
+
+def held_lengths():
+    """34: just at the limit and one above, at each tail of hall A but the source, with every split between hold and length."""
+    for tail, arc in ((1, 3), (2, 2)):
+        for length in (0, 1, 5, 131071, 262142, 262143):
+            plain = packed(changed(HALL_A, 5 + 2 * arc, 5 << 28 | length))
+            for more, answer in ((-1, 0), (0, 0), (1, 34), (2, 34), (ANY_HOLD - 262143 + length, 34)):
+                hold = 262143 - length + more
+                if hold >= 0:
+                    yield with_holds(plain, changed([0] * 4, tail, hold)), answer
+    for holds, answer in (
+        ([ANY_HOLD, 0, 0, ANY_HOLD], 0), ([ANY_HOLD, 262138, 262141, ANY_HOLD], 0), ([0, 262139, 0, 0], 34), ([0, 0, 262142, 0], 34), ([0, 2**18, 0, 0], 34),
+        ([0, 2**27, 0, 0], 34), ([0, 262143, 0, 0], 34), ([0, 262144 * 2, 0, 0], 34), ([0, 0, ANY_HOLD, 0], 34),
+    ):
+        yield with_holds(packed(HALL_A), holds), answer
+
+
+def free_holds():
+    """The source as tail, wherever it is and whatever leaves it, an arc from it to itself too; nodes that no arc leaves; and a tail that is not the source."""
+    arcs = [(0, 1, 262143), (1, 2, 262143), (2, 0, 262143), (2, 2, 262143)]
+    for source in range(4):
+        for node in range(4):
+            answer = 0 if node in (source, 3) else 34
+            for hold in (1, 262144, ANY_HOLD):
+                yield sheet_of(4, source, [1], arcs, flat(4), changed([0] * 4, node, hold)), answer
+    for arc in ((1, 1), (1, 0), (1, 2)):
+        for source, answer in ((1, 0), (0, 34), (2, 34)):
+            yield sheet_of(3, source, [1], [(*arc, 262143)], flat(1), [0, ANY_HOLD, 0]), answer
+    # several arcs leave a node: the last one alone, and the first one alone, is too long with its hold
+    for lengths in ((0, 0, 0, 7), (7, 0, 0, 0), (0, 7, 0, 0)):
+        for hold, answer in ((262136, 0), (262137, 34)):
+            yield sheet_of(6, 0, [1], [(1, 2 + a, length) for a, length in enumerate(lengths)], flat(4), [0, hold, 0, 0, 0, 0]), answer
+
+
+def order_of_34():
+    """9 over all arcs is looked at before 34, and 34 before 10 and all that follow it, whichever arc comes first."""
+    beyond, held_arc, good = (1, 2, 262144), (2, 3, 10), (3, 4, 10)
+    for arcs in ([beyond, held_arc], [held_arc, beyond], [good, held_arc, beyond], [good, beyond, held_arc]):
+        yield sheet_of(6, 0, [1], arcs, flat(len(arcs)), [0, 0, 262134, 0, 0, 0]), 9
+        yield sheet_of(6, 0, [1], [(u, v, min(length, 262143)) for u, v, length in arcs], flat(len(arcs)), [0, 0, 262134, 0, 0, 0]), 34
+    # a length of 262,144 that leaves the source, and one whose tail is held at
+    for source in (0, 1):
+        yield sheet_of(6, source, [1], [beyond], flat(1), [5] * 6), 9
+    crowd = [(2, 3, 10)] * 5
+    for arcs in (crowd + [(4, 5, 3)], [(4, 5, 3)] + crowd):
+        for hold, answer in ((262140, 10), (262141, 34)):
+            yield sheet_of(6, 0, [1], arcs, flat(6), [0, 0, 0, 0, hold, 0]), answer
+    for regions, spans in ((flat(1)[:0], [1]), ([leaf(0, 0), inner(0)], [1]), (flat(1), [1, 1]), ([inner(1), leaf(1, 0)], [1, 1])):
+        yield sheet_of(3, 0, spans, [(1, 2, 262143)], regions, [0, 1, 0]), 34
+
+
+def longer_sheets():
+    """About 36,924 bytes; and sheets of more than 32,828 bytes without holds, which have too many words of some kind: 7, if no lower number applies."""
+    arcs = each_way(2, 1024)
+    full = words_of(1024, 1023, [1_000_000] * 15, arcs, one_deep(2032))
+    sheet = packed(full)
+    longest = with_holds(sheet, left_for_holds(sheet))
+    for words, size, number in ((longest, 36_924, 0), (longest + packed([leaf(0, 0)]), 36_928, 1), (longest + b'\0', 36_925, 1), (longest[:-4], 36_920, 12)):
+        if len(words) != size:
+            sys.exit('a sheet of %d bytes has %d' % (size, len(words)))
+        yield words, number
+    yield with_holds(sheet, [0] * 1023), 2
+    yield with_holds(sheet, changed(left_for_holds(sheet), 0, 262143)), 34
+    for more, number in ((1, 7), (1024, 7), (1025, 1)):
+        yield packed(full + [leaf(0, 0)] * more), number
+    for word, number in ((8 << 28, 2), (1 << 28 | 4, 2), (7 << 28 | 1 << 23, 3)):
+        yield packed(full + [word] * 1024), number
+    yield packed(full[:2] + [3 << 28] * 1024 + full[2:]), 6
+    yield packed(full[:17] + [4 << 28, 5 << 28] * 512 + full[17:]), 7
+    yield packed(changed(full, 1, 2 << 28 | 1024) + [leaf(0, 0)] * 3), 5
+
+
+def random_held():
+    """Accepted sheets with holds by chance, damaged, and with one hold just beyond what may be."""
+    chance = Chance(90)
+    for turn in range(160):
+        sheet = held(chance, packed(random_words(chance, 9, 2 + turn % 3)))
+        most = left_for_holds(sheet)
+        node = chance.below(len(most))
+        yield sheet, 0
+        yield packed(damaged(chance, words_in(sheet), turn % 4)), None
+        if most[node] < ANY_HOLD:
+            yield with_holds(sheet, changed([0] * len(most), node, most[node] + 1)), 34
+    for sheet in held_halls():
+        yield sheet, 0
+        yield packed(damaged(chance, words_in(sheet), chance.below(4))), None
+
+
+def held_pairs():
+    """Holds that are no fault, alone and with each fault, which is the answer, where it is left."""
+    for kept in KEPT:
+        yield with_faults(kept), 0
+        for number, changes in FAULTS.items():
+            yield from ((sheet, number) for sheet in [with_faults(kept, change) for change in changes] if applies(number, sheet))
+
+
 FAMILIES = [
     marked, nodes_and_sources, spans, heights, arc_ends, degrees, bits, parents, leaves, childless_regions, kinds, order, cuts, pairs,
-    wide_pairs, full_size, large, large_wide, random_sheets, random_wide, neighbours,
+    wide_pairs, full_size, large, large_wide, random_sheets, random_wide, neighbours, numbers_of_holds, places_of_holds, held_lengths, free_holds,
+    order_of_34, longer_sheets, random_held, held_pairs,
 ]
 
 
@@ -367,7 +506,7 @@ def said(answer):
 def answered(family, rules=TODAY):
     """The cases of a family with the answers expected and stated."""
     for sheet, stated in family():
-        yield case_of(1, sheet), said(judge(sheet, rules.most_each_way)), None if stated is None else said(stated)
+        yield case_of(1, sheet), said(judge(sheet, rules)), None if stated is None else said(stated)
 
 
 def lines():

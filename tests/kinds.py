@@ -1,10 +1,10 @@
 """Holds docs/KINDS.md, the page for the class, to the program, to the definition and to the paper's order of kinds.
 
 The cases of the program (crates/judge_form/src/order.rt), of the definition (crates/judgement/specs/Kinds.antt) and of the page have to be
-the same and in the same order, each beside its words of the description, and to name a kind exactly where the order of tests/paper.py lets it
-follow. Each sheet on the page has to be read as the page says, and the orders of which it says that no sheet is accepted have to be those that
-no accepted sheet has, among the samples and random ones. Run it by `python3 tests/kinds.py`: it prints what is wrong and exits with 1, or how
-many cases and sheets it has found.
+the same and in the same order, each beside its words of the description, and to name a kind exactly where the order of tests/paper.py lets
+it follow. Each sheet on the page has to be read as the page says, those that pass the cases and have another number of holds too, and the
+orders of which it says that no sheet is accepted have to be those that no accepted sheet has, among the samples and random ones. Run it by
+`python3 tests/kinds.py`: it prints what is wrong and exits with 1, or how many cases and sheets it has found.
 """
 import re
 import sys
@@ -12,16 +12,17 @@ from itertools import product
 from pathlib import Path
 
 from paper import Lists, judge
-from sheets import HALL_A, Chance, packed, random_words
+from sheets import HALL_A, Chance, held, packed, random_words
 
 ROOT = Path(__file__).resolve().parent.parent
 CODE = (ROOT / 'crates/judge_form/src/order.rt').read_text()
 DEFINITION = (ROOT / 'crates/judgement/specs/Kinds.antt').read_text()
 PAGE = (ROOT / 'docs/KINDS.md').read_text()
 
-# The sheet's description, the paper's own words, by kind: one line, or two kinds in one line.
+# The sheet's description, the paper's own words, by kind: one line, or two kinds in one line. Of kind 13 the words of request 2026-08.
 NODES, SOURCE = 'kind 1, once: the node count n, 1 to 1,024', 'kind 2, once: the source node'
 SPANS = 'kind 3, up to 15 times: the span, 1 to 1,000,000, for heights 1, 2, 3 and so on'
+HOLDS = 'A sheet may carry n words of kind 13 after the spans, or none: the hold in hundredths at nodes 0, 1, 2 and so on.'
 ARCS = (
     'kinds 4 and 5 in pairs, up to 2,048 pairs, one arc each.',
     'Kind 4: bits 19 to 10 the tail node, bits 9 to 0 the head, bits 27 to 20 zero.', 'Kind 5: the length in hundredths of a second, 0 to 262,143',
@@ -37,7 +38,8 @@ def by_kind(both, first, second):
     return [' '.join((both, first, '..')), ' '.join((both, '..', second))]
 
 
-DESCRIPTION = [NODES, SOURCE, SPANS, *by_kind(*ARCS), *by_kind(*REGIONS)]
+DESCRIPTION = [NODES, SOURCE, SPANS, HOLDS, *by_kind(*ARCS), *by_kind(*REGIONS)]
+KINDS = [1, 2, 3, 13, 4, 5, 6, 7]
 
 
 def kinds_in(test):
@@ -62,7 +64,9 @@ def cases_in_code():
 
 
 def cases_in_definition():
-    return [(int(kind), words, kinds_in(test)) for words, kind, test in re.findall(r'-- "(.*)"\n +if eqb before (\d+) then (.*) else\n', DEFINITION)]
+    """A request's sentence has the request's name behind it."""
+    found = re.findall(r'-- "(.*)"(?: \(2026-\d\d\))?\n +if eqb before (\d+) then (.*) else\n', DEFINITION)
+    return [(int(kind), words, kinds_in(test)) for words, kind, test in found]
 
 
 def cases_on_page():
@@ -81,10 +85,15 @@ def named_first_and_last():
     return [kinds_in(test) for test in bodies], [kinds_in(test) for test in clauses]
 
 
+def with_nodes(kinds):
+    """A sheet of these kinds, all payloads 0 but that of kind 1, the number of holds."""
+    return packed([kind << 28 | (kinds.count(13) if kind == 1 else 0) for kind in kinds])
+
+
 def in_order(most):
-    """The strings of up to so many kinds that refusal 2 of tests/paper.py does not refuse."""
-    strings = (kinds for size in range(1, most + 1) for kinds in product(range(16) if size < 4 else range(1, 8), repeat=size))
-    return [kinds for kinds in strings if judge(packed([kind << 28 for kind in kinds])) not in (1, 2)]
+    """The strings of up to so many kinds that refusal 2 of tests/paper.py does not refuse, where there are as many nodes as holds."""
+    strings = (kinds for size in range(1, most + 1) for kinds in product(range(16) if size < 4 else KINDS, repeat=size))
+    return [kinds for kinds in strings if judge(with_nodes(kinds)) not in (1, 2)]
 
 
 # Reading a sheet by the cases.
@@ -145,8 +154,8 @@ def wrong_cases(code, first_and_last):
         yield 'the cases of the program are not those of the page'
     if by_code != by_definition:
         yield 'the first and last kinds of the program are not those of the definition'
-    spoken = re.search(r'A sheet begins with kind (\d) .*? It may end after kinds ([\d, and]+) \(', PAGE, flags=re.S)
-    if [[int(kind) for kind in re.findall(r'\d', text)] for text in spoken.groups()] != by_code:
+    spoken = re.search(r'A sheet begins with kind (\d+) .*? It may end after kinds ([\d, and]+) \(', PAGE, flags=re.S)
+    if [[int(kind) for kind in re.findall(r'\d+', text)] for text in spoken.groups()] != by_code:
         yield 'the page says otherwise how a sheet begins and ends'
     for arm, kinds in arms_on_page():
         if arm not in CODE or kinds != listed(kinds_in(arm)):
@@ -156,11 +165,11 @@ def wrong_cases(code, first_and_last):
 def wrong_order(cases, first, last, strings):
     """Where the cases differ from the order of kinds in sheets that refusal 2 does not refuse."""
     pairs = {pair for kinds in strings for pair in zip(kinds, kinds[1:])}
-    if list(cases) != list(range(1, 8)):
-        yield 'the cases are not those of kinds 1 to 7, in this order'
+    if list(cases) != KINDS:
+        yield 'the cases are not those of the kinds of a sheet, in their order'
     if pairs != {(kind, after) for kind, named in cases.items() for after in named}:
         yield 'the cases name other pairs than the order has'
-    if [first, last] != [sorted({kinds[end] for kinds in strings}) for end in (0, -1)]:
+    if [first, last] != [sorted({kinds[end] for kinds in strings}, key=KINDS.index) for end in (0, -1)]:
         yield 'the cases name other first or last kinds than the order has'
 
 
@@ -174,6 +183,17 @@ def wrong_readings(cases, first, last):
             yield '%s is not refused with 2' % text
         if stop_of(*list(reading(words, cases, first, last))[-1]) != where:
             yield '%s: the reading stops elsewhere' % text
+
+
+def wrong_numbers_of_holds(cases, first, last):
+    """Where a sheet of the page does not pass the cases, or is not refused for the number of its holds, or has other numbers than it says."""
+    for text, nodes, holds in rows('in order, with another number of holds'):
+        words = words_in(text)
+        lists = Lists(packed(words))
+        if judge(packed(words)) != 2 or stop_of(*list(reading(words, cases, first, last))[-1]) != 'nowhere':
+            yield '%s is not refused, or not for the number of its holds' % text
+        if [nodes, holds] != [str(lists.nodes), str(len(lists.holds))]:
+            yield '%s has other numbers' % text
 
 
 def places_in(sheet):
@@ -190,9 +210,9 @@ def samples():
 def never_accepted():
     """The neighbours of which the page says that no accepted sheet has them."""
     for text, _ in rows('in order, but no such sheet is accepted'):
-        for kinds, before in re.findall(r'([\d, or]+) right after (\d)', text):
-            yield from ((before, after) for after in re.findall(r'\d', kinds))
-        yield from ((before, 'the end') for before in re.findall(r'an end after (\d)', text))
+        for kinds, before in re.findall(r'([\d, or]+) right after (\d+)', text):
+            yield from ((before, after) for after in re.findall(r'\d+', kinds))
+        yield from ((before, 'the end') for before in re.findall(r'an end after (\d+)', text))
 
 
 def wrong_never_accepted(shown):
@@ -201,7 +221,8 @@ def wrong_never_accepted(shown):
     found = [places_in(sheet) for sheet in samples() if judge(sheet) == 0]
     if set().union(*found) != shown - never:
         yield 'the accepted samples have other neighbours than the page says'
-    for sheet in (packed(random_words(chance, 8)) for _ in range(2000)):
+    drawn = [packed(random_words(chance, 8)) for _ in range(2000)]
+    for sheet in drawn + [held(chance, sheet) for sheet in drawn]:
         if judge(sheet) == 0 and places_in(sheet) & never:
             yield 'accepted: ' + sheet.hex()
 
@@ -223,14 +244,14 @@ def main():
     cases, (first, last) = {kind: after for kind, _, after in code}, by_code
     wrong = [
         *wrong_cases(code, (by_code, by_definition)), *wrong_order(cases, first, last, in_order(6)),
-        *wrong_readings(cases, first, last), *wrong_witnesses(cases, first, last),
+        *wrong_readings(cases, first, last), *wrong_numbers_of_holds(cases, first, last), *wrong_witnesses(cases, first, last),
         *wrong_never_accepted({(before, after) for before, after, _ in rows('right after')}),
     ]
     if wrong:
         sys.exit('\n'.join(wrong))
     pairs = sum(map(len, cases.values()))
-    print('%d cases that name %d pairs, %d sheets in order and %d out of order: as the page says'
-          % (len(code), pairs, len(rows('right after')), len(rows('sheet'))))
+    print('%d cases that name %d pairs, %d sheets in order, %d out of order and %d with another number of holds: as the page says'
+          % (len(code), pairs, len(rows('right after')), len(rows('sheet')), len(rows('in order, with another number of holds'))))
 
 
 if __name__ == '__main__':

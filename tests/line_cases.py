@@ -10,7 +10,7 @@ GOOD = table_size(4)
 # The most bytes of a line, the most words of a table and lent, and the most bytes lent, as the program has room for.
 ROOM = 16 + 65536
 WORDS = 4608
-BYTES = 33792
+BYTES = 37888
 
 
 def other_signs():

@@ -6,11 +6,12 @@ that a case states, and what is printed of an ended run has to be shortest. Othe
 """
 from before import listing_before
 from cases import bytes_in, case_of, change_fields, data, lines_of, vectors_of, vectors_since
+from holds import HELD_A, by_hand, held_halls, longest_row
 from paper import TODAY
-from procedure import printed
+from procedure import NONE, printed
 from sheets import (
-    FAULTS, HALL_A, WIDE, Chance, balanced, chain, changed, divided, each_way, flat, halving, high_halls, ladder, one_deep, packed, random_arcs,
-    random_regions, turntable, uneven_halls, with_faults,
+    FAULTS, HALL_A, KEPT, WIDE, Chance, as_holds, balanced, chain, changed, divided, each_way, flat, halving, held, high_halls, ladder, one_deep, packed,
+    random_arcs, random_regions, sheet_of, some_held, turntable, uneven_halls, with_faults, with_holds,
 )
 from ties import SHALLOW_FIRST, tie_halls
 
@@ -33,7 +34,7 @@ def refused():
         for change in changes:
             yield with_faults(change), 'refused %d' % number
     yield with_faults(), None
-    for change in WIDE:
+    for change in WIDE + KEPT:
         yield with_faults(change), None
 
 
@@ -44,8 +45,9 @@ def sizes():
     for size in range(1, 4):
         yield hall[:size], 'refused 1'
         yield hall + hall[:size], 'refused 1'
-    yield hall.ljust(32_828, b'\0'), 'refused 2'
-    for size in (32_827, 32_829, 32_831, 32_832, 32_833, 40_000, 65_536):
+    for size in (32_828, 32_832, 36_920, 36_924):
+        yield hall.ljust(size, b'\0'), 'refused 2'
+    for size in (32_827, 32_829, 32_831, 32_833, 36_923, 36_925, 36_927, 36_928, 36_929, 40_000, 65_536):
         yield hall.ljust(size, b'\0'), 'refused 1'
 
 
@@ -67,6 +69,8 @@ def small_halls():
     for lanes in (3, 4):
         for length in (lambda a: 1, lambda a: a % 2, lambda a: 20 - a):
             yield divided(2 * lanes + 2, 0, turntable(lanes, length), balanced(lanes, list(range(3 * lanes))), lambda h: 2), None
+    for sheet in some_held([sheet for sheet, _ in (*halls_of(5, 80, 2), *halls_of(18, 30, 4))], 5, 101):
+        yield sheet, None
 
 
 def levels():
@@ -99,7 +103,44 @@ def ties():
     yield from ((sheet, None) for sheet in tie_halls())
 
 
-FAMILIES = [marked, refused, sizes, small_halls, levels, full_size, ties]
+def distances_of(labels):
+    """A text whose distances are these, whatever its first line and the feeding arcs are."""
+    return ['%d %s' % (node, '-' if label == NONE else label) for node, label in enumerate(labels)]
+
+
+def holds():
+    """Hall A with holds, by hand; halls whose distances are stated; n - 1 and n + 1 holds, and 34 by one."""
+    yield HELD_A, 'ended rounds 2 leaves 4 inner 2 2 updates 10\n0 0 -\n1 4 0\n2 1 1\n3 19 3'
+    for sheet, labels in by_hand():
+        if [line.rsplit(' ', 1)[0] for line in printed(sheet)[1:]] != distances_of(labels):
+            raise SystemExit('the distances are not as stated: %s' % sheet.hex())
+        yield sheet, None
+    yield from ((sheet, None) for sheet in held_halls())
+    a = packed(HALL_A)
+    for number, lists in ((2, ([1] * 3, [1] * 5, [0])), (34, ([0, 262139, 0, 0], [0, 0, 262142, 0], [0, 2**28 - 1, 0, 0]))):
+        yield from ((with_holds(a, listed), 'refused %d' % number) for listed in lists)
+    yield packed(HALL_A[:2] + [13 << 28] * 4 + HALL_A[2:]), 'refused 2'
+    yield sheet_of(1, 0, [1], holds=[2**28 - 1]), 'ended rounds 0 leaves 0 inner 0 updates 0\n0 0 -'
+
+
+def same_times():
+    """A hold of 0 at each node, and a part of the lengths as holds: what is printed is what is printed without holds."""
+    chance = Chance(102)
+    for at, (sheet, _) in enumerate([*halls_of(103, 30, 3)] + [(sheet, None) for sheet in (*[*uneven_halls()][::5], *[*high_halls()][::5])]):
+        nodes = int.from_bytes(sheet[:4], 'big') % 2**28
+        yield with_holds(sheet, [0] * nodes) if at % 3 == 0 else as_holds(chance, sheet), '\n'.join(printed(sheet))
+
+
+def holds_full_size():
+    """The longest sheet, of 36,924 bytes; one word more; one hold less; the largest label there is."""
+    longest = held(Chance(104), divided(1024, 1023, each_way(2, 1024), one_deep(2032), lambda h: 1_000_000))
+    yield longest, None
+    yield longest + packed([7 << 28]), 'refused 1'
+    yield with_holds(longest, [0] * 1023), 'refused 2'
+    yield longest_row(1024), None
+
+
+FAMILIES = [marked, refused, sizes, small_halls, levels, full_size, ties, holds, same_times, holds_full_size]
 
 
 def vectors():

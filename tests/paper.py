@@ -1,17 +1,15 @@
-"""The judge, written from the paper, list by list: a sheet as lists by kind, and a test for each refusal 1 to 14. It shares nothing with
-the Rattle code. Where kinds are in order, the lists are the sheet's sections.
+"""The judge, written from the paper and its requests, list by list: a sheet as lists by kind, and a test for each refusal of a sheet, in the order
+in which they are looked at. It shares nothing with the Rattle code. Where kinds are in order, the lists are the sheet's sections.
 """
 import re
 from collections import namedtuple
 
-# The most arcs from a node, and the most to a node. The paper says two, change request 2026-01 four.
-MOST_EACH_WAY = 4
-
-# What has changed: the most arcs each way, since request 2026-06 the longer form of a table, and since 2026-07 the choice among equal keys, which went to
-# the lower region number alone.
-Rules = namedtuple('Rules', 'most_each_way longer_form ties_by_height')
-TODAY = Rules(MOST_EACH_WAY, True, True)
-BEFORE_2026_07 = TODAY._replace(ties_by_height=False)
+# What has changed: since request 2026-01 the most arcs from a node and to a node, since 2026-06 the longer form of a table, since 2026-07 the choice among
+# equal keys, which went to the lower region number alone, and since 2026-08 the kind of the holds and the most bytes of a sheet.
+Rules = namedtuple('Rules', 'most_each_way longer_form ties_by_height holds most_bytes')
+TODAY = Rules(4, True, True, True, 36_924)
+BEFORE_2026_08 = TODAY._replace(holds=False, most_bytes=32_828)
+BEFORE_2026_07 = BEFORE_2026_08._replace(ties_by_height=False)
 BEFORE_2026_06 = BEFORE_2026_07._replace(longer_form=False)
 BASE = BEFORE_2026_06._replace(most_each_way=2)
 
@@ -23,6 +21,7 @@ class Lists:
         self.kinds = ''.join('%x' % (word >> 28) for word in words)
         named = [(word >> 28, word % 2**28) for word in words]
         self.counts, self.sources, self.spans, self.ends, self.lengths = ([p for k, p in named if k == kind] for kind in range(1, 6))
+        self.holds = [p for k, p in named if k == 13]
         self.nodes = self.counts[0] if self.counts else 0
         self.tails = [(p >> 10) % 1024 for p in self.ends]
         self.heads = [p % 1024 for p in self.ends]
@@ -32,6 +31,24 @@ class Lists:
         self.leaves = {number for number, (k, _) in enumerate(self.regions, 1) if k == 7}
         self.parents = [p if k == 6 else (p >> 11) % 4096 for k, p in self.regions]
 
+    def charged(self, node):
+        """"a tail's hold (0 for the source)", and 0 where there is no such hold"""
+        return self.holds[node] if node < len(self.holds) and [node] != self.sources[:1] else 0
+
+
+def wrong_kinds(s, rules):
+    """Refusal 2, of which kind stands where."""
+    return not re.fullmatch('123*d*(45)*[67]*' if rules.holds else '123*(45)*[67]*', s.kinds)
+
+
+def wrong_holds(s):
+    """Refusal 2, "A number of hold words other than 0 or the payload of kind 1": that is no matter of which kind follows which."""
+    return len(s.holds) not in (0, s.nodes)
+
+
+def held_too_long(s):
+    return any(s.charged(tail) + length > 262143 for tail, length in zip(s.tails, s.lengths))
+
 
 def more_alike(numbers, most):
     """Whether some number is there more than so many times."""
@@ -39,8 +56,8 @@ def more_alike(numbers, most):
     return any(low == high for low, high in zip(ranked, ranked[most:]))
 
 
-def crowded(s, most_each_way=MOST_EACH_WAY):
-    return more_alike(s.tails, most_each_way) or more_alike(s.heads, most_each_way)
+def crowded(s, rules):
+    return more_alike(s.tails, rules.most_each_way) or more_alike(s.heads, rules.most_each_way)
 
 
 def wrong_parent(s):
@@ -66,30 +83,31 @@ def hall_height(s):
     return max(depths[1:], default=1)
 
 
+# By number, in the order in which they are looked at.
 REFUSALS = {
-    1: lambda s: s.size % 4 != 0 or s.size > 32828,
-    2: lambda s: not re.fullmatch('123*(45)*[67]*', s.kinds),
-    3: lambda s: any(p >= 2**20 for p in s.ends) or any(p >= 2**23 for p in s.leaf_payloads),
-    4: lambda s: not 1 <= s.nodes <= 1024,
-    5: lambda s: any(source >= s.nodes for source in s.sources),
-    6: lambda s: any(not 1 <= span <= 1_000_000 for span in s.spans),
-    7: lambda s: len(s.spans) > 15 or len(s.ends) > 2048 or len(s.regions) > 4094,
-    8: lambda s: any(node >= s.nodes for node in s.tails + s.heads),
-    9: lambda s: any(length > 262143 for length in s.lengths),
+    1: lambda s, rules: s.size % 4 != 0 or s.size > rules.most_bytes,
+    2: lambda s, rules: wrong_kinds(s, rules) or wrong_holds(s),
+    3: lambda s, _: any(p >= 2**20 for p in s.ends) or any(p >= 2**23 for p in s.leaf_payloads),
+    4: lambda s, _: not 1 <= s.nodes <= 1024,
+    5: lambda s, _: any(source >= s.nodes for source in s.sources),
+    6: lambda s, _: any(not 1 <= span <= 1_000_000 for span in s.spans),
+    7: lambda s, _: len(s.spans) > 15 or len(s.ends) > 2048 or len(s.regions) > 4094,
+    8: lambda s, _: any(node >= s.nodes for node in s.tails + s.heads),
+    9: lambda s, _: any(length > 262143 for length in s.lengths),
+    34: lambda s, _: held_too_long(s),
     10: crowded,
-    11: wrong_parent,
-    12: wrong_leaves,
-    13: childless,
-    14: lambda s: len(s.spans) != hall_height(s),
+    11: lambda s, _: wrong_parent(s),
+    12: lambda s, _: wrong_leaves(s),
+    13: lambda s, _: childless(s),
+    14: lambda s, _: len(s.spans) != hall_height(s),
 }
 
 
 def applies(number, sheet):
-    return REFUSALS[number](Lists(sheet))
+    return REFUSALS[number](Lists(sheet), TODAY)
 
 
-def judge(sheet, most_each_way=MOST_EACH_WAY):
-    """The lowest number that applies, or 0. Another limit of arcs each way can be given."""
+def judge(sheet, rules=TODAY):
+    """The first number that applies, or 0. Rules of before can be given."""
     lists = Lists(sheet)
-    tests = {**REFUSALS, 10: lambda s: crowded(s, most_each_way)}
-    return next((number for number, test in tests.items() if test(lists)), 0)
+    return next((number for number, test in REFUSALS.items() if test(lists, rules)), 0)

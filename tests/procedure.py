@@ -1,7 +1,8 @@
 """The procedure, its answer table, the route reader and going on from a table, written from the paper. They share nothing with the Rattle code.
 
 `Run` keeps a heap for each inner region, `PlainRun` looks through all children instead; the cases hold the two to each other. Distances
-are found a second way, by `distances`, and every ended table is held to them. Rules of before can be given: the limit of arcs each way is
+are found a second way, by `distances`, and every ended table is held to them: there, and in the length of a route, holds are charged as request
+2026-08 says it of routes, and in the run as it says it of the procedure. Rules of before can be given: the limits of a sheet and its kinds are
 the judge's, the longer form that of a table's length, and the choice among equal keys the run's.
 
 A run counts the workings of each region; the figures by height are added up where the table is made. Tables are made in the longer form of
@@ -26,6 +27,8 @@ class Hall:
         lists = Lists(sheet)
         self.nodes, self.source, self.spans = lists.nodes, lists.sources[0], lists.spans
         self.tails, self.heads, self.lengths = lists.tails, lists.heads, lists.lengths
+        self.holds = lists.holds or [0] * self.nodes
+        self.taken = self.taken_lengths()
         self.parents = [None] + lists.parents
         self.arc_of = {number: payload % 2048 for number, (kind, payload) in enumerate(lists.regions, 1) if kind == 7}
         self.leaf_of = {arc: number for number, arc in self.arc_of.items()}
@@ -39,6 +42,10 @@ class Hall:
         for number in reversed(range(len(self.parents))):
             if number not in self.arc_of:
                 self.heights[number] = 1 + max((self.heights[child] for child in self.children[number]), default=0)
+
+    def taken_lengths(self):
+        """"The procedure takes an arc's length with its tail's hold added (0 for the source)." """
+        return [length + (0 if tail == self.source else self.holds[tail]) for tail, length in zip(self.tails, self.lengths)]
 
 
 class Run:
@@ -118,7 +125,7 @@ class Run:
     def work_leaf(self, region):
         self.leaves += 1
         hall, arc = self.hall, self.hall.arc_of[region]
-        head, reached = hall.heads[arc], self.labels[hall.tails[arc]] + hall.lengths[arc]
+        head, reached = hall.heads[arc], self.labels[hall.tails[arc]] + hall.taken[arc]
         if self.labels[head] > reached:
             self.labels[head], self.feeding[head] = reached, arc
             for outgoing in hall.outgoing[head]:
@@ -220,23 +227,33 @@ def tables(hall, limits=None):
     return {limit: table[:table_size(hall.nodes)] for limit, table in longer_tables(hall, limits).items()}
 
 
+def travel_time(hall, arcs):
+    """"A route's length is its arcs plus the hold of each node between its ends; the source's own hold is never charged." """
+    between = [hall.tails[arc] for arc in arcs[1:]]
+    return sum(hall.lengths[arc] for arc in arcs) + sum(hall.holds[node] for node in between if node != hall.source)
+
+
 def distances(hall):
-    """The lengths of shortest routes from the source, NONE where there is none: rounds over all arcs until nothing falls."""
-    found = [NONE] * hall.nodes
-    found[hall.source] = 0
+    """The lengths of shortest routes from the source, NONE where there is none: rounds over all arcs until nothing falls.
+
+    A route to a node is left by an arc at its length, and later by the node's hold, which then stands between the ends.
+    """
+    found, left = [NONE] * hall.nodes, [NONE] * hall.nodes
+    found[hall.source] = left[hall.source] = 0
     falling = True
     while falling:
         falling = False
         for tail, head, length in zip(hall.tails, hall.heads, hall.lengths):
-            if found[tail] != NONE and found[tail] + length < found[head]:
-                found[head] = found[tail] + length
+            if left[tail] != NONE and left[tail] + length < found[head]:
+                found[head] = left[tail] + length
+                left[head] = found[head] + hall.holds[head]
                 falling = True
     return found
 
 
 def printed(sheet, rules=TODAY):
     """The lines that `marks` prints. An ended run is held to `shortest`."""
-    number = judge(sheet, rules.most_each_way)
+    number = judge(sheet, rules)
     if number:
         return ['refused %d' % number]
     hall = Hall(sheet)
@@ -268,7 +285,7 @@ def wrong_length(hall, length, rules):
 
 def table_refusal(sheet, length, rules=TODAY):
     """The refusal of a run, as ('input', number) or ('state', 21), or None."""
-    number = judge(sheet, rules.most_each_way)
+    number = judge(sheet, rules)
     if number:
         return 'input', number
     return ('state', 21) if wrong_length(Hall(sheet), length, rules) else None
@@ -307,7 +324,7 @@ def shortest(hall, labels, feeding):
                 return False
             continue
         arcs = chain_to(hall, feeding, node)
-        if arcs is None or not leads(hall, arcs, node) or sum(hall.lengths[arc] for arc in arcs) != labels[node]:
+        if arcs is None or not leads(hall, arcs, node) or travel_time(hall, arcs) != labels[node]:
             return False
     return True
 
@@ -334,7 +351,7 @@ def table_faults(hall, table):
 
 def route(sheet, table, node, room, rules=TODAY):
     """('route', arcs), ('no route',), ('input', number) or ('state', number)."""
-    number = judge(sheet, rules.most_each_way)
+    number = judge(sheet, rules)
     if number:
         return 'input', number
     hall = Hall(sheet)
@@ -352,7 +369,8 @@ def route(sheet, table, node, room, rules=TODAY):
     return ('route', arcs) if len(arcs) <= room else ('state', 25)
 
 
-# Going on. "A table is held to be a possible state if", clause by clause:
+# Going on. "A table is held to be a possible state if", clause by clause. The length of an arc is that which the procedure takes: request 2026-08 "adds the
+# same to an arc's length too".
 
 class State:
     """What a longer table says of a hall."""
@@ -363,7 +381,7 @@ class State:
         self.reached = [label != NONE for label in self.labels]
         self.others = [node for node in range(hall.nodes) if self.reached[node] and node != hall.source]
         self.most = 262_143 * (sum(self.reached) - 1)
-        self.arcs = list(zip(hall.tails, hall.heads, hall.lengths, self.keyed))
+        self.arcs = list(zip(hall.tails, hall.heads, hall.taken, self.keyed))
 
 
 def fed_along_a_chain(s, node):
@@ -378,7 +396,7 @@ def below_its_feeder(s, node):
     if arc == NONE:
         return False
     tail = s.hall.tails[arc]
-    return not s.reached[tail] or s.labels[node] < s.labels[tail] + s.hall.lengths[arc]
+    return not s.reached[tail] or s.labels[node] < s.labels[tail] + s.hall.taken[arc]
 
 
 CLAUSES = {
@@ -403,12 +421,12 @@ def broken_clauses(hall, table):
     return [clause for clause, holds in CLAUSES.items() if not holds(state)]
 
 
-def resume(sheet, table, rounds, run=Run, rules=TODAY):
+def resume(sheet, table, rounds, run=Run, rules=TODAY, kind_of_hall=Hall):
     """('ended', table), ('paused', table), ('input', number) or ('state', number)."""
-    number = judge(sheet, rules.most_each_way)
+    number = judge(sheet, rules)
     if number:
         return 'input', number
-    hall = Hall(sheet)
+    hall = kind_of_hall(sheet)
     if len(table) != longer_size(hall) or wrong_word(hall, table):
         return 'state', 32
     if broken_clauses(hall, table):

@@ -5,12 +5,13 @@ tests/2026-06_vectors.txt on, by the rules of their time, and with each answer t
 damaged one with the clause of 33 that alone is broken. Each table that is expected is held to what request 2026-06 claims: it is a possible
 state where no count of the table before it was 2^54 or more, by any spans, each count has grown by less than 2^54, and an ended one is
 shortest; on small halls the run without heaps has to make the same. The halls of tests/ties.py have to tell wrong choices among equal keys
-from that of request 2026-07 here too. Otherwise the script stops.
+from that of request 2026-07 here too, and those of tests/holds.py wrong charges of holds from the right one. Otherwise the script stops.
 """
 import sys
 from collections import Counter
 
 from cases import bytes_in, case_of, change_fields, counted, lines_of, stated_in, vectors_since, with_words, words_in
+from holds import HELD_A, WRONG, by_hand, held_halls, hold_charged_apart, longest_row
 from paper import BEFORE_2026_07, TODAY, Lists
 from procedure import (
     CLAUSES, COUNTS, HEADER, MOST_HEIGHT, NONE, Hall, PlainRun, broken_clauses, columns, counts_of, halves_of, longer_size, longer_tables,
@@ -19,8 +20,8 @@ from procedure import (
 from route_cases import feeding_at, label_at, with_payload
 from run_cases import MOST_LIMIT, as_marked, listed_halls, rounds_of, small_halls, turntables, wide_halls
 from sheets import (
-    FAULTS, HALL_A, WIDE, Chance, alternate, balanced, changed, divided, each_way, flat, halving, high_halls, one_deep, packed, random_arcs,
-    random_regions, sheet_of, uneven_halls, with_faults, woken,
+    ANY_HOLD, FAULTS, HALL_A, KEPT, WIDE, Chance, alternate, as_holds, balanced, changed, divided, each_way, flat, halving, held, high_halls, one_deep, packed,
+    random_arcs, random_regions, sheet_of, some_held, uneven_halls, with_faults, with_holds, woken,
 )
 from ties import hold_told_apart, tie_halls
 
@@ -48,7 +49,7 @@ def stands(table):
 
 
 def with_spans(sheet, spans):
-    """The sheet with other spans and the same nodes, source, arcs and division."""
+    """The sheet with other spans and the same nodes, source, holds, arcs and division."""
     words = words_in(sheet.hex())
     if len(spans) != len(Lists(sheet).spans):
         sys.exit('%d spans' % len(spans))
@@ -103,8 +104,13 @@ def some_halls():
     ]
 
 
+def halls_with_holds():
+    """Some of these halls with holds by chance, and some of those of tests/holds.py."""
+    return some_held(some_halls(), 6, 111) + held_halls()[::5]
+
+
 def parts():
-    for sheet in some_halls()[::2]:
+    for sheet in some_halls()[::2] + halls_with_holds():
         rounds = rounds_of(sheet)
         yield from in_parts(sheet, sorted({0, rounds // 2, max(rounds - 1, 0)}))
     for levels, links, lanes in ((2, 3, 1), (4, 3, 2)):
@@ -137,6 +143,8 @@ def breaks():
     for lanes in (1, 3):
         nodes, arcs, regions = woken(6, 5, lanes)
         yield from with_breaks(chance, divided(nodes, 0, arcs, regions, lambda h: 2), 6)
+    for sheet in halls_with_holds():
+        yield from with_breaks(chance, sheet, 3)
 
 
 def every_span_of_hall_a():
@@ -160,9 +168,9 @@ def grown(chance, hall):
         arc = chance.below(len(hall.tails))
         tail, head = hall.tails[arc], hall.heads[arc]
         if labels[tail] != NONE and labels[head] == NONE and head != hall.source:
-            labels[head], feeding[head] = labels[tail] + hall.lengths[arc] + (0, 0, 1, 7)[chance.below(4)], arc
+            labels[head], feeding[head] = labels[tail] + hall.taken[arc] + (0, 0, 1, 7)[chance.below(4)], arc
     keyed = []
-    for tail, head, length in zip(hall.tails, hall.heads, hall.lengths):
+    for tail, head, length in zip(hall.tails, hall.heads, hall.taken):
         settled = labels[head] != NONE and labels[head] <= labels[tail] + length
         keyed.append(int(labels[tail] != NONE and (not settled or chance.below(3) == 0)))
     counts = [chance.below(1000) for _ in range(2 + len(hall.spans))] + [0] * (MOST_HEIGHT - len(hall.spans)) + [chance.below(10**6)]
@@ -171,7 +179,8 @@ def grown(chance, hall):
 
 def other_states():
     chance = Chance(29)
-    for sheet in small_halls(30, 60, 8, 3):
+    plain = [*small_halls(30, 60, 8, 3)]
+    for sheet in plain + some_held(plain, 3, 112):
         table = grown(chance, Hall(sheet))
         if not broken_clauses(Hall(sheet), table):
             for rounds in (0, 1 + chance.below(3), MOST_LIMIT):
@@ -193,7 +202,8 @@ def keyed_anew(hall, table, arcs):
 
 def all_keyed():
     """Ended tables with arcs keyed anew: one, and all that leave a reached node. The rounds that follow change counts alone."""
-    for sheet in (A, *small_halls(31, 6, 6, 2)):
+    plain = [A, *small_halls(31, 6, 6, 2)]
+    for sheet in plain + [HELD_A, *some_held(plain[1:], 2, 113)]:
         hall, table = Hall(sheet), longer(sheet)
         arcs = leaving(hall, table)
         for some in (arcs[:1], arcs):
@@ -223,7 +233,7 @@ def no_arcs():
 
 def ended_given_back():
     """An ended table is left as it was, whatever the rounds and the spans."""
-    for sheet in some_halls()[::5]:
+    for sheet in some_halls()[::5] + halls_with_holds()[::4]:
         table = longer(sheet)
         for rounds in (0, 1, MOST_LIMIT):
             yield (sheet, table, rounds), with_words('ended', table)
@@ -482,6 +492,70 @@ def statuses():
             yield sheet, with_payload(table, 0, 1 - table[0] % 2), STATUS
 
 
+# The same row with holds, of which those of the source and of node 6, which no arc leaves, are never charged. By arc it takes 4, 3 + 2, 0 + 3, 0 + 1, 1 + 3,
+# 5 + 1, 2 + 4, 1 + 4 and 0 + 9.
+HELD_ROW = with_holds(ROW_SHEET, [50, 2, 3, 1, 9, 4, ANY_HOLD])
+HELD_LABELS = {2: 9, 3: 12, 4: 18}
+
+
+def held_row(labels=(), *changes, **named):
+    return HELD_ROW, row({**HELD_LABELS, **dict(labels)}, *changes, **named)[1]
+
+
+def held_not_below():
+    """A label one below its feeder's plus hold and length, just that, above it; without the hold, with the source's hold, with the node's own."""
+    yield held_row()
+    for label in (17, 13, 12, 0):
+        yield *held_row({4: label}), BELOW
+    yield held_row({4: 19}, keyed={5: 1})
+    yield *held_row({2: 8}, keyed={2: 1}), BELOW
+    yield *held_row({2: 7}, keyed={2: 1}), BELOW
+    yield *held_row({3: 11}, keyed={5: 1}), BELOW
+    yield *held_row({3: 9}, keyed={5: 1}), BELOW
+    yield held_row({1: 54, 2: 59, 3: 62, 4: 68}, keyed={0: 1})
+    yield *held_row({1: 54, 2: 59, 3: 62, 4: 67}, keyed={0: 1}), BELOW
+    yield held_row({4: 27}, keyed={5: 1})
+    # what is right without holds
+    yield *held_row({2: 7, 3: 7, 4: 12}), BELOW
+
+
+def held_keyless_arcs():
+    """Arcs that would lower a label with the hold and the length of each taken: without a key no state. Those that would lower it without the hold alone."""
+    yield *held_row({4: 19}), RELAXED
+    yield *held_row({4: 27}), RELAXED
+    yield *held_row({4: 19}, keyed={1: 1}), RELAXED
+    yield held_row({4: 1000}, keyed={5: 1})
+    yield *held_row({1: 54, 2: 59, 3: 62, 4: 68}), RELAXED
+    yield *held_row({1: 5, 2: 10, 3: 13, 4: 19}), RELAXED
+    yield held_row({1: 5, 2: 10, 3: 13, 4: 19}, keyed={0: 1})
+    yield held_row({2: 10, 3: 13, 4: 19}, keyed={1: 1})
+    yield *held_row({2: 10, 3: 13, 4: 19}, keyed={2: 1}), RELAXED
+    yield held_row({4: NONE}, {4: NONE}, {5: 1})
+    yield *held_row({4: NONE}, {4: NONE}), RELAXED
+    # node 1 by 6, and over node 2 by 2, the hold and 1
+    for hold, *broken in ((0, RELAXED), (2, RELAXED), (3,), (4,), (262_142,)):
+        sheet = sheet_of(3, 0, [1], [(0, 1, 6), (0, 2, 2), (2, 1, 1)], flat(3), [ANY_HOLD, ANY_HOLD, hold])
+        yield sheet, table_of([0, 6, 2], [NONE, 0, 1], 1, keyed=[0] * 3), *broken
+        yield sheet, table_of([0, 6, 2], [NONE, 0, 1], 0, keyed=[0, 0, 1])
+    sheet = sheet_of(3, 0, [1], [(0, 1, 6), (0, 2, 2), (2, 1, 1)], flat(3), [ANY_HOLD, ANY_HOLD, 2])
+    for label, *broken in ((5,), (4, BELOW), (3, BELOW)):
+        yield sheet, table_of([0, label, 2], [NONE, 2, 1], 1, keyed=[0] * 3), *broken
+
+
+def held_bounds():
+    """262,143 times the number of reached nodes less one, of lengths with holds: met, and exceeded by one."""
+    yield held_row({4: 4 * 262_143}, keyed={5: 1})
+    yield *held_row({4: 4 * 262_143 + 1}, keyed={5: 1}), BOUND
+    for nodes in (3, 6, 40):
+        sheet = longest_row(nodes)
+        table = longer(sheet)
+        last = with_payload(with_payload(table, 0, 0), len(table) - 1, 1)
+        yield sheet, table
+        yield sheet, last
+        yield sheet, with_payload(last, label_at(nodes - 1), 262_143 * (nodes - 1) + 1), BOUND
+        yield sheet, with_payload(last, label_at(nodes - 1), 262_143 * (nodes - 1) - 1), BELOW
+
+
 def several():
     """Two clauses and more broken together."""
     yield *row({0: 1}, {5: 0}), SOURCE, BELOW, UNFED
@@ -492,6 +566,7 @@ def several():
 CLAUSE_FAMILIES = [
     by_clause(of_tables) for of_tables in (
         source_at_0, chains, not_below, unreached_nodes, keyless_arcs, bounds, counts, unused_heights, statuses, several,
+        held_not_below, held_keyless_arcs, held_bounds,
     )
 ]
 
@@ -499,7 +574,8 @@ CLAUSE_FAMILIES = [
 def one_off():
     """Each word of tables of runs a little other: labels by one, feeding arcs, keys and the status. The procedure says what is answered."""
     chance = Chance(32)
-    for sheet in [A, *small_halls(33, 9, 5, 2)]:
+    plain = [A, *small_halls(33, 9, 5, 2)]
+    for sheet in plain + [HELD_A, *some_held(plain, 4, 114)]:
         hall = Hall(sheet)
         table = longer(sheet, 1 + chance.below(2))
         for node in range(hall.nodes):
@@ -548,6 +624,70 @@ def hold_ties():
     hold_told_apart('resume', [case for case, _ in ties()], lambda run, sheet, table, rounds: resume(sheet, table, rounds, run))
 
 
+# Holds.
+
+def holds_by_hand():
+    """Hall A with holds, round by round, by hand; the tables of hall A with and without holds given to the other; the sheet with other holds."""
+    start = as_marked('paused', [0, 0, 0, 0, 6], [0, NONE, NONE, NONE], [NONE] * 4, [1, 1, 0, 0])
+    one = as_marked('paused', [1, 2, 1, 1, 8], [0, 4, NONE, 19], [NONE, 0, NONE, 3], [0, 1, 0, 0])
+    end = as_marked('ended', [2, 4, 2, 2, 10], [0, 4, 1, 19], [NONE, 0, 1, 3], [0, 0, 0, 0])
+    states = [start, one, end]
+    for at, state in enumerate(states):
+        table = words_in(state.split(': ')[1])
+        for rounds in (0, 1, 2, MOST_LIMIT):
+            yield (HELD_A, table, rounds), states[min(at + rounds, 2)]
+    ended = words_in(end.split(': ')[1])
+    # without holds arc 2 would lower node 1; with holds hall A's node 1 is below its feeder's 1 + 3 + 2
+    yield (A, ended, 1), 'refused state 33'
+    yield (HELD_A, longer(A), 1), 'refused state 33'
+    yield (HELD_A, longer(A, 0), 1), one
+    for holds, answer in (
+        ([0, 10, 3, 0], None), ([ANY_HOLD, 10, 3, ANY_HOLD], None), ([100, 10, 1, 7], None), ([100, 10, 0, 7], 'refused state 33'),
+        ([100, 11, 3, 7], 'refused state 33'), ([100, 9, 3, 7], 'refused state 33'), ([0] * 4, 'refused state 33'), ([1] * 3, 'refused input 2'),
+        ([1] * 5, 'refused input 2'), ([0, 262_139, 0, 0], 'refused input 34'),
+    ):
+        sheet = with_holds(A, holds)
+        yield (sheet, ended, 1), end if answer is None else with_words(answer, ended)
+    for change in KEPT:
+        yield from in_parts(with_faults(change), [0, 1])
+
+
+def holds_in_parts():
+    """The halls of tests/holds.py whose distances are stated, from each round on to the next and to the end; the last labels are those."""
+    for sheet, labels in [*by_hand()][::2]:
+        if columns(Hall(sheet), longer(sheet))[0] != labels:
+            sys.exit('the distances are not as stated: %s' % sheet.hex())
+        yield from in_parts(sheet, [0, 1])
+
+
+def same_times():
+    """A hold of 0 at each node, and a part of the lengths as holds: what is left is what is left without holds."""
+    chance = Chance(115)
+    for at, sheet in enumerate(some_halls()[2::3]):
+        limits = [at % 3, None]
+        made = longer_tables(Hall(sheet), limits)
+        for other in (with_holds(sheet, [0] * Hall(sheet).nodes), as_holds(chance, sheet))[at % 4 > 0:]:
+            yield (other, made[at % 3], MOST_LIMIT), stands(made[None])
+            yield (with_other_spans(other, lambda h: 2), made[at % 3], 1), None
+
+
+def charged_otherwise():
+    """Tables after a round and at the end of runs by wrong charges, where their labels can stand in a table."""
+    for at, kind_of_hall in enumerate(WRONG.values()):
+        for sheet in held_halls()[at % 3::3]:
+            for limit in (1, None):
+                table = longer_tables(kind_of_hall(sheet), [limit])[limit]
+                if max(word - (9 << 28) for word in table[HEADER:table_size(Hall(sheet).nodes):2]) <= NONE:
+                    yield (sheet, table, 1), None
+
+
+def hold_holds():
+    """A wrong charge answers otherwise: to tables of the right one, and to its own."""
+    cases = [case for family in (holds_in_parts, charged_otherwise) for case, _ in family()]
+    cases += [(sheet, longer(sheet, limit), MOST_LIMIT) for sheet in held_halls() for limit in (0, 1)]
+    hold_charged_apart('resume', cases, lambda kind_of_hall, sheet, table, rounds: resume(sheet, table, rounds, kind_of_hall=kind_of_hall))
+
+
 # Larger halls.
 
 def full_size():
@@ -569,9 +709,20 @@ def full_size():
         yield (with_other_spans(sheet, lambda h: 1 + h % 2), longer(sheet, 20), MOST_LIMIT), None
 
 
+def holds_full_size():
+    """The longest sheet, 36,924 bytes, with the longest table; the largest label, of holds, and one more."""
+    longest = held(Chance(116), divided(1024, 1023, each_way(2, 1024), one_deep(2032), lambda h: 2))
+    yield (longest, longer(longest, 5), 3), stands(longer(longest, 8))
+    line = longest_row(1024)
+    table = longer(line)
+    keyed = with_payload(with_payload(table, 0, 0), len(table) - 1, 1)
+    yield (line, keyed, 1), None
+    yield (line, with_payload(keyed, label_at(1023), 268_172_290), 1), 'refused state 33'
+
+
 FAMILIES = [
     marked, parts, breaks, every_span_of_hall_a, other_states, all_keyed, no_arcs, ended_given_back, refusals, wide, forms, lengths,
-    *CLAUSE_FAMILIES, one_off, counts_carry_on, full_size, ties,
+    *CLAUSE_FAMILIES, one_off, counts_carry_on, full_size, ties, holds_by_hand, holds_in_parts, same_times, charged_otherwise, holds_full_size,
 ]
 
 
@@ -646,4 +797,5 @@ def lines():
     found = lines_of(([], [], vectors_since('2026-06', stated_by)), FAMILIES, answered)
     hold_kinds()
     hold_ties()
+    hold_holds()
     return found

@@ -2,17 +2,20 @@
 
 What is expected comes from the route reader of tests/procedure.py. It has to agree with every line of tests/route_vectors.txt and of the
 vectors of every change request, from tests/2026-01_vectors.txt on, by the rules of their time, where tests/before.py says how with the older
-ones, and with each answer that a case states; otherwise the script stops.
+ones, and with each answer that a case states. Tables whose distances are those of a wrong charge of holds are stated to be refused, and each
+wrong charge of tests/holds.py has to be among them often enough. Otherwise the script stops.
 """
 import sys
+from collections import Counter
 
 from before import MORE, table_before, table_since
-from cases import bytes_in, case_of, change_fields, data, lines_of, stated_in, vectors_of, vectors_since, with_words, words_in
+from cases import bytes_in, case_of, change_fields, counted, data, lines_of, stated_in, vectors_of, vectors_since, with_words, words_in
+from holds import HELD_A, LEAST, WRONG, by_hand, held_halls, longest_row
 from paper import TODAY
 from procedure import COUNTS, HEADER, NONE, Hall, distances, longer_tables, route, table_of, table_size, tables
 from sheets import (
-    FAULTS, HALL_A, WIDE, Chance, balanced, chain, changed, divided, each_way, flat, halving, high_halls, ladder, one_deep, packed,
-    random_arcs, random_regions, sheet_of, single_children, turntable, with_faults,
+    FAULTS, HALL_A, KEPT, WIDE, Chance, as_holds, balanced, chain, changed, divided, each_way, flat, halving, held, high_halls, ladder, one_deep, packed,
+    random_arcs, random_regions, sheet_of, single_children, some_held, turntable, with_faults, with_holds,
 )
 
 
@@ -30,7 +33,7 @@ def other_tree(chance, sheet):
     while fresh:
         fresh = [
             arc for arc, (tail, head) in enumerate(zip(hall.tails, hall.heads))
-            if tail in reached and head not in reached and labels[tail] + hall.lengths[arc] == labels[head]
+            if tail in reached and head not in reached and labels[tail] + hall.taken[arc] == labels[head]
         ]
         if fresh:
             arc = fresh[chance.below(len(fresh))]
@@ -104,6 +107,23 @@ def good_tables(halls=(5, 40, 2)):
         for table in (ended(other), other_tree(chance, sheet)):
             nodes = Hall(sheet).nodes
             yield from routes(sheet, table, sorted({chance.below(nodes), nodes - 1}))
+
+
+def good_held_tables():
+    """The same with holds: some of the halls of before, each in two divisions, and those of tests/holds.py."""
+    chance = Chance(91)
+    for _, plain, other in [*small_halls(5, 40, 2)][::4] + [*small_halls(14, 8, 4)][::4]:
+        sheet = held(chance, plain)
+        yield from routes(sheet, ended(sheet), [Hall(sheet).nodes - 1])
+        yield from routes(sheet, ended(with_holds(other, Hall(sheet).holds)), [chance.below(Hall(sheet).nodes)])
+        yield (sheet, ended(plain), 0, 99), None
+    for sheet in held_halls()[::3]:
+        nodes = Hall(sheet).nodes
+        for table in (ended(sheet), other_tree(chance, sheet)):
+            yield from routes(sheet, table, sorted({chance.below(nodes), nodes - 1}))
+    for change in KEPT:
+        sheet = with_faults(change)
+        yield from routes(sheet, ended(sheet), [1, 2, 6])
 
 
 def good_wide_tables():
@@ -181,13 +201,15 @@ def payloads():
 def one_off():
     """One distance one too small or too large, one feeding arc another, with all else right."""
     chance = Chance(6)
-    for _, sheet, _ in list(small_halls(5, 40, 2))[::4] + list(small_halls(14, 8, 4))[::4]:
+    plain = [sheet for _, sheet, _ in list(small_halls(5, 40, 2))[::4] + list(small_halls(14, 8, 4))[::4]]
+    for sheet in plain + [HELD_A, *some_held(plain, 3, 93), *held_halls()[5::20]]:
         hall, table = Hall(sheet), ended(sheet)
         for node in range(hall.nodes):
             label = table[label_at(node)] % 2**28
             for wrong in {label - 1, label + 1} - {-1, NONE + 1}:
                 yield (sheet, with_payload(table, label_at(node), wrong), 0, 9), 'refused state 24'
-            yield (sheet, with_payload(table, feeding_at(node), chance.below(len(hall.tails))), node, 99), None
+            if hall.tails:
+                yield (sheet, with_payload(table, feeding_at(node), chance.below(len(hall.tails))), node, 99), None
 
 
 def unreached():
@@ -425,9 +447,93 @@ def longer_full_size():
     yield (longest, with_payload(table, len(table) - 1, 2), 5, 1023), 'refused state 22'
 
 
+# Holds.
+
+TABLE_HELD = ended(HELD_A)
+
+
+def holds_by_hand():
+    """Hall A with holds: its own table, those of the sheets without holds and with other holds, and labels with other holds charged."""
+    yield (HELD_A, TABLE_HELD, 3, 2), 'route 2: 0000000000000003'
+    yield (HELD_A, TABLE_HELD, 3, 1), 'refused state 25'
+    yield (HELD_A, TABLE_HELD, 1, 1), 'route 1: 00000000'
+    yield from routes(HELD_A, TABLE_HELD)
+    yield from routes(HELD_A, longer(HELD_A), [3])
+    for sheet, table in ((HELD_A, TABLE_A), (A, TABLE_HELD), (with_holds(A, [100, 10, 3, 0]), TABLE_A), (with_holds(A, [0, 0, 0, 1]), TABLE_HELD)):
+        yield (sheet, table, 3, 3), 'refused state 24'
+    # what is held at the source, and at node 3, which is an end alone, is not charged
+    for holds in ([0, 10, 3, 0], [2**28 - 1, 10, 3, 2**28 - 1], [7, 10, 3, 262144]):
+        yield (with_holds(A, holds), TABLE_HELD, 3, 3), 'route 2: 0000000000000003'
+    for labels in (
+        [0, 3, 1, 8], [0, 4, 1, 9], [0, 4, 1, 18], [0, 4, 1, 20], [0, 4, 1, 26], [0, 104, 101, 119], [0, 14, 4, 26], [100, 104, 101, 119], [0, 6, 1, 21],
+    ):
+        yield (HELD_A, table_of(labels, [NONE, 0, 1, 3]), 3, 3), 'refused state 24'
+    # node 1 over node 2 takes 1 + 3 + 2: as long with a hold of 1 at node 2, and the feeding arc may be either
+    for hold, arcs in ((0, [2]), (1, [0, 2]), (2, [0])):
+        sheet = with_holds(A, [100, 10, hold, 7])
+        for arc in (0, 2):
+            route_there = [1, 2, 3] if arc == 2 else [0, 3]
+            first = min(4, 3 + hold)
+            answer = said(('route', route_there)) if arc in arcs else 'refused state 24'
+            yield (sheet, table_of([0, first, 1, first + 15], [NONE, arc, 1, 3]), 3, 3), answer
+
+
+def listed_routes():
+    """The distances of tests/holds.py that are stated, in tables whose feeding arcs are some shortest ones."""
+    chance = Chance(94)
+    for sheet, labels in [*by_hand()][::2]:
+        table = other_tree(chance, sheet)
+        if [word % 2**28 for word in table[HEADER::2]] != labels:
+            sys.exit('the distances are not as stated: %s' % sheet.hex())
+        yield from routes(sheet, table, [Hall(sheet).nodes - 1])
+
+
+def same_times():
+    """No holds, n holds of 0, and a part of the lengths as holds: each sheet takes the others' tables."""
+    chance = Chance(95)
+    for _, sheet, other in list(small_halls(96, 12, 2)) + list(small_halls(97, 4, 4)):
+        zero, shifted = with_holds(sheet, [0] * Hall(sheet).nodes), as_holds(chance, sheet)
+        for one, table in ((zero, ended(other)), (sheet, ended(zero)), (shifted, ended(sheet)), (sheet, ended(shifted))):
+            node = chance.below(Hall(sheet).nodes)
+            yield (one, table, node, 99), said(route(sheet, ended(sheet), node, 99)) if table == ended(sheet) else None
+
+
+def tables_by_wrong_charges():
+    """For each wrong charge and each hall with holds the table that it gives, where its labels are others, and can stand in a table."""
+    for name, kind_of_hall in WRONG.items():
+        for sheet in held_halls():
+            table = tables(kind_of_hall(sheet))[None]
+            labels = [word - (9 << 28) for word in table[HEADER::2]]
+            if max(labels) <= NONE and labels != distances(Hall(sheet)):
+                yield name, sheet, table
+
+
+def charged_otherwise():
+    """Tables whose distances are those of a wrong charge: 24. Of each wrong charge there have to be enough."""
+    found = Counter()
+    for name, sheet, table in tables_by_wrong_charges():
+        found[name] += 1
+        if found[name] <= LEAST + 5:
+            yield (sheet, table, Hall(sheet).source, 0), 'refused state 24'
+    print('tables by a wrong charge: ' + counted(found))
+    if min(found[name] for name in WRONG) < LEAST:
+        sys.exit('too few tables by a wrong charge')
+
+
+def holds_full_size():
+    """The longest sheet, 36,924 bytes, with the longest table; the longest route and the largest label."""
+    longest = held(Chance(98), divided(1024, 1023, each_way(2, 1024), one_deep(2032), lambda h: 1_000_000))
+    yield (longest, longer(longest), 5, 1023), None
+    row = longest_row(1024)
+    table = ended(row)
+    yield (row, table, 1023, 1023), None
+    yield (row, with_payload(table, label_at(1023), 268172288), 0, 0), 'refused state 24'
+
+
 FAMILIES = [
-    marked, good_tables, good_wide_tables, lengths_of_tables, one_inner_count, counts, kinds, payloads, one_off, unreached, rings, parallel,
+    marked, good_tables, good_held_tables, good_wide_tables, lengths_of_tables, one_inner_count, counts, kinds, payloads, one_off, unreached, rings, parallel,
     turntables, pairs, wide_pairs, middling, full_size, full_size_wide, longer_forms, key_words, longer_damaged, longer_full_size,
+    holds_by_hand, listed_routes, same_times, charged_otherwise, holds_full_size,
 ]
 
 

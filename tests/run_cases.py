@@ -4,8 +4,9 @@ What is expected comes from tests/procedure.py. It has to agree with every line 
 and of the vectors of every change request, from tests/2026-01_vectors.txt on, by the rules of their time, where tests/before.py says how
 with the older ones, and with each answer that a case states; every ended table has to hold the distances found a second way, and as much
 work as tests/work.py says, every longer table has to be a possible state of request 2026-06, and on small halls the run without heaps has to
-make the same tables. The halls of tests/ties.py have to tell wrong choices among equal keys from that of request 2026-07, and hall A has to be
-as it was by the choice of before. Otherwise the script stops.
+make the same tables, and an ended table has to hold the least of all routes, measured by the sentence of request 2026-08. The halls of
+tests/ties.py have to tell wrong choices among equal keys from that of request 2026-07, and hall A has to be as it was by the choice of before;
+those of tests/holds.py have to tell wrong charges of holds from the right one. Otherwise the script stops.
 """
 import sys
 from collections import Counter
@@ -14,15 +15,16 @@ from before import MORE, answer_before, listing_before
 from cases import (
     bytes_in, case_of, change_fields, counted, data, lines_of, stated_in, vectors_of, vectors_since, with_words, words_in,
 )
+from holds import HELD_A, by_hand, held_halls, hold_charged_apart, hold_every_route, longest_row
 from paper import BASE, BEFORE_2026_07, TODAY, judge
 from procedure import (
     COUNTS, HEADER, MOST_HEIGHT, NONE, Hall, PlainRun, Run, broken_clauses, columns, counts_of, distances, halves_of, longer_size, longer_tables,
     printed, shortest, table_of, table_refusal, table_size, tables,
 )
 from sheets import (
-    FAULTS, HALL_A, WIDE, Chance, Parts, alternate, balanced, beneath, chain, changed, divided, each_way, flat, halving, high_halls, inner,
-    ladder, leaf, many_chains, nested, one_deep, packed, random_arcs, random_regions, sheet_of, side_by_side, single_children, turntable,
-    uneven as uneven_regions, uneven_halls, with_faults, woken,
+    ANY_HOLD, FAULTS, HALL_A, KEPT, WIDE, Chance, Parts, alternate, as_holds, balanced, beneath, chain, changed, divided, each_way, flat, halving, held,
+    high_halls, inner, ladder, leaf, many_chains, nested, one_deep, packed, random_arcs, random_regions, sheet_of, side_by_side, single_children, some_held,
+    turntable, uneven as uneven_regions, uneven_halls, with_faults, with_holds, woken,
 )
 from ties import SHALLOW_FIRST, hold_decided, hold_told_apart, tie_halls
 from work import Work
@@ -31,6 +33,9 @@ MOST_LIMIT = 2**32 - 1
 
 # The length of the table of a sheet with faults, were it accepted.
 FAULTY = table_size(Parts().nodes)
+
+# The bytes of a long sheet. Of the vectors of `marks` those that are longer are run to their end by the listing's cases, and are left out here.
+LONG = 12_000
 
 
 # A group of cases: a sheet with a list of limits and table lengths, and for each the answer stated, None where the procedure alone says it.
@@ -173,9 +178,10 @@ def wide_halls():
 
 
 def small():
+    """All without holds, then some of them with holds."""
     drawn = [small_halls(2, 72, 10, 2), small_halls(10, 12, 6, 3), small_halls(11, 24, 6, 4)]
-    for halls in (listed_halls(), turntables(), wide_halls(), *drawn):
-        yield from (around_the_end(sheet) for sheet in halls)
+    halls = [sheet for listed in (listed_halls(), turntables(), wide_halls(), *drawn) for sheet in listed]
+    yield from (around_the_end(sheet) for sheet in halls + some_held(halls, 9, 81))
 
 
 # Larger halls: middling ones, such in which the deepest region is woken again and again, and full size.
@@ -191,14 +197,14 @@ def middling_halls(seed, turns, more_nodes, ways):
             side_by_side([1 + chance.below(15) for _ in range(count)]), random_regions(chance, count)[0], balanced(2, list(range(count))),
         ]
         span = [lambda h: 1, lambda h: 1 + chance.below(6), lambda h: 1_000_000][chance.below(3)]
-        sheet = divided(nodes, arcs[0][0], arcs, shapes[turn % 8], span)
-        rounds = rounds_of(sheet)
-        yield sheet, [(limit, right(sheet), None) for limit in (rounds // 2, rounds - 1, rounds + 5)] + [(None, right(sheet), None)]
+        yield divided(nodes, arcs[0][0], arcs, shapes[turn % 8], span)
 
 
 def middling():
-    yield from middling_halls(3, 16, 60, 2)
-    yield from middling_halls(12, 5, 10, 4)
+    halls = [*middling_halls(3, 16, 60, 2), *middling_halls(12, 5, 10, 4)]
+    for sheet in halls + some_held(halls, 6, 82):
+        rounds = rounds_of(sheet)
+        yield sheet, [(limit, right(sheet), None) for limit in (rounds // 2, rounds - 1, rounds + 5)] + [(None, right(sheet), None)]
 
 
 def woken_again():
@@ -370,6 +376,7 @@ def work_done():
     yield patient, [(limit, good, as_marked('ended', [4, 4, 4, 4, 13], *ends)) for limit in (4, None)]
     yield from (around_the_end(sheet) for sheet in (patient, exchanged, *flat_halls()))
     yield from (at_the_end(sheet) for sheet in (*patient_halls(), *small_flat_halls()))
+    yield from (at_the_end(sheet) for sheet in some_held([*patient_halls(), *flat_halls(), *small_flat_halls()], 2, 83))
 
 
 # Longer tables.
@@ -408,7 +415,8 @@ def longer_forms():
     one = packed([0x10000001, 0x20000000, 0x30000001])
     yield one, [(limit, longer(one), as_marked('ended', [0, 0, 0, 0], [0], [NONE])) for limit in (0, None)]
     drawn = [*small_halls(22, 16, 8, 2), *small_halls(23, 8, 6, 4)]
-    for sheet in [*listed_halls()][::8] + [*turntables()][::8] + [*wide_halls()][::6] + drawn + [*uneven_halls()][::5] + [*high_halls()][::5]:
+    halls = [*listed_halls()][::8] + [*turntables()][::8] + [*wide_halls()][::6] + drawn + [*uneven_halls()][::5] + [*high_halls()][::5]
+    for sheet in halls + some_held(halls, 5, 84):
         yield in_the_longer_form(sheet)
     for sheet in drawn[::4]:
         yield about_both_lengths(sheet)
@@ -473,9 +481,89 @@ def hold_ties():
         sys.exit('hall A is not as before')
 
 
+# Holds.
+
+def holds_by_hand():
+    """Hall A with holds 100, 10, 3 and 7, round by round, by hand: arc 2 takes 2 + 3 and lowers nothing, and arc 3 takes 5 + 10."""
+    good, unreached = table_size(4), [NONE] * 3
+    rounds = [
+        as_marked('paused', [0, 0, 0, 0, 6], [0] + unreached, [NONE] * 4, [1, 1, 0, 0]),
+        as_marked('paused', [1, 2, 1, 1, 8], [0, 4, NONE, 19], [NONE, 0, NONE, 3], [0, 1, 0, 0]),
+        as_marked('ended', [2, 4, 2, 2, 10], [0, 4, 1, 19], [NONE, 0, 1, 3], [0, 0, 0, 0]),
+    ]
+    yield HELD_A, [(limit, good + 4, answer) for limit, answer in enumerate(rounds)]
+    yield HELD_A, [(limit, good, as_marked('ended', [2, 4, 2, 2, 10], [0, 4, 1, 19], [NONE, 0, 1, 3])) for limit in (2, 3, MOST_LIMIT, None)]
+    yield HELD_A, [(limit, good + 8, 'refused state 21') for limit in (1, None)]
+    for change in KEPT:
+        yield around_the_end(with_faults(change))
+
+
+def holds():
+    """The halls of tests/holds.py, of which some have their distances stated."""
+    for sheet, labels in by_hand():
+        if distances(Hall(sheet)) != labels:
+            sys.exit('the distances are not as stated: %s' % sheet.hex())
+    yield from (at_the_end(sheet) for sheet in held_halls())
+    yield from (in_the_longer_form(sheet, [0, 1, None]) for sheet in held_halls()[::4])
+
+
+def left_alike(sheet, other):
+    """Cases of a sheet, in which the table left is stated to be that of the other."""
+    limits = sorted({0, 1, rounds_of(other) // 2, max(rounds_of(other) - 1, 0)}) + [None]
+    made = longer_tables(Hall(other), limits)
+    size = longer(sheet) if len(sheet) % 8 else right(sheet)
+    return sheet, [(limit, size, with_words(('paused', 'ended')[made[limit][0] % 2], made[limit][:size])) for limit in limits]
+
+
+def some_halls():
+    return [*listed_halls()][::7] + [*turntables()][::5] + [*wide_halls()][::5] + [*small_halls(85, 30, 8, 3)] + [*uneven_halls()][::6] + [*high_halls()][::6]
+
+
+def zero_holds():
+    """A hold of 0 at each node: every table is that of the sheet without holds. So it is with holds at the source and where no arc leaves alone."""
+    for sheet in some_halls()[::2]:
+        yield left_alike(with_holds(sheet, [0] * Hall(sheet).nodes), sheet)
+    for sheet in some_halls()[1::4]:
+        hall = Hall(sheet)
+        free = [node == hall.source or not hall.outgoing[node] for node in range(hall.nodes)]
+        yield left_alike(with_holds(sheet, [ANY_HOLD * is_free for is_free in free]), sheet)
+
+
+def lengths_as_holds():
+    """Holds that take the place of a part of the lengths: every table is that of the sheet without holds."""
+    chance = Chance(86)
+    for sheet in some_halls():
+        yield left_alike(as_holds(chance, sheet), sheet)
+    for levels, links, lanes in ((3, 1, 1), (5, 6, 3), (8, 20, 1)):
+        nodes, arcs, regions = woken(levels, links, lanes)
+        sheet = divided(nodes, 0, arcs, regions, lambda h: 1_000_000 if lanes == 1 else 2)
+        yield left_alike(as_holds(chance, sheet), sheet)
+
+
+def holds_full_size():
+    """The longest sheet that there is, 36,924 bytes; the largest label, of holds; four arcs each way; and zero holds."""
+    chance = Chance(87)
+    longest = held(chance, divided(1024, 1023, each_way(2, 1024), one_deep(2032), lambda h: 5))
+    if len(longest) != TODAY.most_bytes:
+        sys.exit('the longest sheet has %d bytes' % len(longest))
+    yield longest, [(limit, longer(longest), None) for limit in (30, None)]
+    row = longest_row(1024)
+    if distances(Hall(row))[1023] != 268_172_289:
+        sys.exit('the largest label is another')
+    yield row, [(None, right(row), None)]
+    wide = held(chance, divided(512, 7, random_arcs(chance, 512, 2048, list(range(200000)), 4), halving(), lambda h: 2))
+    yield wide, [(200, right(wide), None), (None, right(wide), None)]
+
+
+def hold_holds():
+    def left(kind_of_hall, sheet, limit, length):
+        return longer_tables(kind_of_hall(sheet), [limit])[limit][:length]
+    hold_charged_apart('run', [(sheet, limit, length) for sheet, cases in holds() for limit, length, _ in cases], left)
+
+
 FAMILIES = [
     marked, lengths_of_tables, refused, wide, small, uneven, high, middling, woken_again, full_size, full_size_wide, work_done, longer_forms,
-    longer_full_size, ties_by_hand, ties,
+    longer_full_size, ties_by_hand, ties, holds_by_hand, holds, zero_holds, lengths_as_holds, holds_full_size,
 ]
 
 
@@ -495,15 +583,16 @@ def stated_by(request, more=0):
 
 
 def marks_vectors():
-    """The sheets of the vectors of `marks`, to their end, where what it prints is what the procedure says."""
+    """The sheets of the vectors of `marks`, to their end, where what it prints is what the procedure says. The long ones are among the listings alone."""
     for line in data('marks_vectors.txt'):
         digits, stated = line.split(' ', 1)
         sheet = bytes_in(digits)
         found = listing_before('|'.join(printed(sheet, BASE)))
         if found != stated:
             sys.exit('marks prints %s: %s' % (found[:200], line[:200]))
-        lengths = ([FAULTY] if judge(sheet, BASE.most_each_way) else []) + ([] if judge(sheet) else [right(sheet)])
-        yield sheet, [(None, length, None) for length in lengths]
+        lengths = ([FAULTY] if judge(sheet, BASE) else []) + ([] if judge(sheet) else [right(sheet)])
+        if len(sheet) <= LONG:
+            yield sheet, [(None, length, None) for length in lengths]
 
 
 # What is expected.
@@ -581,6 +670,9 @@ KINDS = {
     'neither, other leaves': (80, lambda work: neither(work) and work.leaves != work.reached),
     'neither, 5 leaves for 4 arcs as in hall A': (1, lambda work: neither(work) and (work.leaves, work.reached) == (5, 4)),
     'neither, the same leaves, other rounds': (200, lambda work: neither(work) and work.rounds != work.leaves == work.reached),
+    'with holds, all spans 1': (15, lambda work: all_spans_1(work) and work.held),
+    'with holds, flat': (40, lambda work: work.ended and work.all_on_region_0 and work.held),
+    'with holds, neither': (80, lambda work: neither(work) and work.held),
     'paused, all spans 1, not so': (500, lambda work: not work.ended and work.all_spans_1 and not work.both_equal()),
     'paused, flat, not so': (450, lambda work: not work.ended and work.all_on_region_0 and not work.divided_by_the_span()),
 }
@@ -608,9 +700,19 @@ def hold_work(lines):
         sys.exit('too few tables: %s' % few)
 
 
+def ended_labels(lines):
+    """The sheets and labels of the ended tables of small halls."""
+    for sheet, table in tables_in(lines):
+        hall = Hall(sheet)
+        if table[0] % 2 and len(hall.tails) < 40:
+            yield sheet, columns(hall, table)[0]
+
+
 def lines():
     vectors = [limited_vectors, marks_vectors], [vectors_of('2026-01', stated_by, MORE)], vectors_since('2026-02', stated_by)
     found = lines_of(vectors, FAMILIES, answered, before=answer_before)
     hold_work(found)
     hold_ties()
+    hold_every_route(ended_labels(found), 200)
+    hold_holds()
     return found

@@ -2,7 +2,8 @@
 
 The sheets that are said to have one neat copy have it, by tests/canonical.py. The practical, rounds with one set of spans and then with
 another, is as samples/practical.txt has it. What the sample of request 2026-07 prints, and what it printed before, is as its comment says; all
-others print what they printed. It also tries `./mark` on files that hold something else than words. Run it by
+others print the same by the tie rule of before. Of what the sample of request 2026-08 prints, with its holds and without, its comment has some
+lines. It also tries `./mark` on files that hold something else than words. Run it by
 `python3 tests/samples.py`; with `--write` it writes the .txt files from tests/procedure.py, which shares nothing with the Rattle code.
 """
 import re
@@ -13,8 +14,9 @@ from itertools import groupby
 from pathlib import Path
 
 from canonical import form
-from paper import BEFORE_2026_07, TODAY, Lists
+from paper import TODAY, Lists
 from procedure import NONE, Hall, columns, counts_of, longer_tables, printed, resume
+from sheets import with_holds
 
 ROOT = Path(__file__).resolve().parent.parent
 
@@ -26,8 +28,13 @@ ONE_COPY = ('hall-a', 'renumbered', 'neat')
 PRACTICAL = ('practical-first', 'practical-then')
 ROUNDS = 3
 
-# The sample that prints otherwise than before request 2026-07, and has both texts in its comment. All others, hall A among them, print what they printed.
+# The sample that prints otherwise than by the tie rule of before request 2026-07, and has both texts in its comment. All others, hall A among them, print the
+# same by both.
 OTHERWISE = 'shallow-first'
+TIES_OF_BEFORE = TODAY._replace(ties_by_height=False)
+
+# The sample with holds that has in its comment some lines of what it prints, and of what it would print without them.
+SCANNERS = 'scanners'
 
 
 def sheet_of(text):
@@ -46,8 +53,17 @@ def texts_in(name):
 
 def prints_otherwise(name):
     """Whether the comment of a sample has what it prints and what it printed before request 2026-07, which is something else."""
-    texts = [printed(sample(name), rules) for rules in (TODAY, BEFORE_2026_07)]
+    texts = [printed(sample(name), rules) for rules in (TODAY, TIES_OF_BEFORE)]
     return texts_in(name) == texts and texts[0] != texts[1]
+
+
+def differs_by_holds(name):
+    """Whether the comment of a sample has lines of what it prints and of what is printed without its holds, of the same nodes, some with another arc."""
+    with_them, without = texts_in(name)
+    sheets = sample(name), with_holds(sample(name), [])
+    nodes, arcs = ([[line.split()[at] for line in text] for text in (with_them, without)] for at in (0, 2))
+    there = all(set(text) <= set(printed(sheet)) for text, sheet in zip((with_them, without), sheets))
+    return there and nodes[0] == nodes[1] and arcs[0] != arcs[1]
 
 
 def have_one_copy():
@@ -111,12 +127,14 @@ def main():
             wrong.append(f'{beside.name} is not what the procedure gives')
         if mark(path) != (0, expected, ''):
             wrong.append(f'./mark {path.name} prints something else')
-        if path.stem != OTHERWISE and printed(sample(path.stem)) != printed(sample(path.stem), BEFORE_2026_07):
-            wrong.append(f'{path.name} prints otherwise than before request 2026-07')
+        if path.stem != OTHERWISE and printed(sample(path.stem)) != printed(sample(path.stem), TIES_OF_BEFORE):
+            wrong.append(f'{path.name} prints otherwise by the tie rule of before')
     refused = [('10000001\n\n2000000g\n', 3), ('1000000120000000\n', 1), ('# a comment\n10000001 2000 # another\n', 2), ('10000001\n-\n', 2)]
     wrong += [f'{text!r} is not refused' for text, line in refused if not refuses(text, line)]
     if not prints_otherwise(OTHERWISE):
         wrong.append(f'{OTHERWISE}.hex: the comment has not what is printed and what was')
+    if not differs_by_holds(SCANNERS):
+        wrong.append(f'{SCANNERS}.hex: the comment has not what is printed, with its holds and without')
     if not have_one_copy():
         wrong.append('%s: not one neat copy' % ', '.join(ONE_COPY))
     beside = ROOT / 'samples' / 'practical.txt'

@@ -1,4 +1,4 @@
-"""Sheets for the cases: their words, divisions of several shapes, sheets with faults, and random sheets."""
+"""Sheets for the cases: their words, divisions of several shapes, sheets with faults, random sheets, and sheets with holds."""
 from random import Random
 
 from paper import Lists, hall_height
@@ -20,13 +20,14 @@ def arc(tail, head, length=1):
     return [4 << 28 | tail << 10 | head, 5 << 28 | length]
 
 
-def words_of(nodes, source, spans, arcs, regions):
+def words_of(nodes, source, spans, arcs, regions, holds=()):
     """The words of a sheet. Arcs are (tail, head) or (tail, head, length); regions are words."""
-    return [1 << 28 | nodes, 2 << 28 | source] + [3 << 28 | span for span in spans] + [word for a in arcs for word in arc(*a)] + regions
+    front = [1 << 28 | nodes, 2 << 28 | source] + [3 << 28 | span for span in spans] + [13 << 28 | hold for hold in holds]
+    return front + [word for a in arcs for word in arc(*a)] + regions
 
 
-def sheet_of(nodes=4, source=0, spans=(1,), arcs=(), regions=()):
-    return packed(words_of(nodes, source, spans, arcs, list(regions)))
+def sheet_of(nodes=4, source=0, spans=(1,), arcs=(), regions=(), holds=()):
+    return packed(words_of(nodes, source, spans, arcs, list(regions), holds))
 
 
 def flat(arcs):
@@ -71,7 +72,8 @@ HALL_A = [int(word, 16) for word in (
     '60000000 60000000 70000800 70000803 70001001 70001002').split()]
 
 
-# Sheets with faults. Each change of FAULTS, two for a refusal, makes one fault in a sheet of 8 nodes and height 3.
+# Sheets with faults. Each change of FAULTS, two for a refusal and more for 2, makes one fault in a sheet of 8 nodes and height 3. The refusals are in the order
+# in which they are looked at.
 
 class Parts:
     def __init__(self):
@@ -79,9 +81,12 @@ class Parts:
         self.arcs = [[v << 10 | v + 1, 10 + v] for v in range(6)]
         self.regions = [inner(0), inner(1), leaf(2, 0), leaf(2, 1), leaf(1, 2), leaf(1, 3), leaf(0, 4), leaf(0, 5)]
         self.front, self.end, self.bytes_after = [], [], b''
+        self.holds, self.more_holds = {}, 0
 
     def sheet(self):
         words = self.front + [1 << 28 | self.nodes, 2 << 28 | self.source] + [3 << 28 | span for span in self.spans]
+        if self.holds:
+            words += [13 << 28 | self.holds.get(node, 0) for node in range(self.nodes + self.more_holds)]
         for ends, length in self.arcs:
             words += [4 << 28 | ends, 5 << 28 | length]
         return packed(words + self.regions + self.end) + self.bytes_after
@@ -91,6 +96,11 @@ class Parts:
 
     def span(self, at, span):
         self.spans[at] = span
+
+    def hold(self, node, hold, more=0):
+        """A hold at a node, 0 at all others, and so many hold words more than nodes."""
+        self.holds[node] = hold
+        self.more_holds += more
 
     def tails(self, arcs, node):
         for a in arcs:
@@ -122,7 +132,7 @@ class Parts:
 
 FAULTS = {
     1: [lambda p: p.set('bytes_after', b'\0'), lambda p: p.set('bytes_after', b'\x10\x00\x00')],
-    2: [lambda p: p.end.append(0), lambda p: p.front.append(8 << 28)],
+    2: [lambda p: p.end.append(0), lambda p: p.front.append(8 << 28), lambda p: p.hold(3, 7, 1), lambda p: p.hold(7, 262143, -1)],
     3: [lambda p: p.ends_bit(0, 20), lambda p: p.leaf_bit(8, 27)],
     4: [lambda p: p.set('nodes', 1025), lambda p: p.set('nodes', 0)],
     5: [lambda p: p.set('source', p.nodes), lambda p: p.set('source', 2**28 - 1)],
@@ -130,6 +140,7 @@ FAULTS = {
     7: [lambda p: p.spans.extend([1] * 13), lambda p: p.spans.extend([1] * 40)],
     8: [lambda p: p.heads([0], 8), lambda p: p.tails([5], 1023)],
     9: [lambda p: p.length(0, 262144), lambda p: p.length(5, 2**28 - 1)],
+    34: [lambda p: p.hold(0, 262134), lambda p: p.hold(2, 2**28 - 1)],
     10: [lambda p: p.tails([0, 1, 2, 3, 4], 2), lambda p: p.heads([1, 2, 3, 4, 5], 4)],
     11: [lambda p: p.region(2, inner(2)), lambda p: p.leaf_parent(8, 3)],
     12: [lambda p: p.leaf_arc(3, 6), lambda p: p.leaf_arc(7, 3)],
@@ -141,6 +152,16 @@ FAULTS = {
 WIDE = [
     lambda p: p.tails([1, 2, 3], 2), lambda p: p.heads([2, 3, 4], 4), lambda p: p.tails([2, 3, 4, 5], 3), lambda p: p.heads([0, 1, 2, 3], 2),
 ]
+
+
+# Holds that are no fault: any payload at the source, node 1, and at nodes that no arc leaves, 6 and 7, and at node 5 what arc 5 leaves of 262,143.
+KEPT = [lambda p: p.hold(1, 2**28 - 1), lambda p: (p.hold(6, 2**28 - 1), p.hold(7, 262144)), lambda p: p.hold(5, 262128)]
+
+
+def later(number):
+    """The refusals that are looked at after one."""
+    numbers = list(FAULTS)
+    return numbers[numbers.index(number) + 1:]
 
 
 def with_faults(*changes):
@@ -238,10 +259,10 @@ def damaged(chance, words, way):
 
 # Halls and divisions for runs. A division is a list of region words; `divided` gives it as many spans as region 0 is high.
 
-def divided(nodes, source, arcs, regions, span):
+def divided(nodes, source, arcs, regions, span, holds=()):
     """The sheet of a hall with a division; span gives the span for a height."""
     height = hall_height(Lists(sheet_of(nodes, source, [], arcs, regions)))
-    return sheet_of(nodes, source, [span(h) for h in range(1, height + 1)], arcs, regions)
+    return sheet_of(nodes, source, [span(h) for h in range(1, height + 1)], arcs, regions, holds)
 
 
 def ladder(height, arcs):
@@ -366,3 +387,60 @@ def high_halls():
     for span in (lambda h: 1_000_000, lambda h: 16 - h):
         nodes, ends, regions = woken(14, 3)
         yield divided(nodes, 0, ends, regions, span)
+
+
+# Sheets with holds.
+
+ANY_HOLD = 2**28 - 1
+
+
+def words_in(sheet):
+    return [int.from_bytes(sheet[at:at + 4], 'big') for at in range(0, len(sheet), 4)]
+
+
+def with_holds(sheet, holds):
+    """A sheet with these hold words after its spans, and no others."""
+    words = [word for word in words_in(sheet) if word >> 28 != 13]
+    at = 2 + len(Lists(sheet).spans)
+    return packed(words[:at] + [13 << 28 | hold for hold in holds] + words[at:])
+
+
+def left_for_holds(sheet):
+    """By node the most that may be held there: what its longest arc leaves of 262,143; any payload at the source and at a node that no arc leaves."""
+    lists = Lists(sheet)
+    most = [ANY_HOLD] * lists.nodes
+    for tail, length in zip(lists.tails, lists.lengths):
+        if tail != lists.sources[0]:
+            most[tail] = min(most[tail], 262143 - length)
+    return most
+
+
+def held(chance, sheet):
+    """An accepted sheet with holds by chance, with which it stays accepted: at some nodes none, small ones, any, and the most that may be."""
+    def hold(most):
+        return (0, min(most, 1 + chance.below(3)), min(most, chance.below(1000)), chance.below(most + 1), most)[chance.below(5)]
+    return with_holds(sheet, [hold(most) for most in left_for_holds(sheet)])
+
+
+def some_held(sheets, every, seed):
+    """Of every so many sheets one, with holds by chance."""
+    chance = Chance(seed)
+    return [held(chance, sheet) for sheet in [*sheets][::every]]
+
+
+def as_holds(chance, sheet):
+    """The sheet of the same times: each node but the source holds a part of the length of every arc that leaves it, and the arcs are so much shorter.
+
+    The source, and nodes that no arc leaves, hold anything. The procedure takes the lengths that it took, so that every run leaves the table that it left.
+    """
+    lists = Lists(sheet)
+    held_at = [ANY_HOLD] * lists.nodes
+    for tail, length in zip(lists.tails, lists.lengths):
+        held_at[tail] = ANY_HOLD if tail == lists.sources[0] else min(held_at[tail], length)
+    held_at = [chance.below(4) and (chance.below(hold + 1) if chance.below(2) else hold) for hold in held_at]
+    tails, words = iter(lists.tails), words_in(sheet)
+    for at, word in enumerate(words):
+        if word >> 28 == 5:
+            tail = next(tails)
+            words[at] -= 0 if tail == lists.sources[0] else held_at[tail]
+    return with_holds(packed(words), held_at)

@@ -10,7 +10,7 @@ from itertools import permutations
 from cases import counted, height_may_decide
 from paper import BEFORE_2026_07
 from procedure import NONE, Hall, PlainRun, longer_tables
-from sheets import Chance, beneath, divided, nested, numbered, random_arcs, random_regions
+from sheets import Chance, as_holds, beneath, divided, nested, numbered, random_arcs, random_regions
 
 # In how many cases each wrong choice has to give another table than the right one.
 LEAST = 20
@@ -63,6 +63,12 @@ def drawn_halls(seed, turns):
 
 
 def tie_halls():
+    """Some of the halls have a part of their lengths as holds too, by which the same keys are equal."""
+    chance, plain = Chance(88), [*plain_tie_halls()]
+    return plain + [as_holds(chance, sheet) for sheet in plain[::5]]
+
+
+def plain_tie_halls():
     """The choice is made under region 0 and under regions that lie deeper; with spans of 1, 2 and 3."""
     for at, regions in enumerate((LINE_FIRST, nested([3, [0, 1, 2], 4]), nested([3, 4, [0, 1, 2]]), nested([[[0, 1], 2], 3, [4]]), beneath(2, LINE_FIRST))):
         for span in (lambda h: 3 if h == 1 else 1, lambda h: 1, lambda h: 2)[:3 if at == 0 else 2]:

@@ -20,6 +20,7 @@ class Work:
         self.ended = table[0] % 2**28 == 1
         self.rounds, self.leaves = counts_of(table)[:2]
         self.spans = lists.spans
+        self.held = any(lists.holds)
         self.arcs = len(lists.tails)
         self.reached = sum(labels[tail] != NONE for tail in lists.tails)
         self.all_spans_1 = all(span == 1 for span in lists.spans)

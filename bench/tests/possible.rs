@@ -1,4 +1,4 @@
-//! Request 2026-06: each clause of a possible state is told alone, on both sides of its boundary.
+//! Request 2026-06: each clause of a possible state is told alone, on both sides of its boundary; and request 2026-08: with holds in the lengths.
 
 use bench::generate::sheets::bytes;
 use bench::reference::judge::accepted;
@@ -54,12 +54,17 @@ fn high(at: usize, half: u32) -> (usize, u32) {
 
 /// The clauses that the ended table of the row breaks once it is changed. A resume of it is refused with 33 exactly if it breaks any.
 fn broken_by(changes: Changes) -> Vec<Clause> {
-    let sheet = accepted(&bytes(&ROW)).ok().expect("an accepted sheet").sheet;
-    let mut words = vec![0; table::longer(&sheet)];
-    assert_eq!(reference::run(&bytes(&ROW), &mut words), Answer::Ended);
-    changes.iter().for_each(|(at, word)| words[*at] = *word);
-    let found: Vec<Clause> = broken(&sheet, &words).collect();
-    assert_eq!(reference::resume(&bytes(&ROW), 1, &mut words) == Answer::Refused(33), !found.is_empty());
+    broken_of(&ROW, changes)
+}
+
+fn broken_of(words: &[u32], changes: Changes) -> Vec<Clause> {
+    let bytes = bytes(words);
+    let sheet = accepted(&bytes).ok().expect("an accepted sheet").sheet;
+    let mut table = vec![0; table::longer(&sheet)];
+    assert_eq!(reference::run(&bytes, &mut table), Answer::Ended);
+    changes.iter().for_each(|(at, word)| table[*at] = *word);
+    let found: Vec<Clause> = broken(&sheet, &table).collect();
+    assert_eq!(reference::resume(&bytes, 1, &mut table) == Answer::Refused(33), !found.is_empty());
     found
 }
 
@@ -109,4 +114,20 @@ fn several_clauses() {
     let unreached = [label(1, TOP), feed(1, TOP), key(0), PAUSED];
     assert_eq!(broken_by(&unreached), [Clause::Chains, Clause::NotBelow]);
     assert_eq!(broken_by(&[label(0, 7), PAUSED]), [Clause::Source, Clause::NotBelow, Clause::Status]);
+}
+
+/// The row with holds of 50 at node 0, 10 at node 1 and 20 at nodes 2, 3 and 4: labels 0, 4, 17 and 37. What was right without holds is below or not settled.
+#[test]
+fn holds_are_in_the_lengths() {
+    let held = [&ROW[..3], &[50, 10, 20, 20, 20].map(|hold| 13 << 28 | hold), &ROW[3..]].concat();
+    let cases: [(&[Clause], Changes); 7] = [
+        (&[], &[]),
+        (&[], &[label(1, 4), label(2, 17), label(3, 37)]),
+        (&[Clause::NotBelow], &[label(1, 3), key(1), PAUSED]),
+        (&[Clause::NotBelow], &[label(2, 16), key(2), PAUSED]),
+        (&[Clause::NotBelow], &[label(2, 7), label(3, 27)]),
+        (&[Clause::Relaxed], &[label(3, 38)]),
+        (&[Clause::Relaxed], &[label(1, 54), label(2, 67), label(3, 87)]),
+    ];
+    cases.iter().for_each(|(clauses, changes)| assert_eq!(broken_of(&held, changes), *clauses, "{changes:08x?}"));
 }

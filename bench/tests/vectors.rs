@@ -3,13 +3,13 @@
 use bench::generate::halls::{self, WIDE};
 use bench::generate::tables::{before, since, MORE};
 use bench::generate::{random::Random, sheets};
-use bench::reference::judge::{accepted, accepted_within, Accepted, Judged};
+use bench::reference::judge::{accepted_by, Accepted, Judged, Rules, TODAY};
 use bench::reference::procedure::Ties;
 use bench::reference::table::{self, HEADER, HEIGHTS};
 use bench::reference::{self, listing, Answer, TOP};
 
 /// The change requests that have vectors.
-const REQUESTS: [&str; 7] = ["2026-01", "2026-02", "2026-03", "2026-04", "2026-05", "2026-06", "2026-07"];
+const REQUESTS: [&str; 8] = ["2026-01", "2026-02", "2026-03", "2026-04", "2026-05", "2026-06", "2026-07", "2026-08"];
 
 fn lines(name: &str) -> Vec<Vec<String>> {
     let path = format!("{}/../tests/{name}_vectors.txt", env!("CARGO_MANIFEST_DIR"));
@@ -38,19 +38,26 @@ fn answer(text: &str) -> Answer {
     }
 }
 
-type Judge = fn(&[u8]) -> Judged;
-
-/// By which judge a case holds, and the form of its tables: with one inner count, or level by level; whether there was a longer form; and how equal keys were
-/// chosen.
+/// By which rules of the judge a case holds, and the form of its tables: with one inner count, or level by level; whether there was a longer form; and how
+/// equal keys were chosen.
 #[derive(Clone, Copy)]
 struct Era {
-    judge: Judge,
+    rules: Rules,
     one_inner: bool,
     longer_form: bool,
     ties: Ties,
 }
 
 impl Era {
+    fn judged(self, sheet: &[u8]) -> Judged {
+        accepted_by(self.rules, sheet)
+    }
+
+    /// The same by a judge that knows holds.
+    fn with_holds(self) -> Era {
+        Era { rules: Rules { holds: true, ..self.rules }, ..self }
+    }
+
     /// A table to be lent in today's form. One that is as long as it should be, or not, stays so.
     fn lent(self, words: Vec<u32>) -> Vec<u32> {
         if self.one_inner {
@@ -72,7 +79,7 @@ impl Era {
     /// A table of so many words of today was refused as 21, since there was no longer form.
     fn had_no_such_length(self, sheet: &[u8], words: usize) -> bool {
         let is_longer = |accepted: Accepted| words != table::length(accepted.sheet.nodes()) && words == table::longer(&accepted.sheet);
-        !self.longer_form && (self.judge)(sheet).is_ok_and(is_longer)
+        !self.longer_form && self.judged(sheet).is_ok_and(is_longer)
     }
 
     /// What a run has left, in the form of the case.
@@ -85,31 +92,36 @@ impl Era {
     }
 }
 
-/// The judge from before request 2026-01.
-fn two_each_way(bytes: &[u8]) -> Judged {
-    accepted_within(2, bytes)
-}
-
-/// Cases made before request 2026-01 hold by the judge of that time, and by today's unless they were refused as 10.
+/// Cases made before request 2026-01 hold by the judge of that time, and with four arcs each way unless they were refused as 10.
 fn each_before_2026_01(name: &str, holds: impl Fn(Era, &[String])) {
-    let era = Era { judge: two_each_way, one_inner: true, longer_form: false, ties: Ties::ByNumber };
+    let then = Era { rules: Rules { each_way: 2, holds: false }, one_inner: true, longer_form: false, ties: Ties::ByNumber };
+    let four = Era { rules: Rules { holds: false, ..TODAY }, ..then };
     for case in lines(name) {
-        holds(era, &case);
-        if !matches!(two_each_way(&bytes(&case[0])), Err(10)) {
-            holds(Era { judge: accepted, ..era }, &case);
+        holds(then, &case);
+        if !matches!(then.judged(&bytes(&case[0])), Err(10)) {
+            each_holds(four, &case, &holds);
         }
     }
 }
 
-/// The cases of a call among those of a request hold by today's judge. Since request 2026-02 their tables are level by level, since 2026-06 in two forms, and
-/// since 2026-07 equal keys are chosen by height.
+/// Cases made before request 2026-08 hold by the judge of that time, and by today's unless they were refused as 1 or 2.
+fn each_holds(era: Era, case: &[String], holds: impl Fn(Era, &[String])) {
+    holds(era, case);
+    if !era.rules.holds && !matches!(era.judged(&bytes(&case[0])), Err(1 | 2)) {
+        holds(era.with_holds(), case);
+    }
+}
+
+/// The cases of a call among those of a request. Since request 2026-02 their tables are level by level, since 2026-06 in two forms, since 2026-07 equal keys
+/// are chosen by height, and since 2026-08 there are holds.
 fn each_of_a_request(request: &str, call: &str, holds: impl Fn(Era, &[String])) {
     let ties = if request < "2026-07" { Ties::ByNumber } else { Ties::ByHeight };
-    let era = Era { judge: accepted, one_inner: request < "2026-02", longer_form: request >= "2026-06", ties };
+    let rules = Rules { holds: request >= "2026-08", ..TODAY };
+    let era = Era { rules, one_inner: request < "2026-02", longer_form: request >= "2026-06", ties };
     let lines = lines(request);
     let cases: Vec<_> = lines.iter().filter(|case| case[0] == call).collect();
     assert!(!cases.is_empty());
-    cases.iter().for_each(|case| holds(era, &case[1..]));
+    cases.iter().for_each(|case| each_holds(era, &case[1..], &holds));
 }
 
 fn each_of_the_requests(call: &str, holds: impl Fn(Era, &[String])) {
@@ -126,7 +138,7 @@ fn judge_holds(era: Era, case: &[String]) {
         0 => Answer::Accepted,
         number => Answer::Refused(number),
     };
-    assert_eq!(reference::judge_of((era.judge)(&bytes(&case[0]))), expected, "{}", case[0]);
+    assert_eq!(reference::judge_of(era.judged(&bytes(&case[0]))), expected, "{}", case[0]);
 }
 
 #[test]
@@ -149,7 +161,7 @@ fn inner_of(table: &[u32], spans: usize, one_inner: bool) -> Vec<u64> {
 
 /// What `marks` prints, its lines joined by '|'.
 fn printed(era: Era, sheet: &[u8]) -> String {
-    let judged = (era.judge)(sheet);
+    let judged = era.judged(sheet);
     let (mut table, spans) = match &judged {
         Ok(accepted) => (vec![0; table::length(accepted.sheet.nodes())], accepted.sheet.spans().len()),
         Err(number) => return format!("refused {number}"),
@@ -175,7 +187,7 @@ fn limited_run_holds(era: Era, case: &[String]) {
         return assert_eq!(case[3], "state:21");
     }
     let mut table = lent.clone();
-    let answered = reference::run_of((era.judge)(&bytes(&case[0])), era.ties, Some(case[1].parse().unwrap()), &mut table);
+    let answered = reference::run_of(era.judged(&bytes(&case[0])), era.ties, Some(case[1].parse().unwrap()), &mut table);
     assert_eq!(answered, answer(&case[3]), "{}", case[0]);
     match case[4].as_str() {
         "-" => assert_eq!(table, lent, "{}", case[0]),
@@ -196,7 +208,7 @@ fn route_holds(era: Era, case: &[String], arcs: &[u32]) {
     if era.had_no_such_length(&bytes(&case[0]), table.len()) {
         return assert_eq!(case[4], "state:21");
     }
-    let answered = reference::route_of((era.judge)(&bytes(&case[0])), &table, case[2].parse().unwrap(), &mut buffer);
+    let answered = reference::route_of(era.judged(&bytes(&case[0])), &table, case[2].parse().unwrap(), &mut buffer);
     assert_eq!(answered, answer(&case[4]), "{}", case[0]);
     assert_eq!(buffer[..arcs.len()], *arcs, "{}", case[0]);
     assert_eq!(buffer[arcs.len()..], before[arcs.len()..], "{}", case[0]);
@@ -213,11 +225,11 @@ fn route_agrees() {
 /// Both programs: by the request's sentence, and linear.
 #[test]
 fn canonical_agrees() {
-    let holds = |_: Era, case: &[String]| {
-        for call in [reference::canonical, reference::canonical_linear] {
+    let holds = |era: Era, case: &[String]| {
+        for call in [reference::canonical_of, reference::canonical_linear_of] {
             let before = vec![0xa5; case[1].parse().unwrap()];
             let mut out = before.clone();
-            assert_eq!(call(&bytes(&case[0]), &mut out), answer(&case[2]), "{}", case[0]);
+            assert_eq!(call(era.judged(&bytes(&case[0])), &mut out), answer(&case[2]), "{}", case[0]);
             let expected = bytes(&case[3]);
             assert_eq!(out[..expected.len()], expected, "{}", case[0]);
             assert_eq!(out[expected.len()..], before[expected.len()..], "{}", case[0]);
@@ -231,7 +243,7 @@ fn resume_agrees() {
     let holds = |era: Era, case: &[String]| {
         let lent = words(&case[1]);
         let mut table = lent.clone();
-        let answered = reference::resume_of((era.judge)(&bytes(&case[0])), era.ties, case[2].parse().unwrap(), &mut table);
+        let answered = reference::resume_of(era.judged(&bytes(&case[0])), era.ties, case[2].parse().unwrap(), &mut table);
         assert_eq!(answered, answer(&case[3]), "{}", case[0]);
         assert_eq!(table, if case[4] == "-" { lent } else { words(&case[4]) }, "{}", case[0]);
     };

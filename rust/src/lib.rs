@@ -2,9 +2,14 @@
 //!
 //! None of them has a precondition: each answers for every sheet, table and buffer, and ends. A refusal leaves all that was lent as it was. What they
 //! promise is stated in `crates/pigrozk/src/lib.rt`; `include/pigrozk.h` has the same calls for C.
+//!
+//! A sheet may have holds: after the spans a word of kind 13 for each node, the hundredths of a second that a parcel is stopped there. A route is as long as
+//! its arcs and the holds of the nodes between its ends together; the source's own hold is never charged. Distances, routes and possible states are meant so.
 
-/// The limits of a sheet that is accepted. A node may have `MOST_ARCS_EACH_WAY` arcs out of it, and as many into it.
-pub const MOST_BYTES: usize = 32_828;
+/// The limits of a sheet that is accepted. A node may have `MOST_ARCS_EACH_WAY` arcs out of it, and as many into it. There are as many holds as nodes, or none.
+/// `MOST_LENGTH` limits the length of an arc, and its length with its tail's hold added, 0 for the source; so the source, and a node without outgoing arcs, may
+/// have any hold.
+pub const MOST_BYTES: usize = 36_924;
 pub const MOST_NODES: usize = 1_024;
 pub const MOST_SPANS: usize = 15;
 pub const MOST_SPAN: u32 = 1_000_000;
@@ -127,37 +132,38 @@ mod library {
 
 // SAFETY, of all six: a call reads and writes within the pairs of pointer and length alone, and these are those of slices.
 
-/// Judges a sheet: `Accepted`, or `Refused` with 1 to 14.
+/// Judges a sheet: `Accepted`, or `Refused` with 1 to 14 or 34, which is looked at after 9.
 pub fn judge(sheet: &[u8]) -> Answer {
     Answer::of(unsafe { library::pigrozk_judge(sheet.as_ptr(), sheet.len()) })
 }
 
-/// Runs a sheet to its end and fills the table, usual or longer: `Ended`, or `Refused` with 1 to 14, or with 21 where it has the length of neither.
+/// Runs a sheet to its end and fills the table, usual or longer: `Ended`, or `Refused` as by `judge`, or with 21 where it has the length of neither.
 pub fn run(sheet: &[u8], table: &mut [u32]) -> Answer {
     Answer::of(unsafe { library::pigrozk_run(sheet.as_ptr(), sheet.len(), table.as_mut_ptr(), table.len()) })
 }
 
-/// The same for at most so many rounds: `Ended`, `Paused`, or `Refused` with 1 to 14 or 21.
+/// The same for at most so many rounds: `Ended`, `Paused`, or `Refused` as by `judge` or with 21.
 pub fn run_limited(sheet: &[u8], rounds: u32, table: &mut [u32]) -> Answer {
     Answer::of(unsafe { library::pigrozk_run_limited(sheet.as_ptr(), sheet.len(), rounds, table.as_mut_ptr(), table.len()) })
 }
 
 /// Goes on from a longer table for at most so many rounds more, by the spans of the sheet, and writes the new state over the old: `Ended`, `Paused`, or
-/// `Refused` with 1 to 14, with 32 where the table has not the longer length or a word is wrong, or with 33 where it is not a possible state. The sheet has the
-/// nodes, source, arcs and division of the one that the table is from; its spans may be others.
+/// `Refused` as by `judge`, with 32 where the table has not the longer length or a word is wrong, or with 33 where it is not a possible state. The sheet has
+/// the nodes, source, holds, arcs and division of the one that the table is from; its spans may be others.
 pub fn resume(sheet: &[u8], rounds: u32, table: &mut [u32]) -> Answer {
     Answer::of(unsafe { library::pigrozk_resume(sheet.as_ptr(), sheet.len(), rounds, table.as_mut_ptr(), table.len()) })
 }
 
-/// Reads the route to a node out of a finished table, usual or longer, into the front of the buffer: `Route`, `NoRoute`, or `Refused` with 1 to 15 or 21 to 25.
+/// Reads the route to a node out of a finished table, usual or longer, into the front of the buffer: `Route`, `NoRoute`, or `Refused` as by `judge`, with 15 or
+/// with 21 to 25.
 pub fn route(sheet: &[u8], table: &[u32], node: u32, buffer: &mut [u32]) -> Answer {
     Answer::of(unsafe {
         library::pigrozk_route(sheet.as_ptr(), sheet.len(), table.as_ptr(), table.len(), node, buffer.as_mut_ptr(), buffer.len())
     })
 }
 
-/// Writes a sheet anew, its regions numbered parent first and depth first, children in order of the lowest arc that they hold, into the front of `out`:
-/// `Written` with the sheet's own length in bytes, or `Refused` with 1 to 14, or with 31 where `out` is shorter.
+/// Writes a sheet anew, its regions numbered parent first and depth first, children in order of the lowest arc that they hold, and all else as given, into the
+/// front of `out`: `Written` with the sheet's own length in bytes, or `Refused` as by `judge`, or with 31 where `out` is shorter.
 pub fn canonical(sheet: &[u8], out: &mut [u8]) -> Answer {
     Answer::of(unsafe { library::pigrozk_canonical(sheet.as_ptr(), sheet.len(), out.as_mut_ptr(), out.len()) })
 }

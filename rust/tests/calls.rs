@@ -1,6 +1,6 @@
 //! The six calls through the wrapper: the paper's cases on hall A, lengths at the edge, and the samples, whose listings come from another program.
 use pigrozk::{canonical, judge, longer_table_words, resume, route, run, run_limited, table_words, Answer, Counts, Fault};
-use pigrozk::{COUNTS, HEADER_WORDS, MOST_ARCS_EACH_WAY, MOST_LONGER_TABLE_WORDS, MOST_SPANS, MOST_TABLE_WORDS, NONE};
+use pigrozk::{COUNTS, HEADER_WORDS, MOST_ARCS_EACH_WAY, MOST_BYTES, MOST_LONGER_TABLE_WORDS, MOST_SPANS, MOST_TABLE_WORDS, NONE};
 use std::fmt::Write;
 use std::path::{Path, PathBuf};
 
@@ -320,9 +320,92 @@ fn canonical_forms_of_the_samples() {
     assert!(tried >= 8);
 }
 
+/// Hall A with these holds.
+fn held(holds: &[u32]) -> Vec<u8> {
+    let mut sheet = sample("hall-a");
+    sheet.splice(16..16, holds.iter().flat_map(|hold| (13 << 28 | hold).to_be_bytes()));
+    sheet
+}
+
+/// The detour by node 2 is now the longer way to node 1: 1 + 3 + 2 and not 4. Node 0 is the source, and node 3 is passed by no route: their holds don't matter.
+#[test]
+fn runs_with_holds() {
+    let listed = "ended rounds 2 leaves 4 inner 2 2 updates 10\n0 0 -\n1 4 0\n2 1 1\n3 19 3\n";
+    for sheet in [held(&[100, 10, 3, 7]), held(&[0, 10, 3, 0]), held(&[NONE, 10, 3, NONE])] {
+        assert_eq!(judge(&sheet), Answer::Accepted);
+        assert_eq!(listing(&sheet, &ended(&sheet, 4)), listed);
+        assert_eq!(longer(&sheet, 2)[..table_words(4)], ended(&sheet, 4));
+        assert_eq!(payload(longer(&sheet, 1)[HEADER_WORDS + 2 * 3]), 19);
+    }
+    assert_eq!(ended(&held(&[0; 4]), 4), ended(&sample("hall-a"), 4));
+}
+
+#[test]
+fn routes_with_holds() {
+    let sheet = held(&[100, 10, 3, 7]);
+    let mut buffer = [PATTERN; 3];
+    assert_eq!(route(&sheet, &ended(&sheet, 4), 3, &mut buffer), Answer::Route(2));
+    assert_eq!(buffer, [0, 3, PATTERN]);
+    for (other, answer) in [(held(&[0, 10, 2, 0]), Answer::Route(2)), (held(&[0, 9, 3, 0]), Answer::Refused(24)), (held(&[]), Answer::Refused(24))] {
+        assert_eq!(route(&sheet, &ended(&other, 4), 3, &mut buffer), answer);
+    }
+}
+
+#[test]
+fn resumes_with_holds() {
+    let sheet = held(&[100, 10, 3, 7]);
+    for (before, more) in [(0, 0), (0, 1), (0, 2), (1, 0), (1, 1), (1, 9), (2, 1)] {
+        let mut table = longer(&sheet, before);
+        let answer = resume(&sheet, more, &mut table);
+        assert_eq!(table, longer(&sheet, before + more));
+        assert_eq!(answer, if before + more < 2 { Answer::Paused } else { Answer::Ended });
+    }
+    let mut table = longer(&sample("hall-a"), 1);
+    assert_eq!(resume(&sheet, 1, &mut table), Answer::Refused(33));
+    assert_eq!(table, longer(&sample("hall-a"), 1));
+}
+
+/// 34 is what is above 262,143 together with the tail's hold; node 1 has an arc of length 5 and node 2 one of length 2.
+#[test]
+fn holds_that_are_refused() {
+    for holds in [[0, 262_139, 0, 0], [0, 0, 262_142, 0], [NONE, NONE, 0, 0]] {
+        assert_eq!(judge(&held(&holds)), Answer::Refused(34));
+    }
+    assert_eq!(judge(&held(&[NONE, 262_138, 262_141, NONE])), Answer::Accepted);
+    for holds in [&[0; 1][..], &[0; 3], &[0; 5], &[0; 8]] {
+        assert_eq!(judge(&held(holds)), Answer::Refused(2));
+    }
+    let sheet = held(&[0, NONE, 0, 0]);
+    let mut table = [PATTERN; 49];
+    assert_eq!(run(&sheet, &mut table), Answer::Refused(34));
+    assert_eq!(run_limited(&sheet, 1, &mut table), Answer::Refused(34));
+    assert_eq!(resume(&sheet, 1, &mut table), Answer::Refused(34));
+    assert_eq!(route(&sheet, &[], 4, &mut table), Answer::Refused(34));
+    assert_eq!(table, [PATTERN; 49]);
+}
+
+#[test]
+fn canonical_forms_with_holds() {
+    let sheet = held(&[100, 10, 3, 7]);
+    let mut form = vec![0x5e; sheet.len()];
+    assert_eq!(canonical(&sheet, &mut form), Answer::Written(88));
+    let mut neat = sample("neat");
+    neat.splice(16..16, sheet[16..32].iter().copied());
+    assert_eq!(form, neat);
+    assert_eq!(canonical(&held(&[0, NONE, 0, 0]), &mut form), Answer::Refused(34));
+    assert_eq!(form, neat);
+}
+
+/// As many bytes as a sheet may have are not refused as 1, and one word more is.
+#[test]
+fn bytes_of_a_sheet() {
+    assert_eq!(judge(&vec![0; MOST_BYTES]), Answer::Refused(2));
+    assert_eq!(judge(&vec![0; MOST_BYTES + 4]), Answer::Refused(1));
+}
+
 #[test]
 fn faults() {
-    for number in (1..=15).chain([31]) {
+    for number in (1..=15).chain([31, 34]) {
         assert_eq!(Answer::Refused(number).fault(), Some(Fault::Input));
     }
     for number in (21..=25).chain([32, 33]) {

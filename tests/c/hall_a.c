@@ -1,4 +1,5 @@
-/* The six calls from C, on the paper's hall A: what they answer, and every word or byte that they leave; and the limit on the arcs at a node. */
+/* The six calls from C, on the paper's hall A: what they answer, and every word or byte that they leave; the same with holds; and the limit on the arcs at a
+ * node. */
 #include <stdio.h>
 #include <string.h>
 
@@ -34,6 +35,14 @@ static const uint32_t keys_at_end[4] = {0xc0000000, 0xc0000000, 0xc0000000, 0xc0
 /* After one round with the spans 2 and 1, three more with both spans 1: ended; rounds 4, leaves 5, inner 4 4, updates 13; the distances are the same. */
 static const uint32_t ended_by_ones[WORDS] = {0x80000001, COUNT(4), COUNT(5), COUNT(4), COUNT(4), UNUSED_HEIGHTS, COUNT(13),
                                               0x90000000, 0xafffffff, 0x90000003, 0xa0000002, 0x90000001, 0xa0000001, 0x90000008, 0xa0000003};
+
+/* Hall A with holds, and its form: 88 bytes. After one round paused; then ended, the detour by node 2 being the longer way: rounds 2, leaves 4, inner 2 2,
+ * updates 10; distances 0, 4, 1, 4 + 10 + 5; feeding arcs none, 0, 1, 3. */
+static const uint32_t holds[4] = {0xd0000064, 0xd000000a, 0xd0000003, 0xd0000007};
+static const uint32_t held_paused[WORDS] = {0x80000000, COUNT(1), COUNT(2), COUNT(1), COUNT(1), UNUSED_HEIGHTS, COUNT(8),
+                                            0x90000000, 0xafffffff, 0x90000004, 0xa0000000, 0x9fffffff, 0xafffffff, 0x90000013, 0xa0000003};
+static const uint32_t held_ended[WORDS] = {0x80000001, COUNT(2), COUNT(4), COUNT(2), COUNT(2), UNUSED_HEIGHTS, COUNT(10),
+                                           0x90000000, 0xafffffff, 0x90000004, 0xa0000000, 0x90000001, 0xa0000001, 0x90000013, 0xa0000003};
 
 static int failures = 0;
 
@@ -230,8 +239,59 @@ static void copying(const uint8_t *sheet) {
     expect("and its own form", pigrozk_canonical(form, 72, out, 72) == PIGROZK_WRITTEN + 72 && memcmp(out, form, sizeof form) == 0);
 }
 
+/* Hall A with so many of these holds. */
+static void with_holds(uint8_t *held, const uint8_t *sheet, const uint32_t *from, size_t n) {
+    memcpy(held, sheet, 16);
+    to_bytes(held + 16, from, n);
+    memcpy(held + 16 + 4 * n, sheet + 16, 56);
+}
+
+static void judging_holds(const uint8_t *sheet) {
+    uint8_t held[92];
+    uint32_t other[5] = {0xdfffffff, 0xd003fffa, 0xd003fffd, 0xdfffffff, 0xd0000000};
+    with_holds(held, sheet, other, 4);
+    expect("lengths with holds at the limit, any at the source and at node 3", pigrozk_judge(held, 88) == PIGROZK_ACCEPTED);
+    other[1]++;
+    with_holds(held, sheet, other, 4);
+    expect("one more at node 1 is refused as 34", pigrozk_judge(held, 88) == 34);
+    expect("34 is from the input", PIGROZK_IS_REFUSED(34u) && PIGROZK_IS_FROM_INPUT(34u) && !PIGROZK_IS_FROM_STATE(34u));
+    with_holds(held, sheet, other, 3);
+    expect("three holds are refused as 2", pigrozk_judge(held, 84) == 2);
+    with_holds(held, sheet, other, 5);
+    expect("so are five", pigrozk_judge(held, 92) == 2);
+}
+
+static void running_with_holds(const uint8_t *held, uint32_t *table) {
+    uint32_t buffer[3];
+    fill(buffer, 3);
+    expect("one round with holds", pigrozk_run_limited(held, 88, 1, table, LONGER_WORDS) == PIGROZK_PAUSED);
+    expect("its words", is_longer(table, held_paused, keys_after_one));
+    expect("one round more of it", pigrozk_resume(held, 88, 1, table, LONGER_WORDS) == PIGROZK_ENDED);
+    expect("its words", is_longer(table, held_ended, keys_at_end));
+    expect("a run with holds", pigrozk_run(held, 88, table, WORDS) == PIGROZK_ENDED && memcmp(table, held_ended, sizeof held_ended) == 0);
+    expect("the route to node 3 has two arcs", pigrozk_route(held, 88, table, WORDS, 3, buffer, 3) == PIGROZK_ROUTE + 2);
+    expect("they are 0 and 3", buffer[0] == 0 && buffer[1] == 3 && buffer[2] == 0x5eed0002u);
+    expect("hall A's table is refused as 24", pigrozk_route(held, 88, ended, WORDS, 3, buffer, 3) == 24);
+}
+
+static void refusing_with_holds(const uint8_t *sheet, const uint8_t *held, uint32_t *table) {
+    uint32_t before[LONGER_WORDS];
+    pigrozk_run_limited(sheet, 72, 1, table, LONGER_WORDS);
+    memcpy(before, table, sizeof before);
+    expect("hall A's state after one round is refused as 33", pigrozk_resume(held, 88, 1, table, LONGER_WORDS) == 33);
+    expect("and stays", memcmp(table, before, sizeof before) == 0);
+}
+
+static void copying_with_holds(const uint8_t *held) {
+    uint8_t out[88], form[88];
+    memcpy(form, held, sizeof form);
+    to_bytes(form + 64, canonical, 6);
+    expect("the form with holds has 88 bytes", pigrozk_canonical(held, 88, out, 88) == PIGROZK_WRITTEN + 88);
+    expect("and the holds where they stood", memcmp(out, form, sizeof form) == 0);
+}
+
 int main(void) {
-    uint8_t sheet[72];
+    uint8_t sheet[72], held[88];
     uint32_t table[LONGER_WORDS + 1];
     to_bytes(sheet, words, 18);
     judging(sheet);
@@ -245,6 +305,11 @@ int main(void) {
     reading_longer(sheet, table);
     resuming(sheet, table);
     refusing_to_resume(sheet, table);
+    with_holds(held, sheet, holds, 4);
+    judging_holds(sheet);
+    running_with_holds(held, table);
+    refusing_with_holds(sheet, held, table);
+    copying_with_holds(held);
     puts(failures ? "C: failed" : "C: passed");
     return failures != 0;
 }

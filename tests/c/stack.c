@@ -1,6 +1,6 @@
 /* How much stack each call uses at most. A call is made in a thread whose stack was filled with a pattern; afterwards the lowest byte that differs from the
  * pattern says how far down it went. The sheet is the deepest that there is: region 0 has height 15 and two chains of regions below it, and the leaf that
- * is worked at the bottom of one chain, within 15 nested workings, updates the leaf of the other, from where the update climbs to region 0. */
+ * is worked at the bottom of one chain, within 15 nested workings, updates the leaf of the other, from where the update climbs to region 0. It has holds. */
 #define _XOPEN_SOURCE 700
 #include <pthread.h>
 #include <stdio.h>
@@ -34,6 +34,7 @@ static void write_sheet(void) {
     word(0x10000000 + NODES);
     word(0x20000000);
     for (int i = 0; i < HEIGHT; i++) word(0x30000000 + PIGROZK_MOST_SPAN);
+    for (int i = 0; i < NODES; i++) word(0xd0000001);
     for (uint32_t arc = 0; arc < ARCS; arc++) {
         word(0x40000000 + (arc << 10) + arc + 1);
         word(0x50000001);

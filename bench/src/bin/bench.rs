@@ -2,10 +2,10 @@
 //! unless some are named.
 //!
 //! Every time is that of a whole call, from the sheet's bytes to the table, the judgement or the canonical form, and the least of interleaved repetitions. A
-//! resume is from the longer table of the start, or from an ended one, which it gives back.
+//! resume is from the longer table of the start, or from an ended one, which it gives back. A route is that to the node farthest from the source.
 
 use bench::generate::divisions::{Nesting, NESTINGS};
-use bench::generate::halls::{Shape, NARROW, SHAPES, WIDE};
+use bench::generate::halls::{Holds, Shape, NARROW, SHAPES, WIDE};
 use bench::generate::sheets::{self, Spans, SPANS};
 use bench::reference::sheet::{words, Sheet};
 use bench::reference::table;
@@ -134,6 +134,34 @@ fn measured_resume(sheet: &[u8]) -> ResumeTimes {
     times
 }
 
+/// The node with the highest distance, in a table of the usual form.
+fn farthest(table: &[u32], nodes: usize) -> u32 {
+    let reached = (0..nodes).filter(|node| table[table::label_at(*node)] & reference::TOP != reference::TOP);
+    reached.max_by_key(|node| table[table::label_at(*node)]).unwrap_or(0) as u32
+}
+
+/// Least times in microseconds of a run, a judgement and a route, of each of two sheets that lead to one table.
+fn measured_held(sheets: [&[u8]; 2], nodes: usize) -> [[f64; 3]; 2] {
+    let mut table = vec![0; table::length(nodes)];
+    let mut buffer = vec![0; nodes];
+    assert_eq!(proved::run(sheets[0], &mut table), 258);
+    let node = farthest(&table, nodes);
+    let route_found = proved::route(sheets[0], &table, node, &mut buffer);
+    let mut times = [[NOT_TIMED; 3]; 2];
+    let start = Instant::now();
+    let mut repetitions = 0;
+    while repetitions < LEAST_REPETITIONS || start.elapsed() < TIME_FOR_A_SHEET {
+        for (sheet, [run, judge, route]) in sheets.into_iter().zip(&mut times) {
+            let sheet = black_box(sheet);
+            least(run, || proved::run(sheet, &mut table), 258);
+            least(judge, || proved::judge(sheet), 256);
+            least(route, || proved::route(sheet, &table, node, &mut buffer), route_found);
+        }
+        repetitions += 1;
+    }
+    times
+}
+
 /// Ratios of one column, for its summary.
 struct Ratios(Vec<f64>);
 
@@ -221,6 +249,37 @@ fn every_resume(shapes: &[Shape]) {
     println!();
 }
 
+/// The same halls without holds and with holds of 0, which lead to the same tables; and with holds up to what is allowed, beside the plain program.
+fn every_hold(shapes: &[Shape]) {
+    let Some(first) = shapes.first() else { return };
+    println!("Holds: {} nodes, {} arcs each way, up to 2048 arcs, spans Random. Times in microseconds.", first.full_nodes(), first.each_way());
+    print!("| hall | division | run | with holds of 0 | ratio | judge | with holds of 0 | ratio | route | with holds of 0 | ratio ");
+    println!("| leaves with holds | proved run | plain run | ratio | proved judge | plain judge | ratio |");
+    println!("|---|---|--:|--:|--:|--:|--:|--:|--:|--:|--:|--:|--:|--:|--:|--:|--:|--:|");
+    let mut columns = [(); 5].map(|()| Ratios(vec![]));
+    for (shape, nesting) in shapes.iter().flat_map(|shape| NESTINGS.map(|nesting| (*shape, nesting))) {
+        let nodes = shape.full_nodes();
+        let [without, zero, any] =
+            [Holds::None, Holds::Zero, Holds::Any].map(|holds| sheets::regular_with(holds, shape, nesting, Spans::Random, nodes));
+        let [before, after] = measured_held([&without, &zero], nodes);
+        let t = measured(&any, nodes);
+        let of_plain = [t.proved_run / t.plain_run, t.proved_judge / t.plain_judge];
+        print!("| {shape:?} | {nesting:?} ");
+        before.iter().zip(after).for_each(|(before, after)| print!("| {before:.1} | {after:.1} | {:.2} ", after / before));
+        print!("| {} | {:.1} | {:.1} | {:.2} ", t.leaves, t.proved_run, t.plain_run, of_plain[0]);
+        println!("| {:.1} | {:.1} | {:.2} |", t.proved_judge, t.plain_judge, of_plain[1]);
+        let ratios = before.iter().zip(after).map(|(before, after)| after / before).chain(of_plain);
+        columns.iter_mut().zip(ratios).for_each(|(column, ratio)| column.0.push(ratio));
+    }
+    println!();
+    columns[0].line("run, holds of 0 / no holds");
+    columns[1].line("judge, holds of 0 / no holds");
+    columns[2].line("route, holds of 0 / no holds");
+    columns[3].line("holds, proved run / plain run");
+    columns[4].line("holds, proved judge / plain judge");
+    println!();
+}
+
 fn growth_of_forms(shape: Shape, nesting: Nesting) {
     println!("Growth: {shape:?}, {nesting:?}. Canonical forms in microseconds.");
     println!("| arcs | words | proved form | plain form | ratio | proved, ns a word | plain, ns a word |");
@@ -274,6 +333,7 @@ fn main() {
     groups.iter().for_each(|shapes| every_sheet(shapes));
     groups.iter().for_each(|shapes| every_form(shapes));
     groups.iter().for_each(|shapes| every_resume(shapes));
+    groups.iter().for_each(|shapes| every_hold(shapes));
     for (shape, nesting, spans) in GROWING.into_iter().filter(|(shape, _, _)| wanted(shape)) {
         growth(shape, nesting, spans);
         growth_of_forms(shape, nesting);

@@ -2,20 +2,22 @@
 //!
 //! Compared are the answers, every word or byte of the tables and buffers lent and of what lies around them, and that a refusal changed nothing. Every
 //! table left as ended is held to request 2026-03, the canonical forms of some sheets to request 2026-04, every refusal with 2 to the list of cases of
-//! request 2026-05, and rounds made in parts and with other spans to request 2026-06. Ends with 1 at the first difference, or if a refusal number, an answer,
-//! a number of arcs one way, a sort of ended tables, a change to a sheet, two kinds next to each other, a broken clause of a possible state, a sort of resumed
-//! tables or a table that the choice among equal keys of request 2026-07 changes were never seen, or no inner region of some height was worked.
+//! request 2026-05 and to the number of holds, rounds made in parts and with other spans to request 2026-06, and distances to routes as request 2026-08
+//! measures them. Ends with 1 at the first difference, or if a refusal number, an answer, a number of arcs one way, a sort of ended tables, a change to a
+//! sheet, two kinds next to each other, a broken clause of a possible state, a sort of resumed tables, a table that the choice among equal keys of request
+//! 2026-07 changes or a sort of sheets with holds were never seen, or no inner region of some height was worked.
 
 use bench::generate::changes::{self, Change, CHANGES};
 use bench::generate::random::Random;
 use bench::generate::{damage, kinds, sheets, tables};
 use bench::proved;
-use bench::reference::judge::{accepted, Judged, MOST_EACH_WAY};
+use bench::reference::dijkstra::distances;
+use bench::reference::judge::{accepted, Judged, MOST_BYTES, MOST_EACH_WAY, MOST_LENGTH};
 use bench::reference::neighbours::{self, Place, PLACES};
 use bench::reference::nesting::alike;
 use bench::reference::possible::{broken, Clause, CLAUSES};
 use bench::reference::procedure::Ties;
-use bench::reference::sheet::{words, Sheet};
+use bench::reference::sheet::{kind, payload, words, Arc, Sheet};
 use bench::reference::table::{self, HEIGHTS};
 use bench::reference::work::Work;
 use bench::reference::{self, Answer};
@@ -31,6 +33,9 @@ const GUARD: usize = 4;
 /// Of so many accepted sheets one is held to request 2026-04, and all that have more than so many region words.
 const HELD_TO_2026_04: usize = 8;
 const MANY_REGIONS: usize = 2_000;
+
+/// Of so many accepted sheets without holds one is also run with holds of 0.
+const WITH_ZERO_HOLDS: usize = 8;
 
 /// Of so many cases the tables of one are also made with the choice among equal keys from before request 2026-07.
 const MADE_AS_BEFORE: u64 = 4;
@@ -63,7 +68,7 @@ const WRITTEN: u32 = 131_072;
 
 /// How often each call gave each answer. How many sheets there were of each sort, and by the most arcs that a node has one way, how many accepted ones and how
 /// many refused as 10. How many finished tables have a figure above 0 at each height. How many ended tables there were of each of `SORTS`. What was seen of
-/// canonical forms, of kinds, of possible states, and, by call, of the choice among equal keys.
+/// canonical forms, of kinds, of possible states, of holds, and, by call, of the choice among equal keys.
 #[derive(Default)]
 struct Tally {
     answers: BTreeMap<(&'static str, u32), u64>,
@@ -75,6 +80,7 @@ struct Tally {
     forms: Forms,
     kinds: Kinds,
     states: States,
+    holds: Holds,
     choices: BTreeMap<&'static str, Choices>,
 }
 
@@ -102,6 +108,94 @@ impl Choices {
         let counts =
             [(self.other, "another table than by the choice of before"), (self.other_feeds, "other feeding arcs than by the choice of before")];
         counts.into_iter().filter(|(count, _)| *count == 0).map(|(_, name)| name)
+    }
+}
+
+/// A sheet with holds whose kinds are in order, the number of its bytes, and that of its refusal, 0 for accepted.
+struct Held<'a> {
+    sheet: &'a Sheet,
+    bytes: usize,
+    number: u32,
+}
+
+impl Held<'_> {
+    fn is_accepted(&self) -> bool {
+        self.number == 0
+    }
+
+    /// How many holds there are more than nodes, where this alone is refused as 2.
+    fn too_many(&self) -> Option<i64> {
+        let more = self.sheet.holds().len() as i64 - self.sheet.nodes() as i64;
+        (self.number == 2).then_some(more)
+    }
+
+    /// Some arc from the source, or some other arc, has this length with the hold of its tail.
+    fn any_arc(&self, from_source: bool, is_wanted: impl Fn(u32) -> bool) -> bool {
+        let sheet = self.sheet;
+        let mut held = sheet.arcs().filter(|arc| (arc.tail == sheet.source()) == from_source && sheet.hold(arc.tail) > 0);
+        held.any(|arc| is_wanted(sheet.hold(arc.tail) + arc.length))
+    }
+
+    /// Some node without outgoing arcs has a hold that 34 lets no other node have.
+    fn high_at_an_end(&self) -> bool {
+        let left = |node: usize| self.sheet.arcs().any(|arc| arc.tail == node);
+        (0..self.sheet.nodes()).any(|node| node != self.sheet.source() && self.sheet.hold(node) > MOST_LENGTH && !left(node))
+    }
+}
+
+/// Sorts of sheets with holds.
+const HELD: [(&str, fn(&Held) -> bool); 15] = [
+    ("accepted", |held| held.is_accepted()),
+    ("accepted, all holds 0", |held| held.is_accepted() && held.sheet.holds().iter().all(|hold| payload(*hold) == 0)),
+    ("accepted, a length with its hold at the limit", |held| held.is_accepted() && held.any_arc(false, |length| length == MOST_LENGTH)),
+    ("accepted, with the source's hold above it", |held| held.is_accepted() && held.any_arc(true, |length| length > MOST_LENGTH)),
+    ("accepted, a hold above it at a node without outgoing arcs", |held| held.is_accepted() && held.high_at_an_end()),
+    ("accepted, of 36,924 bytes", |held| held.is_accepted() && held.bytes == MOST_BYTES),
+    ("refused as 1, of 36,928 bytes", |held| held.number == 1 && held.bytes == MOST_BYTES + 4),
+    ("refused as 34", |held| held.number == 34),
+    ("refused as 34, by one", |held| held.number == 34 && !held.any_arc(false, |length| length > MOST_LENGTH + 1)),
+    ("refused as 34, and five arcs one way", |held| held.number == 34 && held.sheet.most_one_way() > MOST_EACH_WAY),
+    ("refused as 9, and 34 applies to another arc", |held| held.number == 9 && held.sheet.taken_arcs().zip(held.sheet.arcs()).any(within_9)),
+    ("refused as 2, one hold too few", |held| held.too_many() == Some(-1)),
+    ("refused as 2, one hold too many", |held| held.too_many() == Some(1)),
+    ("refused as 2, another number of holds", |held| held.too_many().is_some_and(|more| more.abs() > 1)),
+    ("refused as 2 for their number, a node count that is 4", |held| held.too_many().is_some() && !(1..=1024).contains(&held.sheet.nodes())),
+];
+
+/// The length as written is within its limit, and that with the hold is not.
+fn within_9((taken, written): (Arc, Arc)) -> bool {
+    written.length <= MOST_LENGTH && taken.length > MOST_LENGTH
+}
+
+/// Request 2026-08: how many sheets there were of each of `HELD`, how many of the accepted ones have other distances without their holds, how many without
+/// holds were also run with holds of 0, and how many routes and resumes out of tables by wrong charges were refused as 24 and 33.
+#[derive(Default)]
+struct Holds {
+    sheets: [u64; HELD.len()],
+    other_distances: u64,
+    zeros: u64,
+    wrong_routes: u64,
+    wrong_states: u64,
+}
+
+impl Holds {
+    fn count(&mut self, bytes: &[u8], judged: &Judged) {
+        let sheet = Sheet::in_order(words(bytes)).filter(|sheet| !sheet.holds().is_empty() && bytes.len() % 4 == 0);
+        if let Some(sheet) = sheet {
+            let held = Held { sheet: &sheet, bytes: bytes.len(), number: judged.as_ref().err().copied().unwrap_or(0) };
+            self.sheets.iter_mut().zip(HELD).for_each(|(sheets, (_, is_of))| *sheets += is_of(&held) as u64);
+        }
+    }
+
+    fn counts(&self) -> impl Iterator<Item = (u64, String)> {
+        let sheets = self.sheets.into_iter().zip(HELD).map(|(count, (sort, _))| (count, format!("sheets with holds, {sort}")));
+        let others = [
+            (self.other_distances, "sheets with holds, other distances without them"),
+            (self.zeros, "sheets without holds, the same table with holds of 0"),
+            (self.wrong_routes, "routes out of tables with holds charged wrongly, refused as 24"),
+            (self.wrong_states, "resumes of tables with holds charged wrongly, refused as 33"),
+        ];
+        sheets.chain(others.map(|(count, name)| (count, name.to_string())))
     }
 }
 
@@ -292,6 +386,7 @@ impl Tally {
         self.forms.print();
         self.kinds.print();
         self.states.print();
+        self.holds.counts().for_each(|(count, name)| println!("{name}: {count}"));
         for call in ROUNDS {
             let Choices { made, other, other_feeds } = self.chosen(call);
             println!("{call}, tables also made with the tie rule of before: {made}, others {other}, ended with other feeding arcs {other_feeds}");
@@ -308,17 +403,18 @@ impl Tally {
         self.choices.get(call).copied().unwrap_or_default()
     }
 
-    /// The numbers, answers, numbers of arcs one way, worked heights, sorts of ended tables, changes, neighbouring kinds, states and choices that were never
-    /// seen.
+    /// The numbers, answers, numbers of arcs one way, worked heights, sorts of ended tables, changes, neighbouring kinds, states, sorts of sheets with holds
+    /// and choices that were never seen.
     fn unseen(&self) -> Vec<String> {
-        let wanted = (1..=15).chain(21..=25).chain(31..=33).chain(256..=259).chain([ROUTE, WRITTEN]);
+        let wanted = (1..=15).chain(21..=25).chain(31..=34).chain(256..=259).chain([ROUTE, WRITTEN]);
         let answers = wanted.filter(|code| !self.answers.keys().any(|(_, seen)| seen == code)).map(named);
         let seen: BTreeSet<_> = self.accepted.keys().chain(self.crowded.keys()).collect();
         let arcs = (0..=MOST_EACH_WAY + 2).filter(|most| !seen.contains(most)).map(|most| ways(most) + " arcs one way");
         let heights = (0..HEIGHTS).filter(|at| self.worked[*at] == 0).map(|at| format!("workings at height {}", at + 1));
         let sorts = SORTS.iter().zip(self.ended).filter(|(_, tables)| *tables == 0).map(|((sort, _), _)| format!("ended tables, {sort}"));
         let choices = ROUNDS.into_iter().flat_map(|call| self.chosen(call).unseen().map(move |name| format!("{call}, {name}")));
-        let of_requests = self.forms.unseen().chain(self.kinds.unseen()).chain(self.states.unseen()).chain(choices);
+        let holds = self.holds.counts().filter(|(count, _)| *count == 0).map(|(_, name)| name);
+        let of_requests = self.forms.unseen().chain(self.kinds.unseen()).chain(self.states.unseen()).chain(holds).chain(choices);
         answers.chain(arcs).chain(heights).chain(sorts).chain(of_requests).collect()
     }
 }
@@ -430,6 +526,7 @@ impl Trial<'_> {
         self.neighbours(answer)?;
         let judged = accepted(bytes);
         self.tally.count_ways(bytes, &judged);
+        self.tally.holds.count(bytes, &judged);
         match judged {
             Ok(accepted) => {
                 let finished = self.accepted(&accepted.sheet)?;
@@ -447,7 +544,8 @@ impl Trial<'_> {
         }
     }
 
-    /// Request 2026-05: a sheet that is not refused with 1 is refused with 2 exactly where the list of cases says no.
+    /// Requests 2026-05 and 2026-08: a sheet that is not refused with 1 is refused with 2 exactly where the list of cases says no, or the number of words of
+    /// kind 13 is neither 0 nor what kind 1 says.
     fn neighbours(&mut self, judged: Answer) -> Outcome {
         if judged == Answer::Refused(1) {
             return Ok(());
@@ -456,9 +554,10 @@ impl Trial<'_> {
         let refused = judged == Answer::Refused(2);
         self.tally.kinds.count(&words, refused);
         let wrong = neighbours::places(&words).find(|place| !place.is_allowed());
-        match neighbours::in_order(&words) != refused {
+        let holds = words.iter().filter(|word| kind(**word) == 13).count();
+        match (neighbours::in_order(&words) && neighbours::holds_fit(&words)) != refused {
             true => Ok(()),
-            false => Err(Difference(format!("judge: answered {}, the first not in order by the list is {wrong:?}", judged.code()))),
+            false => Err(Difference(format!("judge: answered {}, the first not in order by the list is {wrong:?}, {holds} holds", judged.code()))),
         }
     }
 
@@ -479,6 +578,8 @@ impl Trial<'_> {
         let length = table::length(sheet.nodes());
         let finished = self.run(length)?;
         self.tally.count_heights(&finished);
+        self.shortest(sheet, &finished)?;
+        self.zero_holds(sheet, &finished)?;
         if self.random.once_in(4) {
             let wrong = tables::wrong_length(length, sheet, self.random);
             self.run(wrong)?;
@@ -500,8 +601,8 @@ impl Trial<'_> {
         Ok(finished)
     }
 
-    /// Routes out of the finished table, out of damaged ones, out of one of another length, out of one with one inner count and out of that of a hall that
-    /// differs in a length.
+    /// Routes out of the finished table, out of damaged ones, out of one of another length, out of one with one inner count, out of that of a hall that differs
+    /// in a length or a hold and out of one by wrong charges.
     fn routes(&mut self, sheet: &Sheet, finished: &[u32]) -> Outcome {
         for _ in 0..3 {
             self.route_and_near(sheet, finished)?;
@@ -523,18 +624,22 @@ impl Trial<'_> {
             let other = self.other_table(sheet, finished.len());
             self.route_and_near(sheet, &other)?;
         }
-        Ok(())
+        self.wrong_charges(sheet, finished.len())
     }
 
-    /// The finished table of a hall that differs in the length of one arc.
+    /// The finished table of a hall that differs in the length of one arc, or in one hold.
     fn other_table(&mut self, sheet: &Sheet, length: usize) -> Vec<u32> {
-        let arc = self.random.below(sheet.arc_count());
-        let at = 4 * (2 + sheet.spans().len() + 2 * arc + 1);
-        let mut other = self.bytes.to_vec();
-        let changed = self.random.pick(&[0, 1, 2, 262_143]);
-        other[at..at + 4].copy_from_slice(&(5u32 << 28 | changed).to_be_bytes());
+        let mut other = words(self.bytes);
+        let (holds_at, holds) = (2 + sheet.spans().len(), sheet.holds().len());
+        if holds > 0 && self.random.once_in(2) {
+            let hold = &mut other[holds_at + self.random.below(holds)];
+            *hold = 13 << 28 | payload(*hold).saturating_sub(self.random.pick(&[1, 2, MOST_LENGTH]));
+        } else {
+            let arc = self.random.below(sheet.arc_count());
+            other[holds_at + holds + 2 * arc + 1] = 5 << 28 | self.random.pick(&[0, 1, 2, MOST_LENGTH]);
+        }
         let mut table = vec![0; length];
-        reference::run(&other, &mut table);
+        reference::run(&sheets::bytes(&other), &mut table);
         table
     }
 
@@ -830,6 +935,55 @@ impl Trial<'_> {
     }
 }
 
+/// Request 2026-08.
+impl Trial<'_> {
+    /// Holds of 0 change nothing in a sheet's table.
+    fn zero_holds(&mut self, sheet: &Sheet, finished: &[u32]) -> Outcome {
+        if !sheet.holds().is_empty() || !self.random.once_in(WITH_ZERO_HOLDS) {
+            return Ok(());
+        }
+        let other = sheets::bytes(&changes::with_zero_holds(sheet));
+        self.tally.holds.zeros += 1;
+        match self.of(&other).run(finished.len())? == finished {
+            true => Ok(()),
+            false => Err(Difference(format!("with holds of 0, {}: another table", hexadecimal(&other)))),
+        }
+    }
+
+    /// The distances of a run are those of routes, measured as the request says.
+    fn shortest(&mut self, sheet: &Sheet, finished: &[u32]) -> Outcome {
+        let shortest = distances(sheet).labels;
+        if !sheet.holds().is_empty() {
+            let without = [&sheet.before_regions()[..2], sheet.arc_words()].concat();
+            let without = Sheet::in_order(without).expect("a sheet in order");
+            self.tally.holds.other_distances += (distances(&without).labels != shortest) as u64;
+        }
+        match labels(sheet, finished).map(|word| payload(*word)).eq(shortest) {
+            true => Ok(()),
+            false => Err(Difference("the distances of a run are not those of routes with holds".to_string())),
+        }
+    }
+
+    /// A route out of a table by wrong charges, of either form, and a resume of one after some rounds.
+    fn wrong_charges(&mut self, sheet: &Sheet, length: usize) -> Outcome {
+        if sheet.holds().is_empty() {
+            return Ok(());
+        }
+        let other = sheets::bytes(&changes::charged_wrongly(sheet, self.random));
+        let mut table = vec![0; self.random.pick(&[length, table::longer(sheet)])];
+        reference::run(&other, &mut table);
+        let node = self.node(sheet);
+        let answer = self.route(&table, node, sheet.nodes())?;
+        self.tally.holds.wrong_routes += (answer == Answer::Refused(24)) as u64;
+        let mut table = vec![0; table::longer(sheet)];
+        let rounds = self.rounds();
+        reference::run_limited(&other, rounds, &mut table);
+        let (answer, _) = self.resume(1, &table)?;
+        self.tally.holds.wrong_states += (answer == Answer::Refused(33)) as u64;
+        Ok(())
+    }
+}
+
 /// Request 2026-07.
 impl Trial<'_> {
     /// Of some cases, counts how a table that a call has left differs from that which the choice of before leaves of what was lent.
@@ -855,9 +1009,10 @@ fn sheet_of(random: &mut Random) -> (&'static str, Vec<u8>) {
         0..=434 => ("accepted, any shape", sheets::bytes(&sheets::any(random))),
         435 if random.once_in(3) => ("accepted, full size", sheets::bytes(&sheets::full(random))),
         436 if random.once_in(3) => ("damaged, full size", damage::damaged(sheets::full(random), random)),
+        437 if random.once_in(3) => ("of the most bytes or one word more", sheets::bytes(&sheets::largest_or_above(random))),
         435..=869 => ("damaged", damage::damaged(sheets::any(random), random)),
         870..=899 => ("accepted, flat, spans near the arcs", sheets::bytes(&sheets::flat(random))),
-        900..=929 => ("kinds along the order", sheets::bytes(&kinds::words(random))),
+        900..=949 => ("kinds along the order", sheets::bytes(&kinds::words(random))),
         _ => ("noise", sheets::noise(random)),
     }
 }

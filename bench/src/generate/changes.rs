@@ -3,7 +3,8 @@
 use super::divisions::Division;
 use super::random::Random;
 use super::sheets::Spans;
-use crate::reference::sheet::Sheet;
+use crate::reference::judge::MOST_LENGTH;
+use crate::reference::sheet::{Arc, Sheet};
 
 /// The spans that are drawn for a sheet in place of its own.
 const SPANS: [Spans; 5] = [Spans::One, Spans::UpTo(2), Spans::UpTo(4), Spans::Random, Spans::Million];
@@ -14,6 +15,8 @@ const SPANS: [Spans; 5] = [Spans::One, Spans::UpTo(2), Spans::UpTo(4), Spans::Ra
 pub enum Change {
     Hall,
     Span,
+    Hold,
+    Holds,
     Arc,
     ArcsExchanged,
     LeavesExchanged,
@@ -24,9 +27,11 @@ pub enum Change {
     LinkMoved,
 }
 
-pub const CHANGES: [Change; 10] = [
+pub const CHANGES: [Change; 12] = [
     Change::Hall,
     Change::Span,
+    Change::Hold,
+    Change::Holds,
     Change::Arc,
     Change::ArcsExchanged,
     Change::LeavesExchanged,
@@ -40,7 +45,8 @@ pub const CHANGES: [Change; 10] = [
 impl Change {
     /// It leaves a sheet as it was at times.
     pub fn may_leave(self) -> bool {
-        !matches!(self, Change::Hall | Change::Span | Change::Arc | Change::ChainLonger | Change::ChainShorter)
+        let never = [Change::Hall, Change::Span, Change::Hold, Change::Holds, Change::Arc, Change::ChainLonger, Change::ChainShorter];
+        !never.contains(&self)
     }
 }
 
@@ -48,6 +54,7 @@ impl Change {
 struct Parts {
     hall: Vec<u32>,
     spans: Vec<u32>,
+    holds: Vec<u32>,
     arcs: Vec<u32>,
     division: Division,
 }
@@ -56,7 +63,7 @@ impl Parts {
     fn of(sheet: &Sheet) -> Parts {
         let division = Division::of_words(sheet.regions());
         let hall = sheet.before_regions()[..2].to_vec();
-        Parts { hall, spans: sheet.spans().to_vec(), arcs: sheet.arc_words().to_vec(), division }
+        Parts { hall, spans: sheet.spans().to_vec(), holds: sheet.holds().to_vec(), arcs: sheet.arc_words().to_vec(), division }
     }
 
     /// The sheet with its regions numbered at random, and with as many spans as it is high now.
@@ -65,18 +72,35 @@ impl Parts {
         self.division.without_childless();
         self.spans.resize(self.division.height(), 3 << 28 | 1);
         let regions: Vec<u32> = self.division.words().collect();
-        [self.hall, self.spans, self.arcs, regions].concat()
+        [self.hall, self.spans, self.holds, self.arcs, regions].concat()
     }
 
-    /// Another node count or source.
+    /// Another node count or source. Each node keeps its hold; that of a new one is 0.
     fn change_hall(&mut self, random: &mut Random) {
         let nodes = self.hall[0] & 0xfff_ffff;
         let source = random.below(nodes as usize) as u32;
         if self.hall[1] != 2 << 28 | source {
             self.hall[1] = 2 << 28 | source;
         } else {
-            self.hall[0] = 1 << 28 | if nodes < 1024 { nodes + 1 } else { nodes - 1 };
+            let nodes = if nodes < 1024 { nodes + 1 } else { nodes - 1 };
+            self.hall[0] = 1 << 28 | nodes;
+            let holds = if self.holds.is_empty() { 0 } else { nodes as usize };
+            self.holds.resize(holds, 13 << 28);
         }
+    }
+
+    /// Another hold at one node, where there are holds.
+    fn change_hold(&mut self, random: &mut Random) -> Option<()> {
+        let at = (!self.holds.is_empty()).then(|| random.below(self.holds.len()))?;
+        let hold = self.holds[at] & 0xfff_ffff;
+        self.holds[at] = 13 << 28 | if hold > 0 && !random.once_in(3) { random.below(hold as usize) as u32 } else { (hold + 1) & 0xfff_ffff };
+        Some(())
+    }
+
+    /// No holds where there are some, and holds of 0 where there are none.
+    fn change_holds(&mut self) {
+        let nodes = (self.hall[0] & 0xfff_ffff) as usize;
+        self.holds = if self.holds.is_empty() { vec![13 << 28; nodes] } else { vec![] };
     }
 
     fn change_span(&mut self, random: &mut Random) {
@@ -108,7 +132,26 @@ impl Parts {
 /// The words of a sheet with other spans and nothing else changed.
 pub fn with_other_spans(sheet: &Sheet, random: &mut Random) -> Vec<u32> {
     let spans: Vec<u32> = sheet.spans().iter().map(|_| 3 << 28 | random.pick(&SPANS).span(random)).collect();
-    [&sheet.before_regions()[..2], &spans, sheet.arc_words(), sheet.regions()].concat()
+    [&sheet.before_regions()[..2], &spans, sheet.holds(), sheet.arc_words(), sheet.regions()].concat()
+}
+
+/// The words of a sheet with a hold of 0 at each node and nothing else changed.
+pub fn with_zero_holds(sheet: &Sheet) -> Vec<u32> {
+    let holds = vec![13 << 28; sheet.nodes()];
+    [&sheet.before_regions()[..2], sheet.spans(), &holds, sheet.arc_words(), sheet.regions()].concat()
+}
+
+/// What an arc is charged with.
+type Charge = fn(&Sheet, Arc) -> u32;
+
+/// The words of a sheet without its holds, whose arcs have lengths with a wrong charge, as far as the limit lets them: no hold at all, the tail's even where it
+/// is the source, or the head's.
+pub fn charged_wrongly(sheet: &Sheet, random: &mut Random) -> Vec<u32> {
+    let charges: [Charge; 3] = [|_, _| 0, |sheet, arc| sheet.hold(arc.tail), |sheet, arc| sheet.hold(arc.head)];
+    let charge = random.pick(&charges);
+    let lengths = sheet.arcs().map(|arc| MOST_LENGTH.min(arc.length + charge(sheet, arc)));
+    let arcs: Vec<u32> = sheet.arc_words().iter().step_by(2).zip(lengths).flat_map(|(ends, length)| [*ends, 5 << 28 | length]).collect();
+    [&sheet.before_regions()[..2], sheet.spans(), &arcs, sheet.regions()].concat()
 }
 
 /// The words of a sheet whose regions are numbered anew, each after its parent.
@@ -123,6 +166,8 @@ pub fn changed(change: Change, sheet: &Sheet, random: &mut Random) -> Option<Vec
     match change {
         Change::Hall => parts.change_hall(random),
         Change::Span => parts.change_span(random),
+        Change::Hold => parts.change_hold(random)?,
+        Change::Holds => parts.change_holds(),
         _ if arcless => return None,
         Change::Arc => parts.change_arc(random),
         Change::ArcsExchanged => parts.exchange_arcs(random),

@@ -1,5 +1,6 @@
 //! Divisions: the arcs of a hall nested in regions.
 
+use super::halls::MOST_ARCS;
 use super::random::Random;
 use crate::reference::sheet::{is_leaf, leaf_arc, parent};
 
@@ -59,6 +60,21 @@ impl Division {
             false => (parent(*word), None),
         });
         Division { regions: std::iter::once((0, None)).chain(regions).collect() }
+    }
+
+    /// The division of 2,048 arcs with as many regions as there can be, and of height 15: a chain of single children with one leaf at its end, and beside it
+    /// regions with one leaf each, as many as have room; the other leaves on region 0. Numbers in random order.
+    pub fn largest(random: &mut Random) -> Division {
+        let mut division = Division { regions: vec![(0, None)] };
+        let end = (1..HIGHEST).fold(0, |parent, _| division.inner(parent));
+        division.leaf(end, 0);
+        let alone = MOST_REGIONS - (HIGHEST - 1) - MOST_ARCS;
+        for arc in 1..MOST_ARCS {
+            let place = if arc <= alone { division.inner(0) } else { 0 };
+            division.leaf(place, arc);
+        }
+        division.renumber(random);
+        division
     }
 
     fn inner(&mut self, parent: usize) -> usize {

@@ -1,6 +1,8 @@
-//! Halls: nodes, source and arcs, with at most four arcs from and to each node.
+//! Halls: nodes, source, arcs and holds, with at most four arcs from and to each node.
 
 use super::random::Random;
+use crate::reference::judge::MOST_LENGTH;
+use crate::reference::TOP;
 
 pub const MOST_NODES: usize = 1024;
 pub const MOST_ARCS: usize = 2048;
@@ -10,6 +12,63 @@ pub struct Hall {
     pub source: usize,
     /// Tail, head and length.
     pub arcs: Vec<(usize, usize, u32)>,
+    /// One for each node, or none.
+    pub holds: Vec<u32>,
+}
+
+/// The holds of a hall: none, or one for each node, as high at most as refusal 34 lets it be.
+#[derive(Clone, Copy, Debug, PartialEq, Eq)]
+pub enum Holds {
+    None,
+    Zero,
+    Below(usize),
+    Any,
+    Most,
+    Mixed,
+}
+
+/// What a single node's hold is drawn from.
+const AT_A_NODE: [Holds; 5] = [Holds::Zero, Holds::Below(4), Holds::Below(1000), Holds::Any, Holds::Most];
+
+impl Holds {
+    /// A hold for a node that may have this one at most.
+    fn hold(self, most: u32, random: &mut Random) -> u32 {
+        match self {
+            Holds::None | Holds::Zero => 0,
+            Holds::Below(limit) => most.min(random.below(limit) as u32),
+            Holds::Any => random.below(most as usize + 1) as u32,
+            Holds::Most => most,
+            Holds::Mixed => random.pick(&AT_A_NODE).hold(most, random),
+        }
+    }
+
+    /// Mixed or of one sort.
+    pub fn any(random: &mut Random) -> Holds {
+        if random.once_in(3) {
+            Holds::Mixed
+        } else {
+            random.pick(&AT_A_NODE)
+        }
+    }
+}
+
+impl Hall {
+    pub fn set_holds(&mut self, holds: Holds, random: &mut Random) {
+        self.holds = match holds {
+            Holds::None => vec![],
+            _ => self.most_holds().into_iter().map(|most| holds.hold(most, random)).collect(),
+        };
+    }
+
+    /// The highest hold that 34 lets each node have: any at the source and at a node without outgoing arcs.
+    fn most_holds(&self) -> Vec<u32> {
+        let mut most = vec![TOP; self.nodes];
+        for (tail, _, length) in &self.arcs {
+            most[*tail] = most[*tail].min(MOST_LENGTH - length);
+        }
+        most[self.source] = TOP;
+        most
+    }
 }
 
 #[derive(Clone, Copy, Debug, PartialEq, Eq)]
@@ -117,7 +176,7 @@ pub fn regular(shape: Shape, nodes: usize, random: &mut Random) -> Hall {
     for arc in &mut arcs {
         arc.2 = random.below(262_144) as u32;
     }
-    Hall { nodes, source: 0, arcs }
+    Hall { nodes, source: 0, arcs, holds: vec![] }
 }
 
 /// Wide and narrow shapes are equally frequent.
@@ -129,7 +188,7 @@ pub fn any_shape(random: &mut Random) -> Shape {
     }
 }
 
-/// A hall of any kind: arcs left out, in any order, with lengths of a kind.
+/// A hall of any kind: arcs left out, in any order, with lengths of a kind. One in three has holds.
 pub fn any(most_nodes: usize, random: &mut Random) -> Hall {
     let nodes = 1 + random.below(most_nodes);
     let mut arcs = any_shape(random).arcs_within_limit(nodes, random);
@@ -149,5 +208,9 @@ pub fn any(most_nodes: usize, random: &mut Random) -> Hall {
     if random.once_in(20) {
         arcs.iter_mut().for_each(|arc| arc.2 = 262_143);
     }
-    Hall { nodes, source: random.below(nodes), arcs }
+    let mut hall = Hall { nodes, source: random.below(nodes), arcs, holds: vec![] };
+    if random.once_in(3) {
+        hall.set_holds(Holds::any(random), random);
+    }
+    hall
 }

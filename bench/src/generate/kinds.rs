@@ -16,12 +16,12 @@ pub fn words(random: &mut Random) -> Vec<u32> {
     sheets::with_payloads(&kinds, random)
 }
 
-/// A kind from 1 to 7, and at times any.
+/// A kind that has a case, and at times any.
 fn any(random: &mut Random) -> usize {
-    if random.once_in(4) {
+    if random.once_in(6) {
         random.below(KINDS)
     } else {
-        1 + random.below(7)
+        random.pick(&[1, 2, 3, 13, 4, 5, 6, 7])
     }
 }
 

@@ -1,7 +1,7 @@
 //! Sheets: a hall, a division and spans as words, accepted ones and noise.
 
 use super::divisions::{Division, Nesting, NESTINGS};
-use super::halls::{self, Hall, Shape};
+use super::halls::{self, Hall, Holds, Shape};
 use super::random::Random;
 
 #[derive(Clone, Copy, Debug, PartialEq, Eq)]
@@ -31,6 +31,7 @@ impl Spans {
 pub fn words(hall: &Hall, division: &Division, spans: Spans, random: &mut Random) -> Vec<u32> {
     let mut words = vec![1 << 28 | hall.nodes as u32, 2 << 28 | hall.source as u32];
     words.extend((0..division.height()).map(|_| 3 << 28 | spans.span(random)));
+    words.extend(hall.holds.iter().map(|hold| 13 << 28 | hold));
     for (tail, head, length) in &hall.arcs {
         words.extend([4 << 28 | (*tail as u32) << 10 | *head as u32, 5 << 28 | length]);
     }
@@ -65,27 +66,56 @@ pub fn flat(random: &mut Random) -> Vec<u32> {
 
 /// A sheet of the benchmark: a hall, a division and spans of these kinds.
 pub fn regular(shape: Shape, nesting: Nesting, spans: Spans, nodes: usize) -> Vec<u8> {
+    regular_with(Holds::None, shape, nesting, spans, nodes)
+}
+
+/// The same sheet with holds of this kind.
+pub fn regular_with(holds: Holds, shape: Shape, nesting: Nesting, spans: Spans, nodes: usize) -> Vec<u8> {
     let mut random = Random::new(9);
-    let hall = halls::regular(shape, nodes, &mut random);
+    let mut hall = halls::regular(shape, nodes, &mut random);
+    hall.set_holds(holds, &mut Random::new(13));
     let division = nesting.full(hall.arcs.len(), &mut random);
     bytes(&words(&hall, &division, spans, &mut random))
 }
 
-/// A sheet of full size: up to 2,048 arcs, between 1,024 nodes or so few that each has as many as the shape gives it.
+/// A sheet of full size: up to 2,048 arcs, between 1,024 nodes or so few that each has as many as the shape gives it. One in three has holds.
 pub fn full(random: &mut Random) -> Vec<u32> {
     let shape = halls::any_shape(random);
     let nodes = random.pick(&[shape.full_nodes(), halls::MOST_NODES]);
-    let hall = halls::regular(shape, nodes, random);
+    let mut hall = halls::regular(shape, nodes, random);
+    if random.once_in(3) {
+        hall.set_holds(Holds::any(random), random);
+    }
     let division = random.pick(&NESTINGS).full(hall.arcs.len(), random);
     words(&hall, &division, random.pick(&SPANS), random)
 }
+
+/// An accepted sheet with as many words as there can be: 15 spans, 1,024 holds, 2,048 arcs and 4,094 regions.
+pub fn largest(random: &mut Random) -> Vec<u32> {
+    let shape = random.pick(&[Shape::Grid, Shape::Rings, Shape::Random, Shape::WideGrid, Shape::WideRandom]);
+    let mut hall = halls::regular(shape, halls::MOST_NODES, random);
+    hall.set_holds(Holds::any(random), random);
+    words(&hall, &Division::largest(random), random.pick(&SPANS), random)
+}
+
+/// The same, or every second time with one region more.
+pub fn largest_or_above(random: &mut Random) -> Vec<u32> {
+    let mut words = largest(random);
+    if random.once_in(2) {
+        words.push(7 << 28);
+    }
+    words
+}
+
+/// Numbers of bytes about the limit of today and that of before request 2026-08.
+pub const LENGTHS: [usize; 8] = [32_824, 32_828, 32_829, 32_832, 36_920, 36_924, 36_925, 36_928];
 
 /// Bytes without a form, words of any kind, or words whose kinds are in order and whose payloads are small or anything.
 pub fn noise(random: &mut Random) -> Vec<u8> {
     match random.below(8) {
         0 => (0..random.below(80)).map(|_| random.word() as u8).collect(),
         1 => bytes(&(0..random.below(20)).map(|_| random.word()).collect::<Vec<u32>>()),
-        2 => (0..random.pick(&[32_824, 32_828, 32_829, 32_832])).map(|_| random.word() as u8).collect(),
+        2 => (0..random.pick(&LENGTHS)).map(|_| random.word() as u8).collect(),
         _ => bytes(&ordered_noise(random)),
     }
 }
@@ -93,17 +123,23 @@ pub fn noise(random: &mut Random) -> Vec<u8> {
 fn ordered_noise(random: &mut Random) -> Vec<u32> {
     let mut kinds = vec![1, 2];
     kinds.extend(vec![3; random.below(4)]);
+    kinds.extend(vec![13; random.pick(&[0, 0, 1, 2, 3])]);
     kinds.extend([4, 5].repeat(random.below(4)));
     kinds.extend((0..random.below(8)).map(|_| 6 + random.below(2)));
     with_payloads(&kinds, random)
 }
 
-/// Words of these kinds, with payloads that are small or anything.
+/// Words of these kinds, with payloads that are small or anything. Where there are holds and kind 1 comes first, there are mostly as many nodes.
 pub fn with_payloads(kinds: &[usize], random: &mut Random) -> Vec<u32> {
     let whole = random.once_in(4);
     let small = 1 + random.below(16);
     let mut payload = |kind| if whole { random.word() >> 4 } else { noise_payload(kind, small, random) };
-    kinds.iter().map(|kind| (*kind as u32) << 28 | payload(*kind)).collect()
+    let mut words: Vec<u32> = kinds.iter().map(|kind| (*kind as u32) << 28 | payload(*kind)).collect();
+    let holds = kinds.iter().filter(|kind| **kind == 13).count();
+    if holds > 0 && kinds[0] == 1 && !random.once_in(4) {
+        words[0] = 1 << 28 | holds as u32;
+    }
+    words
 }
 
 fn noise_payload(kind: usize, small: usize, random: &mut Random) -> u32 {

@@ -166,7 +166,7 @@ fn count_damaged(table: &mut [u32], sheet: &Sheet, random: &mut Random) {
 
 /// Nodes fed by other arcs that fit their labels: another good table, or arcs that run round a ring without length.
 fn other_feeds(table: &mut [u32], sheet: &Sheet, random: &mut Random) {
-    for (number, arc) in sheet.arcs().enumerate() {
+    for (number, arc) in sheet.taken_arcs().enumerate() {
         let tail = table[label_at(arc.tail)] & TOP;
         let fits = tail != TOP && tail + arc.length == table[label_at(arc.head)] & TOP;
         if fits && arc.head != sheet.source() && random.once_in(2) {

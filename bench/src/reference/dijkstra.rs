@@ -1,4 +1,5 @@
-//! Plain Dijkstra with the heap of the standard library.
+//! Plain Dijkstra with the heap of the standard library. A route that goes on from a node has this node between its ends, so that its hold is charged there
+//! (`travel.rs`); nothing is added to an arc.
 
 use super::judge::MOST_EACH_WAY;
 use super::sheet::Sheet;
@@ -29,9 +30,10 @@ pub fn distances(sheet: &Sheet) -> Distances {
         if label > labels[node as usize] {
             continue;
         }
+        let passing = if node as usize == sheet.source() { 0 } else { sheet.hold(node as usize) };
         for number in outgoing[node as usize].into_iter().take_while(|number| *number != TOP) {
             let arc = arcs[number as usize];
-            let sum = label + arc.length;
+            let sum = label + passing + arc.length;
             if sum < labels[arc.head] {
                 labels[arc.head] = sum;
                 feeds[arc.head] = number;

@@ -1,9 +1,38 @@
-//! The refusals 1 to 14, one after the other.
+//! The refusals 1 to 14 and 34, one after the other.
 
 use super::sheet::{is_leaf, kind, leaf_arc, parent, payload, words, Sheet};
 
 /// The most arcs out of a node, and the most into it.
 pub const MOST_EACH_WAY: usize = 4;
+
+pub const MOST_BYTES: usize = 36_924;
+pub const MOST_LENGTH: u32 = 262_143;
+
+/// What requests have changed in the judge: the most arcs out of a node and into it, `MOST_EACH_WAY` at most and 2 before request 2026-01; and whether a sheet
+/// may have holds, and more bytes for them, which it may not before request 2026-08.
+#[derive(Clone, Copy)]
+pub struct Rules {
+    pub each_way: usize,
+    pub holds: bool,
+}
+
+pub const TODAY: Rules = Rules { each_way: MOST_EACH_WAY, holds: true };
+
+impl Rules {
+    fn most_bytes(self) -> usize {
+        if self.holds {
+            MOST_BYTES
+        } else {
+            32_828
+        }
+    }
+
+    /// "A number of hold words other than 0 or the payload of kind 1".
+    fn wrong_holds(self, sheet: &Sheet) -> bool {
+        let right = self.holds && sheet.holds().len() == sheet.nodes();
+        !(right || sheet.holds().is_empty())
+    }
+}
 
 /// An accepted sheet, with the height of each region.
 pub struct Accepted {
@@ -16,30 +45,31 @@ pub type Judged = Result<Accepted, u32>;
 
 type Test = (u32, fn(&Sheet) -> bool);
 
-const BEFORE_CROWDED: [Test; 7] = [
+const BEFORE_CROWDED: [Test; 8] = [
     (3, bit_set),
     (4, |sheet| sheet.nodes() < 1 || sheet.nodes() > 1024),
     (5, |sheet| sheet.source() >= sheet.nodes()),
     (6, |sheet| sheet.spans().iter().any(|word| payload(*word) < 1 || payload(*word) > 1_000_000)),
     (7, |sheet| sheet.spans().len() > 15 || sheet.arc_count() > 2048 || sheet.regions().len() > 4094),
     (8, |sheet| sheet.arcs().any(|arc| arc.tail >= sheet.nodes() || arc.head >= sheet.nodes())),
-    (9, |sheet| sheet.arcs().any(|arc| arc.length > 262_143)),
+    (9, |sheet| sheet.arcs().any(|arc| arc.length > MOST_LENGTH)),
+    (34, |sheet| !sheet.holds().is_empty() && sheet.taken_arcs().any(|arc| arc.length > MOST_LENGTH)),
 ];
 
 const AFTER_CROWDED: [Test; 3] = [(11, wrong_parent), (12, wrong_leaves), (13, childless)];
 
 pub fn accepted(bytes: &[u8]) -> Judged {
-    accepted_within(MOST_EACH_WAY, bytes)
+    accepted_by(TODAY, bytes)
 }
 
-/// The same with at most so many arcs out of a node and into it, `MOST_EACH_WAY` at most. Before request 2026-01 it was 2.
-pub fn accepted_within(most: usize, bytes: &[u8]) -> Judged {
-    if bytes.len() % 4 != 0 || bytes.len() > 32_828 {
+/// The same by these rules.
+pub fn accepted_by(rules: Rules, bytes: &[u8]) -> Judged {
+    if bytes.len() % 4 != 0 || bytes.len() > rules.most_bytes() {
         return Err(1);
     }
-    let sheet = Sheet::in_order(words(bytes)).ok_or(2u32)?;
+    let sheet = Sheet::in_order(words(bytes)).filter(|sheet| !rules.wrong_holds(sheet)).ok_or(2u32)?;
     passes(&sheet, &BEFORE_CROWDED)?;
-    if crowded(most, &sheet) {
+    if crowded(rules.each_way, &sheet) {
         return Err(10);
     }
     passes(&sheet, &AFTER_CROWDED)?;

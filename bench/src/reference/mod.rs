@@ -12,6 +12,7 @@ pub mod procedure;
 pub mod route;
 pub mod sheet;
 pub mod table;
+pub mod travel;
 pub mod work;
 
 use judge::{accepted, Judged};
@@ -81,16 +82,12 @@ fn resumable(accepted: judge::Accepted, table: &[u32]) -> Judged {
 
 /// The canonical form by the request's sentence.
 pub fn canonical(bytes: &[u8], out: &mut [u8]) -> Answer {
-    canonical_of(accepted(bytes), bytes.len(), out, |sheet, out| {
-        for (place, word) in out.chunks_exact_mut(4).zip(canonical::words(sheet)) {
-            place.copy_from_slice(&word.to_be_bytes());
-        }
-    })
+    canonical_of(accepted(bytes), out)
 }
 
 /// The same, written for speed.
 pub fn canonical_linear(bytes: &[u8], out: &mut [u8]) -> Answer {
-    canonical_of(accepted(bytes), bytes.len(), out, linear::write)
+    canonical_linear_of(accepted(bytes), out)
 }
 
 /// Distances and feeding arcs by Dijkstra's procedure, in a table whose counts are 0.
@@ -101,7 +98,7 @@ pub fn run_dijkstra(bytes: &[u8], table: &mut [u32]) -> Answer {
     }
 }
 
-/// The calls on a sheet that has been judged, by whichever limit, and with whichever choice among equal keys.
+/// The calls on a sheet that has been judged, by whichever rules, and with whichever choice among equal keys.
 pub fn judge_of(judged: Judged) -> Answer {
     match judged {
         Ok(_) => Answer::Accepted,
@@ -145,12 +142,26 @@ pub fn route_of(judged: Judged, table: &[u32], node: u32, buffer: &mut [u32]) ->
     }
 }
 
+pub fn canonical_of(judged: Judged, out: &mut [u8]) -> Answer {
+    written_of(judged, out, |sheet, out| {
+        for (place, word) in out.chunks_exact_mut(4).zip(canonical::words(sheet)) {
+            place.copy_from_slice(&word.to_be_bytes());
+        }
+    })
+}
+
+pub fn canonical_linear_of(judged: Judged, out: &mut [u8]) -> Answer {
+    written_of(judged, out, linear::write)
+}
+
 /// The form has the sheet's own length.
-fn canonical_of(judged: Judged, length: usize, out: &mut [u8], write: impl FnOnce(&Sheet, &mut [u8])) -> Answer {
+fn written_of(judged: Judged, out: &mut [u8], write: impl FnOnce(&Sheet, &mut [u8])) -> Answer {
+    let length = |sheet: &Sheet| 4 * (sheet.before_regions().len() + sheet.regions().len());
     match judged {
         Err(number) => Answer::Refused(number),
-        Ok(_) if out.len() < length => Answer::Refused(31),
+        Ok(accepted) if out.len() < length(&accepted.sheet) => Answer::Refused(31),
         Ok(accepted) => {
+            let length = length(&accepted.sheet);
             write(&accepted.sheet, &mut out[..length]);
             Answer::Written(length as u32)
         }

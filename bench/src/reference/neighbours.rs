@@ -1,7 +1,7 @@
 //! Request 2026-05: which kind may follow which, as a list with one case per kind, in the order of the sheet's description. `Sheet::in_order` says the same
-//! by sections; neither uses the other.
+//! by sections; neither uses the other. Since request 2026-08 refusal 2 also looks at the number of holds, which is no matter of neighbours.
 
-use super::sheet::kind;
+use super::sheet::{kind, payload};
 
 /// How many kinds there are. Those without a case are in no sheet that is in order.
 pub const KINDS: usize = 16;
@@ -13,8 +13,9 @@ pub const PLACES: usize = KINDS * (KINDS + 2);
 pub fn following(kind: usize) -> &'static [usize] {
     match kind {
         1 => &[2],
-        2 => &[3, 4, 6, 7],
-        3 => &[3, 4, 6, 7],
+        2 => &[3, 13, 4, 6, 7],
+        3 => &[3, 13, 4, 6, 7],
+        13 => &[13, 4, 6, 7],
         4 => &[5],
         5 => &[4, 6, 7],
         6 => &[6, 7],
@@ -28,7 +29,7 @@ pub fn may_be_first(kind: usize) -> bool {
 }
 
 pub fn may_be_last(kind: usize) -> bool {
-    matches!(kind, 2 | 3 | 5 | 6 | 7)
+    matches!(kind, 2 | 3 | 13 | 5 | 6 | 7)
 }
 
 /// What the list is asked of in a sheet: its first kind, two neighbouring kinds, its last kind.
@@ -78,6 +79,12 @@ pub fn places(words: &[u32]) -> impl Iterator<Item = Place> + '_ {
     let kind = |word: &u32| kind(*word) as usize;
     let pairs = words.windows(2).map(move |pair| Place::Pair(kind(&pair[0]), kind(&pair[1])));
     words.first().map(kind).map(Place::First).into_iter().chain(pairs).chain(words.last().map(kind).map(Place::Last))
+}
+
+/// Of all words of a sheet as many are of kind 13 as its first word says, or none.
+pub fn holds_fit(words: &[u32]) -> bool {
+    let holds = words.iter().filter(|word| kind(**word) == 13).count();
+    holds == 0 || words.first().is_some_and(|first| payload(*first) as usize == holds)
 }
 
 /// The sheet has words, and all its places are allowed.

@@ -1,4 +1,5 @@
-//! Request 2026-06: "A table is held to be a possible state if", clause by clause.
+//! Request 2026-06: "A table is held to be a possible state if", clause by clause. Since request 2026-08 the length of an arc is here that which the procedure
+//! takes, with its tail's hold.
 
 use super::sheet::{payload, Arc, Sheet};
 use super::table::{feed_at, key_at, label_at, Counts};
@@ -65,7 +66,7 @@ impl State {
         State {
             source: sheet.source(),
             spans: sheet.spans().len(),
-            arcs: sheet.arcs().collect(),
+            arcs: sheet.taken_arcs().collect(),
             labels: nodes.clone().map(|node| payload(table[label_at(node)])).collect(),
             feeds: nodes.map(|node| payload(table[feed_at(node)])).collect(),
             keyed: (0..sheet.arc_count()).map(|arc| payload(table[key_at(sheet.nodes(), arc)]) == 1).collect(),

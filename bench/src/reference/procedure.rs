@@ -126,7 +126,7 @@ impl Run {
         let sheet = &accepted.sheet;
         let regions = regions(accepted, ties);
         let trees = vec![NONE; 2 * regions.len()];
-        let arcs: Vec<Arc> = sheet.arcs().collect();
+        let arcs: Vec<Arc> = sheet.taken_arcs().collect();
         let mut leaves = vec![0u16; arcs.len()];
         for (number, row) in regions.iter().enumerate().filter(|(_, row)| row.is_leaf()) {
             leaves[row.span_or_arc as usize] = number as u16;

@@ -3,7 +3,7 @@
 use super::dijkstra::distances;
 use super::sheet::{kind, payload, Arc, Sheet};
 use super::table::{feed_at, fits, label_at, length, HEADER};
-use super::TOP;
+use super::{travel, TOP};
 
 /// The arcs from the source to a node, nothing for an unreached node, or a refusal. The buffer is left to the caller.
 pub fn arcs(sheet: &Sheet, table: &[u32], node: u32) -> Result<Option<Vec<u32>>, u32> {
@@ -49,7 +49,7 @@ fn fed_well(sheet: &Sheet, arcs: &[Arc], labels: &[u32], feeds: &[u32], node: us
         return feeds[node] == TOP;
     }
     match chain(sheet, arcs, feeds, node) {
-        Some(route) => route.iter().map(|arc| arcs[*arc as usize].length).sum::<u32>() == labels[node],
+        Some(route) => travel::length(sheet, arcs, &route) == labels[node],
         None => false,
     }
 }

@@ -2,6 +2,7 @@
 
 pub struct Sheet {
     words: Vec<u32>,
+    holds_at: usize,
     arcs_at: usize,
     regions_at: usize,
 }
@@ -19,17 +20,23 @@ pub fn words(bytes: &[u8]) -> Vec<u32> {
     bytes.chunks_exact(4).map(|word| u32::from_be_bytes([word[0], word[1], word[2], word[3]])).collect()
 }
 
+/// The place after the words of a kind that stand together from a place on.
+fn past(words: &[u32], from: usize, wanted: u32) -> usize {
+    from + words[from..].iter().take_while(|word| kind(**word) == wanted).count()
+}
+
 impl Sheet {
-    /// The sections of a sheet whose kinds are in order, otherwise nothing.
+    /// The sections of a sheet whose kinds are in order, otherwise nothing. How many holds there are is not looked at.
     pub fn in_order(words: Vec<u32>) -> Option<Sheet> {
         if words.len() < 2 || kind(words[0]) != 1 || kind(words[1]) != 2 {
             return None;
         }
-        let arcs_at = 2 + words[2..].iter().take_while(|word| kind(**word) == 3).count();
+        let holds_at = past(&words, 2, 3);
+        let arcs_at = past(&words, holds_at, 13);
         let pairs = words[arcs_at..].chunks_exact(2).take_while(|pair| kind(pair[0]) == 4 && kind(pair[1]) == 5).count();
         let regions_at = arcs_at + 2 * pairs;
         let rest_fits = words[regions_at..].iter().all(|word| matches!(kind(*word), 6 | 7));
-        rest_fits.then_some(Sheet { words, arcs_at, regions_at })
+        rest_fits.then_some(Sheet { words, holds_at, arcs_at, regions_at })
     }
 
     pub fn nodes(&self) -> usize {
@@ -41,7 +48,17 @@ impl Sheet {
     }
 
     pub fn spans(&self) -> &[u32] {
-        &self.words[2..self.arcs_at]
+        &self.words[2..self.holds_at]
+    }
+
+    /// The words of the holds, one for each node, or none.
+    pub fn holds(&self) -> &[u32] {
+        &self.words[self.holds_at..self.arcs_at]
+    }
+
+    /// "the hold in hundredths at nodes 0, 1, 2 and so on", 0 in a sheet without holds.
+    pub fn hold(&self, node: usize) -> u32 {
+        self.holds().get(node).map_or(0, |word| payload(*word))
     }
 
     /// The words of the arcs, two for each.
@@ -53,8 +70,15 @@ impl Sheet {
         self.arc_words().len() / 2
     }
 
+    /// The arcs with their lengths as written.
     pub fn arcs(&self) -> impl Iterator<Item = Arc> + '_ {
         self.arc_words().chunks_exact(2).map(|pair| Arc::of(pair[0], pair[1]))
+    }
+
+    /// The arcs as the procedure takes them: "an arc's length with its tail's hold added (0 for the source)".
+    pub fn taken_arcs(&self) -> impl Iterator<Item = Arc> + '_ {
+        let added = |tail| if tail == self.source() { 0 } else { self.hold(tail) };
+        self.arcs().map(move |arc| Arc { length: added(arc.tail) + arc.length, ..arc })
     }
 
     /// The most arcs out of a node or into one.
@@ -67,7 +91,7 @@ impl Sheet {
         counts.iter().flatten().copied().max().unwrap_or(0)
     }
 
-    /// The words of kinds 1 to 5.
+    /// The words of kinds 1 to 5 and 13.
     pub fn before_regions(&self) -> &[u32] {
         &self.words[..self.regions_at]
     }

@@ -1,5 +1,5 @@
--- The lowest refusal that applies: lists of cases one after the other, a list of which none applies, a test that applies less often, and the number of a
--- refusal that applies.
+-- The lowest refusal that applies: lists of cases one after the other, a list of which none applies, a test that applies less often, one that stands twice, and
+-- the number of a refusal that applies.
 use Prim.Native.Nat.{ℕ, zero, suc}
 use mathlib.Core.Bool.{Bool, false, cond}
 use mathlib.Core.List.{List, [], _∷_, _++_}
@@ -35,6 +35,12 @@ pub lowest-less : (ys : List Case) (r : Refusal) {more less : Bool} → (more �
     → lowest (xs ++ (r when more ∷ ys)) accepted ≢ refused r → lowest (xs ++ (r when less ∷ ys)) answer ≡ lowest (xs ++ (r when more ∷ ys)) answer
 lowest-less ys r {more} off answer [] other = by-truth more (λ h. absurd (other (rw h))) (λ h. rw (h, off h))
 lowest-less ys r off answer (x ∷ xs) other = by-truth (x .applies) (λ h. rw h) (λ h. rw h (lowest-less ys r off answer xs (rw h at other)))
+
+-- a case right after one with the same test is never the lowest
+pub lowest-twice : (ys : List Case) (r r′ : Refusal) (test : Bool) (answer : Answer) (xs : List Case)
+    → lowest (xs ++ (r when test ∷ r′ when test ∷ ys)) answer ≡ lowest (xs ++ (r when test ∷ ys)) answer
+lowest-twice ys r r′ test answer [] = by-truth test (λ h. rw h) (λ h. rw h)
+lowest-twice ys r r′ test answer (x ∷ xs) = ap (λ (a : Answer). cond (x .applies) (refused (x .refusal)) a) (lowest-twice ys r r′ test answer xs)
 
 -- a number other than 0 is a refusal
 a-refusal : (n : ℕ) → (n ≡ 0 → ⊥) → numbered n ≡ refused (input n)

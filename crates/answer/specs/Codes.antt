@@ -17,7 +17,8 @@ codeOf (written bytes) = 131072 + bytes
 codeOf (refused refusal) = numberOf refusal
 
 -- the numbers under "From the state", and 2026-06: "32, table not of the longer length or at fault as in 22, in the place of 21 and 22; 33, not a possible
--- state, after 32", which say state as those do; the others that a call answers stand under "From the input"
+-- state, after 32", which say state as those do. The others that a call answers stand under "From the input", or are placed by one that does: "This and every
+-- later new number says input or state as the number it is placed by does."
 abbrev pub fromState : ℕ → Bool
 fromState n = eqb n 21 || eqb n 22 || eqb n 23 || eqb n 24 || eqb n 25 || eqb n 32 || eqb n 33
 

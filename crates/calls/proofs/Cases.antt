@@ -6,18 +6,19 @@ use mathlib.Core.Bool.{true, false, false≢true}
 use mathlib.Core.List.{List, [], _∷_, _++_, map}
 use mathlib.Core.Path.{_≡_, refl}
 use native.Mathlib.Omega.{arith}
-use lib.ListN.{replicate}
-use Rattle.indices.specs.Columns.{column}
+use lib.ListN.{take, drop, replicate}
+use Rattle.indices.specs.Columns.{column, passing}
 use Rattle.indices.specs.Tests.{all, any, count, lead, least}
 use Rattle.sheet.specs.Words.{word, kind, payload, top, bytesOf}
-use Rattle.sheet.specs.Sections.{spansFrom, arcsFrom, regionWords}
+use Rattle.sheet.specs.Sections.{kindFrom, arcsFrom, regionWords}
 use Rattle.sheet.specs.Arcs.{tail}
 use Rattle.sheet.specs.Regions.{leafWord, parentWord, arcWord}
-use Rattle.sheet.proofs.Samples.{hallA, patient, onesBelow, byTwos, oneNode}
+use Rattle.sheet.proofs.Samples.{hallA, heldA, patient, onesBelow, byTwos, oneNode}
 use Rattle.answer.specs.Answer.{input, accepted, written, refused, lowest}
 use Rattle.procedure.specs.OfSheet.{divisionOf}
 use Rattle.canonical_form.specs.Numbering.{sooner, ancestor, holds, lowestArc, pathFor, path, newNumber, oldNumber}
 use Rattle.canonical_form.specs.Canonical.{newWord, frontWords, newWords, canonical}
+use Rattle.calls.specs.Halls.{hallWords}
 use Rattle.calls.specs.Canonical.{canonicalCall}
 use Rattle.calls.specs.Work.{allSpansOne, leavesOnRoot, reachedArcs, dividedUp, Work}
 
@@ -68,11 +69,15 @@ record Cases : Type 0 where
   -- nothing is claimed of a paused table: one leaf is worked, and three arcs have a reached tail
   paused-work : Work (bytesOf patient) patientPaused
   waiting : reachedArcs (bytesOf patient) patientPaused ≡ 3
+  -- request 2026-08: the holds are of the hall, and the spans are not
+  of-the-hall : hallWords (bytesOf heldA) ≡ 0x10000004 ∷ 0x20000000 ∷ 0xd0000064 ∷ 0xd000000a ∷ 0xd0000003 ∷ 0xd0000007 ∷ take 8 (drop 4 hallA)
 
 cases : Cases
-unfolding all count lead word kind payload top spansFrom arcsFrom regionWords tail leafWord parentWord allSpansOne leavesOnRoot reachedArcs dividedUp
+unfolding all column passing hallWords count lead word kind payload top kindFrom arcsFrom regionWords tail leafWord parentWord allSpansOne leavesOnRoot
+    reachedArcs dividedUp
 cases = record {
   ones = refl;
+  of-the-hall = refl;
   on-root = refl;
   tails = refl;
   up = refl;
@@ -104,6 +109,6 @@ record CopyCases : Type 0 where
   kept : canonicalCall (bytesOf oneNode) (replicate 13 7) .leaves (refused (input 31)) ≡ replicate 13 7
 
 copy-cases : CopyCases
-unfolding any count lead least column word kind payload top spansFrom arcsFrom regionWords leafWord parentWord arcWord divisionOf sooner ancestor holds
+unfolding any count lead least column word kind payload top kindFrom arcsFrom regionWords leafWord parentWord arcWord divisionOf sooner ancestor holds
     lowestArc pathFor path newNumber oldNumber newWord frontWords newWords canonical
 copy-cases = record { short = refl; fits = refl; answered = refl; filled = refl; kept = refl }

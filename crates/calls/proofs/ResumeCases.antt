@@ -9,8 +9,8 @@ use Rattle.indices.specs.Columns.{column}
 use Rattle.indices.specs.Tests.{all, any, count, lead, most}
 use Rattle.indices.specs.Steps.{upTo, times}
 use Rattle.sheet.specs.Words.{word, kind, payload, top, bytesOf}
-use Rattle.sheet.specs.Sections.{spansFrom, arcsFrom, regionWords}
-use Rattle.sheet.specs.Arcs.{tail, head, arcLength}
+use Rattle.sheet.specs.Sections.{kindFrom, arcsFrom, regionWords}
+use Rattle.sheet.specs.Arcs.{tail, head, arcLength, hold, charged, takenLength}
 use Rattle.sheet.specs.Heights.{heightIn, heightOf}
 use Rattle.sheet.specs.Regions.{leafWord, parentWord, arcWord}
 use Rattle.sheet.proofs.Samples.{hallA, patient, oneNode}
@@ -103,10 +103,11 @@ record LongCases : Type 0 where
   counts-read : counts (stateIn (graphOf (bytesOf hallA)) (divisionOf (bytesOf hallA)) pausedA) ≡ 1 ∷ 2 ∷ 1 ∷ 1 ∷ replicate 13 0 ++ (8 ∷ [])
 
 long-cases : LongCases
-unfolding all any count lead most upTo times column word kind payload top spansFrom arcsFrom regionWords tail head arcLength heightIn heightOf leafWord
-    parentWord arcWord leafOf graphOf divisionOf spansOf before choose minItemBelow minItem minKey write updateFor update updateArc updateOutgoing relax
-    clearKey processLeaf rewriteKey countAt countInner countRound processChild alive start hasEnded processForBy processBy roundBy afterBy nodeWords tableOf
-    keyWords isUsual isLong wrongLength runTable longRunTable filledTable wrongNode wrongKeys malformed hasKey ownIn keysOf labelsIn predecessorsIn stateIn
+unfolding all any count lead most upTo times column word kind payload top kindFrom arcsFrom regionWords tail head arcLength hold charged takenLength heightIn
+    heightOf leafWord parentWord arcWord leafOf graphOf divisionOf spansOf before choose minItemBelow minItem minKey write updateFor update updateArc
+    updateOutgoing relax clearKey processLeaf rewriteKey countAt countInner countRound processChild alive start hasEnded processForBy processBy roundBy
+    afterBy nodeWords tableOf keyWords isUsual isLong wrongLength runTable longRunTable filledTable wrongNode wrongKeys malformed hasKey ownIn keysOf labelsIn
+    predecessorsIn stateIn
 long-cases = record {
   forms = refl;
   no-arcs = refl;
@@ -175,9 +176,9 @@ record PossibleCases : Type 0 where
   status : map (refusal hallA) ((pausedA with 0x80000001 at 0) ∷ (endedA 0xb0000003 0xb0000003 with 0x80000000 at 0) ∷ []) ≡ replicate 2 (refused (state 33))
 
 possible-cases : PossibleCases
-unfolding all any count lead column word kind payload top spansFrom arcsFrom regionWords tail head arcLength graphOf isLong wrongNode wrongKeys malformed
-    hasKey labelsIn predecessorsIn leadsBack sourceTest unfedTest fedBy relaxedTest ledTest boundTest keylessTest doneTest soundTest countsTest
-    statusTest possible? notLong notPossible
+unfolding all any count lead column word kind payload top kindFrom arcsFrom regionWords tail head arcLength hold charged takenLength graphOf isLong wrongNode
+    wrongKeys malformed hasKey labelsIn predecessorsIn leadsBack sourceTest unfedTest fedBy relaxedTest ledTest boundTest keylessTest doneTest soundTest
+    countsTest statusTest possible? notLong notPossible
 possible-cases = record {
   possible = refl;
   not-long = refl;
@@ -208,10 +209,10 @@ record MadeCases : Type 0 where
   kept : resumeCall (bytesOf hallA) pausedA 4294967295 .leaves (refused (state 33)) ≡ pausedA
 
 made-cases : MadeCases
-unfolding any count lead most upTo times column word kind payload top spansFrom arcsFrom regionWords tail head arcLength heightIn heightOf leafWord
-    parentWord arcWord leafOf graphOf divisionOf spansOf before choose minItemBelow minItem minKey write updateFor update updateArc updateOutgoing relax
-    clearKey processLeaf rewriteKey countAt countInner countRound processChild alive hasEnded processForBy processBy roundBy nodeWords tableOf keyWords
-    labelsIn predecessorsIn longTable hasKey ownIn keysOf stateIn resumed resumedTable
+unfolding any count lead most upTo times column word kind payload top kindFrom arcsFrom regionWords tail head arcLength hold charged takenLength heightIn
+    heightOf leafWord parentWord arcWord leafOf graphOf divisionOf spansOf before choose minItemBelow minItem minKey write updateFor update updateArc
+    updateOutgoing relax clearKey processLeaf rewriteKey countAt countInner countRound processChild alive hasEnded processForBy processBy roundBy nodeWords
+    tableOf keyWords labelsIn predecessorsIn longTable hasKey ownIn keysOf stateIn resumed resumedTable
 made-cases = record {
   none-more = refl;
   to-its-end = refl;

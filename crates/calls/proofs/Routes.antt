@@ -18,6 +18,7 @@ use Rattle.judgement.specs.Judgement.{refusals, judgement, Accepted}
 use Rattle.procedure.specs.OfSheet.{graphOf}
 use Rattle.theory_shortest.proofs.WellFormed.{accepted-well-formed}
 use Rattle.theory_shortest.proofs.TableTest.{test-shortest, shortest-test}
+use Rattle.theory_shortest.proofs.Travel.{for-sheet}
 use Rattle.calls.specs.Tables.{wrongLength, labelIn, labelsIn, predecessorsIn}
 use Rattle.calls.specs.Routes.{nodeOutside, malformed, isPaused, ShortestTable, notShortest, tableRefusals, routeTo, foundRoute, routeCall, routeAnswer}
 use Rattle.calls.specs.Routes.{TableKnown}
@@ -74,8 +75,8 @@ module _ (b table : List ℕ) where
   unfolding notShortest
   shortest-agrees ok =
       let good = accepted-well-formed b ok .graph in (
-        λ e. test-shortest (graphOf b) good (labelsIn (nodeCount b) table) (predecessorsIn (nodeCount b) table) (not-false _ e),
-        λ s. ap not (shortest-test (graphOf b) good (labelsIn (nodeCount b) table) (predecessorsIn (nodeCount b) table) s),
+        λ e. for-sheet b .0 (test-shortest (graphOf b) good (labelsIn (nodeCount b) table) (predecessorsIn (nodeCount b) table) (not-false _ e)),
+        λ s. ap not (shortest-test (graphOf b) good (labelsIn (nodeCount b) table) (predecessorsIn (nodeCount b) table) (for-sheet b .1 s)),
       )
 
   module _ (node : ℕ) (buffer : List ℕ) where

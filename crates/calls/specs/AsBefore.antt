@@ -1,20 +1,34 @@
 -- What requests leave as it was before them, one by one: all else is today's on both sides, the choice among equal keys (2026-07) too. Definitions.
 use Prim.Native.Nat.{ℕ, _+_, _*_}
+use mathlib.Core.Bool.{true, false, not}
 use mathlib.Core.Path.{_≡_}
-use mathlib.Core.List.{List, [], _∷_}
+use mathlib.Core.List.{List, [], _∷_, _++_}
 use lib.ListN.{length, drop}
 use Rattle.indices.specs.Columns.{at}
+use Rattle.indices.specs.Steps.{if_then_else_}
 use Rattle.indices.specs.Tests.{total}
-use Rattle.sheet.specs.Limits.{mostSpans}
-use Rattle.sheet.specs.Sections.{nodeCount}
-use Rattle.judgement.specs.Judgement.{refusalsUnder, judgementUnder}
-use Rattle.procedure.specs.OfSheet.{graphOf, divisionOf, spansOf}
-use Rattle.procedure.specs.State.{State}
-use Rattle.procedure.specs.Procedure.{ended, countInnerBefore, afterBy}
-use Rattle.procedure.specs.Table.{innerPlace, updatesPlace, headerLength, tableOf}
+use Rattle.sheet.specs.Limits.{mostBytesBefore, mostSpans, mostArcsEachWay}
+use Rattle.sheet.specs.Sections.{nodeCount, spanCount, arcsAt, arcCount, regionWords}
+use Rattle.sheet.specs.Arcs.{arcLength}
+use Rattle.answer.specs.Answer.{input, state, Answer, accepted, refused, Case, _when_, isRefused, lowest}
+use Rattle.judgement.specs.Form.{wrongSizeUnder, wrongSize, wrongSections, bitSet}
+use Rattle.judgement.specs.Arcs.{endsOutside, lengthsOutside, tooManyAtNode}
+use Rattle.judgement.specs.Judgement.{countRefusals, divisionRefusals, refusalsUnder, judgementUnder, judgement, Accepted}
+use Rattle.procedure.specs.Graph.{Graph}
+use Rattle.procedure.specs.OfSheet.{graphWith, graphOf, divisionOf, spansOf}
+use Rattle.procedure.specs.State.{State, counts}
+use Rattle.procedure.specs.Procedure.{ended, countInnerBefore, afterBy, after, more}
+use Rattle.procedure.specs.Table.{innerPlace, updatesPlace, headerLength, tableOf, keyWords}
+use Rattle.procedure.specs.Travel.{sumOver, travelTime}
+use Rattle.theory_shortest.specs.TableTest.{settled?}
 use Rattle.calls.specs.Calls.{Call, callAnswer, lentAfter}
-use Rattle.calls.specs.Tables.{countIn}
-use Rattle.calls.specs.Runs.{runTable}
+use Rattle.calls.specs.Tables.{isLong, wrongLength, statusSays, statusIn, countIn, labelsIn, predecessorsIn}
+use Rattle.calls.specs.Runs.{runTable, runAnswer, tableAfter}
+use Rattle.calls.specs.Routes.{nodeOutside, malformed, isPaused, foundRoute, leftBy, routeAnswer, bufferAfter}
+use Rattle.calls.specs.Canonical.{canonicalCall, canonicalAnswer, outAfter}
+use Rattle.calls.specs.LongTables.{longTable, stateIn}
+use Rattle.calls.specs.Possible.{possible?}
+use Rattle.calls.specs.Resume.{notLong, resumeAnswer, resumeTable}
 
 -- 2026-01: "Every sheet accepted before gets the same table as before".
 -- Whether a node may have `few` arcs each way or `most`, the sheet is judged alike, and every call on it, whatever is lent to it, has the same answer and
@@ -48,3 +62,79 @@ pub record AddsUp (b : List ℕ) (k : ℕ) : Type 0 where
   pub updates : countIn (tableBefore b k) 3 ≡ countIn (runTable b k) updatesPlace
   -- "Then per node a kind 9 word, its label, and a kind 10 word, its feeding arc."
   pub nodes : drop 9 (tableBefore b k) ≡ drop headerLength (runTable b k)
+
+-- 2026-08: "or none": a sheet without holds. Its refusals before the request: another limit of bytes, 2 by the order of the sections alone, and no 34.
+unfoldable pub refusalsUnheld : List ℕ → List Case
+refusalsUnheld b =
+    (input 1 when wrongSizeUnder mostBytesBefore b ∷ input 2 when wrongSections b ∷ input 3 when bitSet b ∷ [])
+    ++ (countRefusals b
+    ++ ((input 8 when endsOutside b ∷ input 9 when lengthsOutside b ∷ input 10 when tooManyAtNode mostArcsEachWay b ∷ [])
+    ++ divisionRefusals (regionWords b) (arcCount b) (spanCount b)))
+
+-- the graph before it: an arc's length is the one that is written
+abbrev pub graphUnheld : List ℕ → Graph
+graphUnheld b = graphWith (arcLength b) b
+
+-- and what is made of the graph by the calls that work on it. Today's calls are these on `graphOf b`: `run-on`, `route-on` and `resume-on`,
+-- crates/theory_calls/proofs/WithoutHolds.antt.
+module _ (g : Graph) (b : List ℕ) where
+  abbrev pub runTableOn : ℕ → List ℕ
+  runTableOn k =
+      let s = after g (divisionOf b) (spansOf b) k in
+      tableOf (ended g (divisionOf b) s) (counts s) (s .labels) (s .predecessors) (nodeCount b)
+
+  abbrev pub runCallOn : ℕ → List ℕ → Call
+  runCallOn k table =
+      let keys = keyWords (after g (divisionOf b) (spansOf b) k .queues .own) (arcCount b) in
+      let made = if isLong b table then runTableOn k ++ keys else runTableOn k in record {
+        later = state 21 when wrongLength b table ∷ [];
+        good = statusSays (statusIn (runTableOn k));
+        leaves = λ answer. if isRefused answer then table else made;
+      }
+
+  -- the chain of feeding arcs does not look at lengths
+  abbrev pub routeCallOn : List ℕ → ℕ → List ℕ → Call
+  routeCallOn table node buffer = record {
+    later = input 15 when nodeOutside b node ∷ state 21 when wrongLength b table ∷ state 22 when malformed b table ∷ state 23 when isPaused table
+        ∷ state 24 when not (settled? g (labelsIn (nodeCount b) table) (predecessorsIn (nodeCount b) table)) ∷ [];
+    good = foundRoute b table node buffer;
+    leaves = λ answer. leftBy b table answer node buffer;
+  }
+
+  abbrev pub resumeCallOn : List ℕ → ℕ → Call
+  resumeCallOn table k =
+      let made = longTable g (divisionOf b) (more g (divisionOf b) (spansOf b) k (stateIn g (divisionOf b) table)) in record {
+        later = state 32 when notLong b table ∷ state 33 when not (possible? g (spanCount b) table) ∷ [];
+        good = statusSays (statusIn made);
+        leaves = λ answer. if isRefused answer then table else made;
+      }
+
+-- a call before the request: its answer, and what it left
+module _ (b : List ℕ) (call : Call) where
+  abbrev pub answerUnheld : Answer
+  answerUnheld = callAnswer (refusalsUnheld b) call
+
+  abbrev pub leftUnheld : List ℕ
+  leftUnheld = lentAfter (refusalsUnheld b) call
+
+-- What is claimed of a sheet without holds whose byte count both limits refuse, or neither does: every call on it answers and leaves what it did before.
+pub record SameUnheld (b : List ℕ) : Type 0 where
+  pub judged : judgement b ≡ lowest (refusalsUnheld b) accepted
+  pub runs : (k : ℕ) (table : List ℕ) → let call = runCallOn (graphUnheld b) b k table in
+      (runAnswer b k table ≡ answerUnheld b call) × (tableAfter b k table ≡ leftUnheld b call)
+  pub routes : (table : List ℕ) (node : ℕ) (buffer : List ℕ) → let call = routeCallOn (graphUnheld b) b table node buffer in
+      (routeAnswer b table node buffer ≡ answerUnheld b call) × (bufferAfter b table node buffer ≡ leftUnheld b call)
+  pub resumes : (table : List ℕ) (k : ℕ) → let call = resumeCallOn (graphUnheld b) b table k in
+      (resumeAnswer b table k ≡ answerUnheld b call) × (resumeTable b table k ≡ leftUnheld b call)
+  pub copies : (out : List ℕ) → let call = canonicalCall b out in
+      (canonicalAnswer b out ≡ answerUnheld b call) × (outAfter b out ≡ leftUnheld b call)
+
+-- and of every sheet without holds
+pub record Unheld (b : List ℕ) : Type 0 where
+  -- its arcs stand right after the spans, so each word is read as what it was read as before
+  pub place : arcsAt b ≡ 2 + spanCount b
+  -- "its length is the sum of its arcs' lengths. Passing a node takes no time."
+  pub lengths : (way : List ℕ) → travelTime b way ≡ sumOver (arcLength b) way
+  pub same : wrongSize b ≡ wrongSizeUnder mostBytesBefore b → SameUnheld b
+  -- whose byte count the old limit alone refuses: it was refused as 1, and is not accepted now, since it has too many words of some kind
+  pub between : wrongSize b ≡ false → wrongSizeUnder mostBytesBefore b ≡ true → (lowest (refusalsUnheld b) accepted ≡ refused (input 1)) × (Accepted b → ⊥)

@@ -35,6 +35,7 @@ pub record Correct (b : List ℕ) : Type 0 where
   -- much work as request 2026-03 says
   pub tells : (k : ℕ) → Delivered b k (runTable b k)
   pub tells-long : (k : ℕ) → DeliveredLong b k (longRunTable b k)
-  -- any two accepted sheets with the same nodes, source and arcs have the same distances and unreached nodes in their tables left as ended
+  -- any two accepted sheets with the same nodes, source and arcs (2026-08: and holds) have the same distances and unreached nodes in their tables left as
+  -- ended
   pub agrees : (b′ : List ℕ) → Accepted b′ → hallWords b ≡ hallWords b′ → (k k′ : ℕ) → statusIn (runTable b k) ≡ 1 → statusIn (runTable b′ k′) ≡ 1
       → SameDistances b (runTable b k) b′ (runTable b′ k′)

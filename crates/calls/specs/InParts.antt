@@ -25,7 +25,7 @@ pub record Standing (b table : List ℕ) : Type 0 where
 abbrev pub CountsBelow : ℕ → List ℕ → Type 0
 CountsBelow n table = (i : ℕ) → i < countsLength → countIn table i < n
 
--- "the sheet with the same nodes, source, arcs and division but possibly other spans"
+-- "the sheet with the same nodes, source, arcs and division but possibly other spans", and 2026-08: "the same kind 13 words as well"
 pub record SameButSpans (b b′ : List ℕ) : Type 0 where
   pub hall : hallWords b ≡ hallWords b′
   pub division : regionWords b ≡ regionWords b′

@@ -25,7 +25,8 @@ module _ (g : Graph) (table : List ℕ) where
   abbrev pub tablePredecessors : List ℕ
   tablePredecessors = predecessorsIn (g .nodes) table
 
--- "A table is held to be a possible state if", of a sheet with so many spans:
+-- "A table is held to be a possible state if", of a sheet with so many spans. An arc's length is the one that the graph of the sheet has: 2026-08's "test of a
+-- possible state adds the same to an arc's length too".
 pub record Possible (g : Graph) (spans : ℕ) (table : List ℕ) : Type 0 where
   -- "the source is at 0, unfed"
   pub source-label : at (tableLabels g table) (g .source) ≡ 0

@@ -11,7 +11,7 @@ use Rattle.judgement.specs.Judgement.{refusals}
 use Rattle.procedure.specs.OfSheet.{graphOf, divisionOf, spansOf}
 use Rattle.procedure.specs.State.{State, counts}
 use Rattle.procedure.specs.Procedure.{ended as hasEnded, more}
-use Rattle.procedure.specs.Routes.{Shortest}
+use Rattle.procedure.specs.Travel.{ShortestFor}
 use Rattle.procedure.specs.Table.{countsLength}
 use Rattle.calls.specs.Calls.{Call, callAnswer, lentAfter}
 use Rattle.calls.specs.Tables.{isLong, statusSays, statusIn, countIn}
@@ -36,8 +36,8 @@ module _ (b table : List ℕ) where
   unfoldable pub resumedTable : ℕ → List ℕ
   resumedTable k = longTable (graphOf b) (divisionOf b) (resumed k)
 
-  -- after 1 to 14: "32, [..] in the place of 21 and 22; 33, [..] after 32". It "writes the new state over the old and answers as a run does"; of a refusal,
-  -- "Nothing lent changes."
+  -- after the refusals of the sheet: "32, [..] in the place of 21 and 22; 33, [..] after 32". It "writes the new state over the old and answers as a run
+  -- does"; of a refusal, "Nothing lent changes."
   abbrev pub resumeCall : ℕ → Call
   resumeCall k = record {
     later = state 32 when notLong ∷ state 33 when notPossible ∷ [];
@@ -57,9 +57,10 @@ pub record StateKnown (b table : List ℕ) (answer : Answer) : Type 0 where
   pub wrong : answer ≡ refused (state 33) → Possible (graphOf b) (spanCount b) table → ⊥
   pub right : isRefused answer ≡ false → Possible (graphOf b) (spanCount b) table
 
--- "the final distances shortest": of a table that says that it has ended
+-- "the final distances shortest": of a table that says that it has ended. 2026-08: "Shortest means shortest in this sense, for the route reader and for going
+-- on as well"
 abbrev pub EndedShortest : List ℕ → List ℕ → Type 0
-EndedShortest b table = statusIn table ≡ 1 → Shortest (graphOf b) (tableLabels (graphOf b) table) (tablePredecessors (graphOf b) table)
+EndedShortest b table = statusIn table ≡ 1 → ShortestFor b (tableLabels (graphOf b) table) (tablePredecessors (graphOf b) table)
 
 -- What holds of the table that k rounds more leave, whatever the counts of the table that was let in: it stands for the state that they reach, its status says
 -- whether this has ended, each count is below 2^56 and told by its two halves; and where the table is left as ended its labels and predecessors are shortest.

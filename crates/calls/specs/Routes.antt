@@ -13,7 +13,8 @@ use Rattle.answer.specs.Answer.{input, state, Answer, route, noRoute, refused, 
 use Rattle.judgement.specs.Judgement.{refusals}
 use Rattle.procedure.specs.OfSheet.{graphOf}
 use Rattle.procedure.specs.Table.{headerLength, countsLength}
-use Rattle.procedure.specs.Routes.{chainTo, Shortest}
+use Rattle.procedure.specs.Routes.{chainTo}
+use Rattle.procedure.specs.Travel.{ShortestFor}
 use Rattle.theory_shortest.specs.TableTest.{settled?}
 use Rattle.calls.specs.Calls.{Call, callAnswer, lentAfter}
 use Rattle.calls.specs.Tables.{isLong, wrongLength, kindIn, payloadIn, statusIn, labelIn, predecessorIn, keyPlace, labelsIn, predecessorsIn}
@@ -62,9 +63,10 @@ module _ (b table : List ℕ) where
       || (ltb 1 (statusIn table) || (any (wrongNode table (arcCount b)) (nodeCount b) || wrongKeys))
 
   -- "Some distance isn't the shortest for this sheet, or the feeding arcs don't form routes of exactly those lengths from the source (source and
-  -- unreached nodes: none)": this does not hold of the table. "The counts aren't examined."
+  -- unreached nodes: none)": this does not hold of the table. "The counts aren't examined." 2026-08: "Shortest means shortest in this sense, for the route
+  -- reader and for going on as well"
   abbrev pub ShortestTable : Type 0
-  ShortestTable = Shortest (graphOf b) (labelsIn (nodeCount b) table) (predecessorsIn (nodeCount b) table)
+  ShortestTable = ShortestFor b (labelsIn (nodeCount b) table) (predecessorsIn (nodeCount b) table)
 
   -- 24 as it is computed. It is false just where the table is a `ShortestTable`: crates/calls/proofs/Routes.antt.
   unfoldable pub notShortest : Bool
@@ -92,7 +94,7 @@ module _ (b table : List ℕ) where
       let made = way ++ drop (length way) buffer in
       if isRoute answer then made else buffer
 
-  -- after 1 to 14 the route reader looks at 15, and at 21 to 24, in this order
+  -- after those of the sheet the route reader looks at 15, and at 21 to 24, in this order
   abbrev pub routeCall : ℕ → List ℕ → Call
   routeCall node buffer = record {
     later = input 15 when nodeOutside b node ∷ state 21 when wrongLength b table ∷ tableRefusals;

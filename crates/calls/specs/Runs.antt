@@ -15,7 +15,7 @@ use Rattle.procedure.specs.OfSheet.{graphOf, divisionOf, spansOf}
 use Rattle.procedure.specs.State.{State, counts}
 use Rattle.procedure.specs.Procedure.{ended as hasEnded, after}
 use Rattle.procedure.specs.Table.{largestLabel, tableOf, keyWord, keyWords, innerPlace, updatesPlace, countsLength}
-use Rattle.procedure.specs.Routes.{Shortest}
+use Rattle.procedure.specs.Travel.{ShortestFor}
 use Rattle.calls.specs.Calls.{Call, callAnswer, lentAfter}
 use Rattle.calls.specs.Tables.{isLong, wrongLength, statusSays, statusIn, countIn, labelIn, keyPlace, labelsIn, predecessorsIn}
 use Rattle.calls.specs.Work.{Work}
@@ -39,8 +39,8 @@ longRunTable b k = runTable b k ++ keyWords (stateAfter b k .queues .own) (arcCo
 unfoldable pub filledTable : List ℕ → ℕ → List ℕ → List ℕ
 filledTable b k table = if isLong b table then longRunTable b k else runTable b k
 
--- after 1 to 14 a run looks at 21: "Only 21 can come from a run." "a run answers 'ended' or 'paused' as its table says". The table lent is the one of
--- the run, in the form whose length it has; of a refusal, "Nothing lent changes."
+-- after those of the sheet a run looks at 21: "Only 21 can come from a run." "a run answers 'ended' or 'paused' as its table says". The table lent is the one
+-- of the run, in the form whose length it has; of a refusal, "Nothing lent changes."
 abbrev pub runCall : List ℕ → ℕ → List ℕ → Call
 runCall b k table = record {
   later = state 21 when wrongLength b table ∷ [];
@@ -57,7 +57,7 @@ tableAfter b k table = lentAfter (refusals b) (runCall b k table)
 
 -- What holds of a table that a run of at most k rounds leaves, read off its words. Demand 3: a limited run's table is what those same rounds have reached
 -- when it stops, in status, counts, labels and feeding arcs; after any number of rounds every count is below 2^56; in every table left as ended the labels
--- and feeding arcs are shortest.
+-- and feeding arcs are shortest, a route being as long as request 2026-08 says.
 pub record Delivered (b : List ℕ) (k : ℕ) (table : List ℕ) : Type 0 where
   pub status : statusIn table ≡ (if endedAfter b k then 1 else 0)
   pub halves : (i : ℕ) → i < countsLength → countIn table i ≡ at (counts (stateAfter b k)) i
@@ -71,7 +71,7 @@ pub record Delivered (b : List ℕ) (k : ℕ) (table : List ℕ) : Type 0 where
   pub unused : (i : ℕ) → spanCount b ≤ i → i < mostSpans → countIn table (innerPlace + i) ≡ 0
   -- "The largest label is 1,023 × 262,143", but for 'unreached'
   pub bounded : (v : ℕ) → v < nodeCount b → (labelIn table v ≡ top) ⊎ (labelIn table v ≤ largestLabel)
-  pub shortest : statusIn table ≡ 1 → Shortest (graphOf b) (labelsIn (nodeCount b) table) (predecessorsIn (nodeCount b) table)
+  pub shortest : statusIn table ≡ 1 → ShortestFor b (labelsIn (nodeCount b) table) (predecessorsIn (nodeCount b) table)
   -- 2026-03: "How much work the patient candidate does.", and the one whose leaves all hang on region 0, where the table is left as ended
   pub work : Work b table
 

@@ -28,7 +28,7 @@ fn fill_form(
     let d = sheet_reader::region_words(sheet, sections);
     let n = d.len() / 4 + 1;
     let m = sections.arcs;
-    let e = 2 + sections.spans + 2 * m;
+    let e = sections.after;
     canonical_numbers::number_regions(
         d,
         m,

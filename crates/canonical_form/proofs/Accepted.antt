@@ -1,4 +1,4 @@
--- The canonical form of an accepted sheet is accepted: refusals 1 to 10 read what is the same in both, and 11 to 14 the nesting, which is the same.
+-- The canonical form of an accepted sheet is accepted: refusals 1 to 10 and 34 read what is the same in both, and 11 to 14 the nesting, which is the same.
 use Prim.Native.Nat.{ℕ, zero, suc, _+_, _*_, _/_, _%_, _≤_, _<_}
 use mathlib.Core.Bool.{Bool, true, false, not, cond, _&&_, _||_}
 use mathlib.Core.Path.{_≡_, refl, sym, ap, _∙_}
@@ -8,20 +8,23 @@ use native.Mathlib.Omega.{arith}
 use borrow.Author.Tests.{eq-eqb, ne-eqb, lt-leb, le-ltb, ltb-false, lt-ltb, eqb-true}
 use lib.Dec.{ltb, leb, eqb}
 use Rattle.indices.specs.Tests.{any, count}
-use Rattle.indices.proofs.Tests.{or-left, and-left, and-right, and-both, any-ext, any-false, count-ext, count-hit}
+use Rattle.indices.proofs.Tests.{or-left, neither, and-left, and-right, and-both, any-ext, any-false, count-ext, count-hit}
 use Rattle.indices.proofs.Totals.{count-single}
 use Rattle.indices.proofs.Steps.{eq-or-ne}
 use Rattle.sheet.specs.Limits.{mostBytes, mostNodes, mostSpan, mostLength, mostArcsEachWay}
 use Rattle.sheet.specs.Words.{words, payload, top}
-use Rattle.sheet.specs.Sections.{nodeCount, source, spanCount, span, arcCount, regionWords}
-use Rattle.sheet.specs.Arcs.{tail, head, arcLength, endsWord, endOf}
+use Rattle.sheet.specs.Sections.{nodeCount, source, spanCount, span, holdsAt, arcCount, regionWords}
+use Rattle.sheet.specs.Arcs.{tail, head, arcLength, endsWord, endOf, hold, takenLength}
 use Rattle.sheet.specs.Regions.{regionCount, leafWord, parentWord, arcWord, isLeaf as leafRegion, height as heightField}
-use Rattle.judgement.specs.Form.{wrongSize, noRegionWord, wrongFront, outOfOrder, arcBits, leafBits, bitSet}
+use Rattle.sheet.proofs.Holds.{hold-same, taken-same}
+use Rattle.judgement.specs.Form.{wrongSize, noRegionWord, wrongFront, wrongSections, wrongHolds, outOfOrder, arcBits, leafBits, bitSet}
 use Rattle.judgement.specs.Form.{nodesOutside, sourceOutside, spanOutside, spansOutside, tooMany}
-use Rattle.judgement.specs.Arcs.{endOutside, endsOutside, tooLong, lengthsOutside, endsAt, crowded, crowdedNodes, tooManyAtNode}
+use Rattle.judgement.specs.Arcs.{endOutside, endsOutside, tooLong, lengthsOutside, tooLongHeld, holdsOutside}
+use Rattle.judgement.specs.Arcs.{endsAt, crowded, crowdedNodes, tooManyAtNode}
 use Rattle.judgement.specs.Division.{wrongParent, wrongParents, noSuchArc, leafOfArc, notOneLeaf, wrongLeaves}
 use Rattle.judgement.specs.Division.{childOf, childless, childlessRegions, spansDiffer}
 use Rattle.judgement.specs.Judgement.{Accepted}
+use Rattle.judgement.proofs.Clear.{in-sections, holds-right}
 use Rattle.judgement.proofs.Accepted.{none-applies, none-accepts, few-region-words, few-arcs, spans-height}
 use Rattle.procedure.specs.Division.{Division, regions, parent, arcOf, isLeaf, leafOf}
 use Rattle.procedure.specs.OfSheet.{divisionOf}
@@ -31,7 +34,8 @@ use Rattle.canonical_form.specs.Canonical.{canonical}
 use Rattle.canonical_form.proofs.Numbering.{new-in, new-old, old-new, parent-first}
 use Rattle.canonical_form.proofs.Invariance.{height-same}
 use Rattle.canonical_form.proofs.Proper.{division-ok, proper}
-use Rattle.canonical_form.proofs.Form.{canonical-length, same-words, front-kind, front-payload, same-spans, same-arcs-at, same-arcs, same-region-words}
+use Rattle.canonical_form.proofs.Form.{canonical-length, same-words, front-kind, front-payload, same-region-words}
+use Rattle.canonical_form.proofs.Form.{same-spans, same-holds-at, same-holds, same-arcs-at, same-arcs}
 use Rattle.canonical_form.proofs.Form.{number-in, region-later, region-in, new-kind, new-payload, new-leaf, new-parent, new-arc, same-arc, same-nesting}
 
 -- the canonical form c of an accepted sheet b
@@ -39,7 +43,7 @@ module _ (b : List ℕ) (ok : Accepted b) where
   abbrev c : List ℕ
   c = canonical b
 
-  -- NODES, SOURCE, SPANS AND ARCS
+  -- NODES, SOURCE, SPANS, HOLDS AND ARCS
   same-nodes : nodeCount c ≡ nodeCount b
   same-nodes = front-payload b ok 0 (omega arith)
 
@@ -68,11 +72,18 @@ module _ (b : List ℕ) (ok : Accepted b) where
   unfolding arcLength
   same-length a l = ap (λ (n : ℕ). payload c (n + 2 * a + 1)) (same-arcs-at b ok) ∙ front-payload b ok (endsWord b a + 1) (omega arith)
 
+  same-hold : (v : ℕ) → hold c v ≡ hold b v
+  same-hold = hold-same c b (same-holds b ok)
+      (λ v l. ap (λ (n : ℕ). payload c (n + v)) (same-holds-at b ok) ∙ front-payload b ok (holdsAt b + v) (omega (arith, same-holds b ok)))
+
+  same-taken : (a : ℕ) → a < arcCount b → takenLength c a ≡ takenLength b a
+  same-taken a l = taken-same c b same-source same-hold a (same-tail a l) (same-length a l)
+
   -- a test of every arc
   every-arc : (p q : ℕ → Bool) → ((a : ℕ) → a < arcCount b → p a ≡ q a) → any p (arcCount c) ≡ any q (arcCount b)
   every-arc p q same = ap (any p) (same-arcs b ok) ∙ any-ext p q (arcCount b) same
 
-  -- REFUSALS 1 TO 10
+  -- REFUSALS 1 TO 10, AND 34
   size : wrongSize c ≡ false
   unfolding wrongSize
   size = ap (λ (n : ℕ). not (eqb (n % 4) 0) || ltb mostBytes n) (canonical-length b ok) ∙ none-applies b ok .size
@@ -106,6 +117,10 @@ module _ (b : List ℕ) (ok : Accepted b) where
   unfolding lengthsOutside
   lengths = every-arc (tooLong c) (tooLong b) (λ a l. ap (ltb mostLength) (same-length a l)) ∙ none-applies b ok .lengths
 
+  holds : holdsOutside c ≡ false
+  unfolding holdsOutside
+  holds = every-arc (tooLongHeld c) (tooLongHeld b) (λ a l. ap (ltb mostLength) (same-taken a l)) ∙ none-applies b ok .holds
+
   same-crowded : (heads : Bool) → crowdedNodes mostArcsEachWay heads c ≡ crowdedNodes mostArcsEachWay heads b
   unfolding crowdedNodes
   same-crowded heads =
@@ -137,9 +152,18 @@ module _ (b : List ℕ) (ok : Accepted b) where
   same-front : wrongFront c ≡ wrongFront b
   same-front = rw (same-words b ok, front-kind b ok 0 (omega arith), front-kind b ok 1 (omega arith))
 
+  sections : wrongSections c ≡ false
+  unfolding wrongSections
+  sections =
+      rw (same-front, or-left (wrongFront b) _ (in-sections b (none-applies b ok .order))) (of-words (noRegionWord (regionWords c)) region-word)
+
+  holds-all : wrongHolds c ≡ false
+  unfolding wrongHolds
+  holds-all = rw (same-holds b ok, same-nodes) (holds-right b (none-applies b ok .order))
+
   order : outOfOrder c ≡ false
   unfolding outOfOrder
-  order = rw (same-front, or-left (wrongFront b) _ (none-applies b ok .order)) (of-words (noRegionWord (regionWords c)) region-word)
+  order = neither _ _ sections holds-all
 
   pub arc-number : (r : ℕ) → r < regions d → isLeaf d r ≡ true → arcOf d r < arcCount b
   arc-number r l leaf = omega (arith, division-ok b ok .leaf-arc r l leaf .0, graph-arcs b)
@@ -309,6 +333,7 @@ module _ (b : List ℕ) (ok : Accepted b) where
     many = many;
     ends = ends;
     lengths = lengths;
+    holds = holds;
     degrees = degrees;
     parents = parents;
     leaves = leaves;

@@ -1,14 +1,16 @@
 -- Cases of the canonical form, each computed from a sheet's bytes.
 use Prim.Native.Nat.{ℕ}
-use mathlib.Core.Path.{_≡_, refl}
+use mathlib.Core.Path.{_≡_, refl, ap}
+use mathlib.Core.Logic.{_≢_}
 use mathlib.Core.List.{List, [], _∷_, _++_}
-use lib.ListN.{drop}
+use native.Mathlib.Omega.{arith}
+use lib.ListN.{take, drop}
 use Rattle.indices.specs.Tests.{any, count, lead, least}
-use Rattle.indices.specs.Columns.{column, passing}
+use Rattle.indices.specs.Columns.{at, column, passing}
 use Rattle.sheet.specs.Words.{word, kind, payload, top, bytesOf}
-use Rattle.sheet.specs.Sections.{spansFrom, arcsFrom, regionWords}
+use Rattle.sheet.specs.Sections.{kindFrom, arcsFrom, regionWords}
 use Rattle.sheet.specs.Regions.{leafWord, parentWord, arcWord}
-use Rattle.sheet.proofs.Samples.{hallA, oneNode}
+use Rattle.sheet.proofs.Samples.{hallA, hallAWith, heldA, oneNode}
 use Rattle.procedure.specs.OfSheet.{divisionOf}
 use Rattle.canonical_form.specs.Numbering.{sooner, ancestor, holds, lowestArc, pathFor, path, newNumber, oldNumber}
 use Rattle.canonical_form.specs.Canonical.{newWord, frontWords, newWords, canonical}
@@ -40,6 +42,14 @@ tied = frontWith 0x50000003 ++ drop 12 hallA
 
 abbrev pub tiedRenumbered : List ℕ
 tiedRenumbered = frontWith 0x50000003 ++ otherNumbers
+
+-- Request 2026-08: a sheet with hall A's spans, and after them the holds 100, 10, 3 and 7, as `heldA` has; and hall A with 101 at the source, which is never
+-- charged
+abbrev withHolds : List ℕ → List ℕ
+withHolds ws = take 4 ws ++ (0xd0000064 ∷ 0xd000000a ∷ 0xd0000003 ∷ 0xd0000007 ∷ drop 4 ws)
+
+abbrev otherAtSource : List ℕ
+otherAtSource = hallAWith (0xd0000065 ∷ 0xd000000a ∷ 0xd0000003 ∷ 0xd0000007 ∷ [])
 
 -- the same nesting once more: leaves and inner regions mixed, and of each region the later arc first
 abbrev mixed : List ℕ
@@ -94,11 +104,23 @@ pub record Cases : Type 0 where
   pub not-directly : canonical (bytesOf heldBelow) ≡ bytesOf neatHeldBelow
   pub leaves-and-inner : canonical (bytesOf byTurns) ≡ bytesOf neatByTurns
   pub no-arc : canonical (bytesOf oneNode) ≡ bytesOf oneNode
-  -- nodes, source, spans and arcs are what sheets share besides their nesting
+  -- "The neat copy carries the holds."
+  pub held : canonical (bytesOf heldA) ≡ bytesOf (withHolds neatHallA)
+  pub held-neat : canonical (bytesOf (withHolds neatHallA)) ≡ bytesOf (withHolds neatHallA)
+  pub held-other-numbers : canonical (bytesOf (withHolds renumbered)) ≡ bytesOf (withHolds neatHallA)
+  -- one other hold, and no holds, make another
+  pub other-hold : canonical (bytesOf otherAtSource) ≢ canonical (bytesOf heldA)
+  pub no-holds : canonical (bytesOf hallA) ≢ canonical (bytesOf heldA)
+  -- nodes, source, spans, holds and arcs are what sheets share besides their nesting
   pub shared : sharedWords (bytesOf hallA) ≡ frontOfHallA
+  pub shared-held : sharedWords (bytesOf heldA) ≡ withHolds frontOfHallA
+
+-- lists that differ in one entry
+apart : {xs ys : List ℕ} (i : ℕ) → at xs i ≢ at ys i → xs ≢ ys
+apart i differ e = differ (ap (λ (zs : List ℕ). at zs i) e)
 
 pub cases : Cases
-unfolding any count lead least column word kind payload top spansFrom arcsFrom regionWords leafWord parentWord arcWord divisionOf
+unfolding any count lead least column word kind payload top kindFrom arcsFrom regionWords leafWord parentWord arcWord divisionOf
     sooner ancestor holds lowestArc pathFor path newNumber oldNumber newWord frontWords newWords canonical passing sharedWords
 cases = record {
   hall-a = refl;
@@ -110,5 +132,11 @@ cases = record {
   not-directly = refl;
   leaves-and-inner = refl;
   no-arc = refl;
+  held = refl;
+  held-neat = refl;
+  held-other-numbers = refl;
+  other-hold = apart 19 (λ e. omega arith);
+  no-holds = apart 16 (λ e. omega arith);
   shared = refl;
+  shared-held = refl;
 }

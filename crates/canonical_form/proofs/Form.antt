@@ -1,23 +1,23 @@
 -- The canonical form of an accepted sheet, read as a sheet: as long, its sections where they were, its words up to the last arc the same, and its
 -- region words those of the regions under their new numbers. So its division is the same nesting.
 use Prim.Native.Nat.{ℕ, zero, suc, _+_, _-_, _*_, _/_, _%_, _≤_, _<_}
-use mathlib.Core.Bool.{Bool, true, false, not, cond}
+use mathlib.Core.Bool.{Bool, true, false, not, cond, _||_}
 use mathlib.Core.Path.{_≡_, refl, sym, ap, _∙_}
 use mathlib.Core.Logic.{⊎-elim}
 use mathlib.Core.List.{List, _++_}
 use native.Mathlib.Omega.{arith}
-use borrow.Author.Tests.{ne-eqb, eqb-true, not-false}
+use borrow.Author.Tests.{eqb-true, not-false}
 use lib.ListN.{length, length-append, List·getD-append}
 use lib.Seq.{getD-append-add}
 use lib.Dec.{ltb, eqb}
 use Rattle.indices.specs.Columns.{at}
 use Rattle.indices.specs.Tests.{lead}
 use Rattle.indices.proofs.Columns.{length-column, at-column}
-use Rattle.indices.proofs.Tests.{or-left, lead-ext}
-use Rattle.indices.proofs.Steps.{lt-or-le, true-or-false}
+use Rattle.indices.proofs.Tests.{or-left, or-right, lead-ext}
+use Rattle.indices.proofs.Steps.{by-order, true-or-false}
 use Rattle.sheet.specs.Limits.{mostBytes, arcNumbers, regionNumbers}
 use Rattle.sheet.specs.Words.{words, word, kindOf, payloadOf, kind, payload}
-use Rattle.sheet.specs.Sections.{isSpan, isArc, spansFrom, arcsFrom, spanCount, arcCount, arcsAt, regionsAt, regionWords}
+use Rattle.sheet.specs.Sections.{ofKind, isArc, kindFrom, arcsFrom, spanCount, holdsAt, holdCount, arcCount, arcsAt, regionsAt, regionWords}
 use Rattle.sheet.specs.Regions.{regionCount, leafWord, parentWord, arcWord, leafArc}
 use Rattle.sheet.proofs.Bytes.{length-bytes, word-bytes}
 use Rattle.sheet.proofs.RegionWords.{word-kind, word-payload, payload-parent, payload-arc}
@@ -69,7 +69,7 @@ module _ (b : List ℕ) (ok : Accepted b) where
   pub same-words : words (canonical b) ≡ words b
   same-words = ap (λ (n : ℕ). n / 4) canonical-length
 
-  -- its words: "nodes, source, spans and arcs as given", and then the region words
+  -- its words: "nodes, source, spans and arcs as given", the holds among them, and then the region words
   pub front-entry : (i : ℕ) → i < regionsAt b → at (frontWords b ++ newWords b) i ≡ word b i
   unfolding frontWords
   front-entry i l = List·getD-append (frontWords b) (newWords b) 0 i (omega (arith, length-front)) ∙ at-column (regionsAt b) (word b) i l
@@ -117,13 +117,6 @@ module _ (b : List ℕ) (ok : Accepted b) where
     new-word-payload = word-payload (newNumber d (parent d r)) (arcOf d r) (new-below (parent d r) (parent-inside r pos l)) (isLeaf d r) (arc-below r l)
 
   -- THE SECTIONS stand where they stood: the region words are of kinds 6 and 7 in both
-  pub late : (k : ℕ) → k < words (regionWords b) → 6 ≤ kind b (regionsAt b + k)
-  late k l = ⊎-elim (λ (six : kind b (regionsAt b + k) ≡ 6). omega arith) (λ (seven : kind b (regionsAt b + k) ≡ 7). omega arith) (region-word-kind b ok k l)
-
-  at-least-six : (leaf : Bool) → 6 ≤ cond leaf 7 6
-  at-least-six true = omega arith
-  at-least-six false = omega arith
-
   -- the region of word k, and its number
   module _ (k : ℕ) (l : k < words (regionWords b)) where
     pub number-in : suc k < regions d
@@ -139,27 +132,41 @@ module _ (b : List ℕ) (ok : Accepted b) where
     unfolding kind
     back-kind = ap kindOf (back-word k l) ∙ new-word-kind (oldNumber d (suc k)) region-later region-in
 
-    back-late : 6 ≤ kind (canonical b) (regionsAt b + k)
-    back-late = rw back-kind (at-least-six (isLeaf d (oldNumber d (suc k))))
+  -- a test for a kind that no region word has comes out the same at every word, so as many words of it stand from any place on
+  module _ (κ : ℕ) (other : eqb 6 κ || eqb 7 κ ≡ false) where
+    copied-other : (leaf : Bool) → eqb (cond leaf 7 6) κ ≡ false
+    copied-other true = or-right (eqb 6 κ) (eqb 7 κ) other
+    copied-other false = or-left (eqb 6 κ) (eqb 7 κ) other
 
-  same-test : (t i : ℕ) → t < 6 → i < words b → eqb (kind (canonical b) i) t ≡ eqb (kind b i) t
-  same-test t i lt li =
-      ⊎-elim (λ (l : i < regionsAt b). ap (λ (n : ℕ). eqb n t) (front-kind i l))
-      (λ (l : regionsAt b ≤ i).
-      let k = i - regionsAt b in
-      let lk : k < words (regionWords b) = omega (arith, region-words b two) in
-      let place : i ≡ regionsAt b + k = omega arith in
-      rw place (ne-eqb _ t (λ e. omega (arith, back-late k lk)) ∙ sym (ne-eqb _ t (λ e. omega (arith, late k lk)))))
-      (lt-or-le i (regionsAt b))
+    given-other : (k : ℕ) → k < words (regionWords b) → eqb (kind b (regionsAt b + k)) κ ≡ false
+    given-other k l = ⊎-elim (λ e. rw e (copied-other false)) (λ e. rw e (copied-other true)) (region-word-kind b ok k l)
+
+    same-test : (i : ℕ) → i < words b → eqb (kind (canonical b) i) κ ≡ eqb (kind b i) κ
+    same-test i li =
+        by-order i (regionsAt b) (λ l. ap (λ (n : ℕ). eqb n κ) (front-kind i l))
+        (λ l.
+        let k = i - regionsAt b in
+        let lk : k < words (regionWords b) = omega (arith, region-words b two) in
+        let place : i ≡ regionsAt b + k = omega arith in
+        rw (place, back-kind k lk, given-other k lk) (copied-other (isLeaf d (oldNumber d (suc k)))))
+
+    same-run : (from : ℕ) → kindFrom κ (canonical b) from ≡ kindFrom κ b from
+    unfolding kindFrom
+    same-run from =
+        ap (λ (n : ℕ). lead (ofKind κ (canonical b) from) (n - from)) same-words
+        ∙ lead-ext (ofKind κ (canonical b) from) (ofKind κ b from) (words b - from) (λ k l. same-test (from + k) (omega arith))
 
   pub same-spans : spanCount (canonical b) ≡ spanCount b
-  unfolding spansFrom
-  same-spans =
-      ap (λ (n : ℕ). lead (isSpan (canonical b) 2) (n - 2)) same-words
-      ∙ lead-ext (isSpan (canonical b) 2) (isSpan b 2) (words b - 2) (λ k l. same-test 3 (2 + k) (omega arith) (omega arith))
+  same-spans = same-run 3 refl 2
+
+  pub same-holds-at : holdsAt (canonical b) ≡ holdsAt b
+  same-holds-at = ap (λ (n : ℕ). 2 + n) same-spans
+
+  pub same-holds : holdCount (canonical b) ≡ holdCount b
+  same-holds = ap (kindFrom 13 (canonical b)) same-holds-at ∙ same-run 13 refl (holdsAt b)
 
   pub same-arcs-at : arcsAt (canonical b) ≡ arcsAt b
-  same-arcs-at = ap (λ (n : ℕ). 2 + n) same-spans
+  same-arcs-at = omega (arith, same-holds-at, same-holds)
 
   pub same-arcs : arcCount (canonical b) ≡ arcCount b
   unfolding arcsFrom
@@ -168,7 +175,7 @@ module _ (b : List ℕ) (ok : Accepted b) where
       ap (λ (n : ℕ). lead (isArc (canonical b) n) ((words (canonical b) - n) / 2)) same-arcs-at
       ∙ ap (λ (n : ℕ). lead (isArc (canonical b) i) ((n - i) / 2)) same-words
       ∙ lead-ext (isArc (canonical b) i) (isArc b i) ((words b - i) / 2)
-      (λ a l. rw (same-test 4 (i + 2 * a) (omega arith) (omega arith), same-test 5 (i + 2 * a + 1) (omega arith) (omega arith)))
+      (λ a l. rw (same-test 4 refl (i + 2 * a) (omega arith), same-test 5 refl (i + 2 * a + 1) (omega arith)))
 
   pub same-regions-at : regionsAt (canonical b) ≡ regionsAt b
   same-regions-at = omega (arith, same-arcs-at, same-arcs)

@@ -13,7 +13,7 @@ use Rattle.canonical_form.specs.Numbering.{newNumber, oldNumber}
 unfoldable pub newWord : Division → ℕ → ℕ
 newWord d r = regionWord (isLeaf d r) (newNumber d (parent d r)) (arcOf d r)
 
--- "nodes, source, spans and arcs as given": the words up to the last arc
+-- "nodes, source, spans and arcs as given", and 2026-08: "The neat copy carries the holds.": the words up to the last arc
 unfoldable pub frontWords : List ℕ → List ℕ
 frontWords b = column (regionsAt b) (word b)
 

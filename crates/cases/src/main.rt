@@ -25,7 +25,7 @@ const ROOM: usize = 65552;
 const MOST_WORDS: usize = 4608;
 
 // The most bytes that are lent: more than the longest sheet has.
-const MOST_BYTES: usize = 33792;
+const MOST_BYTES: usize = 37888;
 
 // Stands for the number of digits read where a line holds another sign or is too long. It is odd, and more than there is room for.
 const NO_DIGITS: usize = usize::MAX;

@@ -40,6 +40,14 @@ column-append (suc m) n f =
     ∙ ap (λ (l : List ℕ). column m (λ i. f (suc i)) ++ l)
     (column-ext n (λ i. f (suc (m + i))) (λ i. f (suc m + i)) (λ i _. ap f (sym (suc-add m i))))))
 
+-- two columns that are the same have as many entries, and the same ones
+module _ (m n : ℕ) (f g : ℕ → ℕ) (e : column m f ≡ column n g) where
+  pub same-size : m ≡ n
+  same-size = sym (length-column m f) ∙ ap length e ∙ length-column n g
+
+  pub same-entry : (i : ℕ) → i < m → f i ≡ g i
+  same-entry i l = sym (at-column m f i l) ∙ ap (λ (c : List ℕ). at c i) e ∙ at-column n g i (omega (arith, same-size))
+
 -- ENTRIES THAT PASS a test
 module _ (test : ℕ → Bool) where
   pub passing-append : (xs ys : List ℕ) → passing test (xs ++ ys) ≡ passing test xs ++ passing test ys

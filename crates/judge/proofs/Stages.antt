@@ -32,7 +32,7 @@ module _ (b : List ℕ) (ok : lowest (countRefusals b) accepted ≡ accepted) wh
   unfolding countRefusals
   count-region-words = few-region-words b (clear-of (countRefusals b) ok 7)
 
--- 8 to 10, and 11 to 14, of a sheet
+-- 8 to 10 with 34, and 11 to 14, of a sheet
 abbrev ofArcs : List ℕ → List Case
 ofArcs b = arcRefusals mostArcsEachWay b
 

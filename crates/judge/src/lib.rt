@@ -32,7 +32,7 @@ fn bit_set(s: &[u8], sections: Sections) -> bool
     judge_division::leaves::leaf_bits_set(sheet_reader::region_words(s, sections))
 }
 
-// Refusals 3 to 14, of a sheet to which neither 1 nor 2 applies: the number, or 0.
+// Refusals 3 to 14, and 34 after 9, of a sheet to which neither 1 nor 2 applies: the number, or 0.
 fn later_refusal(s: &[u8], sections: Sections) -> u8
     requires { ⌜ InOrder (now s) sections ⌝ }
     ensures { λ r. ⌜ numbered r ≡ judgement (now (s .entry)) ⌝ }
@@ -62,10 +62,14 @@ fn lowest_refusal(s: &[u8]) -> u8
     if wrong_size(s) {
         return 1;
     }
-    if judge_form::order::out_of_order(s) {
+    if judge_form::order::wrong_kinds(s) {
         return 2;
     }
-    later_refusal(s, sheet::scan::find_sections(s))
+    let sections = sheet::scan::find_sections(s);
+    if judge_form::order::wrong_holds(s, sections) {
+        return 2;
+    }
+    later_refusal(s, sections)
 }
 
 // Judges a sheet.

@@ -1,4 +1,4 @@
-// The refusals of a sheet's arcs: 8 to 10, and of refusal 3 what it asks of an arc's words.
+// The refusals of a sheet's arcs: 8 to 10, 34 after 9, and of refusal 3 what it asks of an arc's words.
 pub mod degrees;
 
 ghost use mathlib.Core.Path.{_≡_};
@@ -54,7 +54,7 @@ fn arc_outside(s: &[u8], sections: Sections, a: Arc) -> bool
     one_end_outside(s, sections, a, true)
 }
 
-// Refusals 8 and 9: the number, or 0. Both are looked for in one pass over the arcs.
+// Refusals 8, 9 and 34: the number, or 0. All are looked for in one pass over the arcs.
 fn field_refusal(s: &[u8], sections: Sections) -> u8
     requires { ⌜ Located (now s) sections × (arcCount (now s) ≤ mostArcs) ⌝ }
     ensures { λ r. ⌜ numbered r ≡ lowest (fieldRefusals (now (s .entry))) accepted ⌝ }
@@ -62,6 +62,7 @@ fn field_refusal(s: &[u8], sections: Sections) -> u8
     let arcs = sections.arcs as u16;
     let mut outside = false;
     let mut long = false;
+    let mut held = false;
     let mut a: u16 = 0;
     while a < arcs {
         if arc_outside(s, sections, Arc(a)) {
@@ -69,6 +70,9 @@ fn field_refusal(s: &[u8], sections: Sections) -> u8
         }
         if sheet::fields::length_at(s, sections, Arc(a)) > sheet::MOST_LENGTH {
             long = true;
+        }
+        if sheet::fields::taken_length_at(s, sections, Arc(a)) > sheet::MOST_LENGTH {
+            held = true;
         }
         a += 1;
     }
@@ -78,10 +82,13 @@ fn field_refusal(s: &[u8], sections: Sections) -> u8
     if long {
         return 9;
     }
+    if held {
+        return 34;
+    }
     0
 }
 
-// Refusals 8 to 10: the number, or 0.
+// Refusals 8 to 10, and 34 after 9: the number, or 0.
 pub fn arc_refusal(s: &[u8], sections: Sections) -> u8
     requires { ⌜ Located (now s) sections × (arcCount (now s) ≤ mostArcs) × (nodeCount (now s) ≤ mostNodes) ⌝ }
     ensures { λ r. ⌜ numbered r ≡ lowest (arcRefusals mostArcsEachWay (now (s .entry))) accepted ⌝ }

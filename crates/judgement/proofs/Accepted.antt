@@ -12,12 +12,13 @@ use Rattle.indices.proofs.Tests.{any-at, or-left, or-right, count-out-all, coun
 use Rattle.sheet.specs.Limits.{mostNodes, mostSpans, mostSpan, mostArcs, mostRegionWords, mostLength, mostArcsEachWay}
 use Rattle.sheet.specs.Words.{words, kind}
 use Rattle.sheet.specs.Sections.{nodeCount, source, spanCount, span, arcCount, regionWords}
-use Rattle.sheet.specs.Arcs.{tail, head, arcLength, endOf}
+use Rattle.sheet.specs.Arcs.{tail, head, arcLength, endOf, takenLength}
 use Rattle.sheet.specs.Inner.{Nesting}
 use Rattle.sheet.specs.Regions.{regionCount, leafWord, parentWord, arcWord, isLeaf, parent, height}
 use Rattle.answer.proofs.Lowest.{clear-of}
-use Rattle.judgement.specs.Form.{wrongSize, wrongFront, noRegionWord, outOfOrder, bitSet, nodesOutside, sourceOutside, spanOutside, spansOutside, tooMany}
-use Rattle.judgement.specs.Arcs.{endsOutside, tooLong, lengthsOutside, endsAt, tooManyAtNode}
+use Rattle.judgement.specs.Form.{wrongSize, wrongFront, noRegionWord, wrongSections, outOfOrder, bitSet, nodesOutside}
+use Rattle.judgement.specs.Form.{sourceOutside, spanOutside, spansOutside, tooMany}
+use Rattle.judgement.specs.Arcs.{endsOutside, tooLong, lengthsOutside, tooLongHeld, holdsOutside, endsAt, tooManyAtNode}
 use Rattle.judgement.specs.Division.{wrongParents, noSuchArc, leafOfArc, notOneLeaf, wrongLeaves, childOf, childless, childlessRegions, spansDiffer}
 use Rattle.judgement.specs.Judgement.{formRefusals, countRefusals, arcRefusals, divisionRefusals, refusalsUnder, refusals, judgement, Accepted}
 use Rattle.judgement.proofs.Parents as parents
@@ -34,6 +35,7 @@ pub record NoRefusal (b : List ℕ) : Type 0 where
   pub many : tooMany b ≡ false
   pub ends : endsOutside b ≡ false
   pub lengths : lengthsOutside b ≡ false
+  pub holds : holdsOutside b ≡ false
   pub degrees : tooManyAtNode mostArcsEachWay b ≡ false
   pub parents : wrongParents (regionWords b) ≡ false
   pub leaves : wrongLeaves (regionWords b) (arcCount b) ≡ false
@@ -52,6 +54,7 @@ none-applies b ok = let free = clear-of (refusals b) ok in record {
   many = free 7;
   ends = free 8;
   lengths = free 9;
+  holds = free 34;
   degrees = free 10;
   parents = free 11;
   leaves = free 12;
@@ -72,6 +75,7 @@ none-accepts b none =
       none .many,
       none .ends,
       none .lengths,
+      none .holds,
       none .degrees,
       none .parents,
       none .leaves,
@@ -85,11 +89,12 @@ module _ (b : List ℕ) (ok : Accepted b) where
 
   -- 2. the first two words are there, and the words after the last arc are of kinds 6 and 7
   pub front-there : 2 ≤ words b
-  front-there = clear.front-there b (none .order)
+  front-there = clear.front-there b (clear.in-sections b (none .order))
 
   pub region-kinds : (k : ℕ) → k < words (regionWords b) → eqb (kind (regionWords b) k) 6 || eqb (kind (regionWords b) k) 7 ≡ true
-  unfolding outOfOrder
-  region-kinds k l = not-false _ (any-at (noRegionWord (regionWords b)) (words (regionWords b)) k (or-right (wrongFront b) _ (none .order)) l)
+  unfolding wrongSections
+  region-kinds k l =
+      not-false _ (any-at (noRegionWord (regionWords b)) (words (regionWords b)) k (or-right (wrongFront b) _ (clear.in-sections b (none .order))) l)
 
   -- 4 and 5. node count and source
   pub few-nodes : nodeCount b ≤ mostNodes
@@ -133,6 +138,11 @@ module _ (b : List ℕ) (ok : Accepted b) where
   pub length-short : (a : ℕ) → a < arcCount b → arcLength b a ≤ mostLength
   unfolding lengthsOutside
   length-short a l = ltb-false mostLength (arcLength b a) (any-at (tooLong b) (arcCount b) a (none .lengths) l)
+
+  -- 34. lengths with the tail's hold
+  pub taken-short : (a : ℕ) → a < arcCount b → takenLength b a ≤ mostLength
+  unfolding holdsOutside
+  taken-short a l = ltb-false mostLength (takenLength b a) (any-at (tooLongHeld b) (arcCount b) a (none .holds) l)
 
   -- 10. no node has more arcs each way than it may have, and what is no node has none
   pub few-ends : (heads : Bool) (v : ℕ) → count (endsAt heads b v) (arcCount b) ≤ mostArcsEachWay

@@ -1,6 +1,6 @@
 -- What it means of a sheet that one refusal does not apply to it: the facts that the judge needs before the sheet is accepted.
 -- All that an accepted sheet ensures stands in `Accepted`.
-use Prim.Native.Nat.{ℕ, _%_, _<_, _≤_}
+use Prim.Native.Nat.{ℕ, _/_, _%_, _<_, _≤_}
 use mathlib.Core.Bool.{Bool, true, false, not, _||_}
 use mathlib.Core.List.{List}
 use mathlib.Core.Logic.{_↔_}
@@ -15,18 +15,27 @@ use Rattle.sheet.specs.Limits.{mostBytes, mostNodes, mostSpans, mostArcs, mostR
 use Rattle.sheet.specs.Words.{words, kind}
 use Rattle.sheet.specs.Sections.{nodeCount, spanCount, arcCount, regionWords}
 use Rattle.sheet.specs.Arcs.{tail, head, endOf}
-use Rattle.judgement.specs.Form.{wrongSize, wrongFront, outOfOrder, nodesOutside, tooMany}
+use Rattle.judgement.specs.Form.{wrongSize, wrongFront, wrongSections, wrongHolds, outOfOrder, nodesOutside, tooMany}
 use Rattle.judgement.specs.Arcs.{endOutside, endsOutside, endsAt, crowded, crowdedNodes, tooManyAtNode}
 
 module _ (b : List ℕ) where
   -- 1. a sheet of the right size has few words
-  pub few-words : wrongSize b ≡ false → words b ≤ 8207
+  pub few-words : wrongSize b ≡ false → words b ≤ mostBytes / 4
   unfolding wrongSize
   few-words ok = omega (arith, ltb-false mostBytes (length b) (or-right (not (eqb (length b % 4) 0)) (ltb mostBytes (length b)) ok))
 
-  -- 2. a sheet in order has its first two words
-  pub front-there : outOfOrder b ≡ false → 2 ≤ words b
+  -- 2. of a sheet in order the sections are, and there is a hold for each node or none
+  pub in-sections : outOfOrder b ≡ false → wrongSections b ≡ false
   unfolding outOfOrder
+  in-sections ok = or-left (wrongSections b) _ ok
+
+  pub holds-right : outOfOrder b ≡ false → wrongHolds b ≡ false
+  unfolding outOfOrder
+  holds-right ok = or-right (wrongSections b) _ ok
+
+  -- whose sections are in order has its first two words
+  pub front-there : wrongSections b ≡ false → 2 ≤ words b
+  unfolding wrongSections
   front-there ok =
       ltb-false (words b) 2
       (or-left (ltb (words b) 2) _ (or-left (ltb (words b) 2 || not (eqb (kind b 0) 1)) _ (or-left (wrongFront b) _ ok)))

@@ -9,22 +9,23 @@ use native.Mathlib.Omega.{arith}
 use lib.ListN.{length, getD}
 use lib.Dec.{eqb, ltb}
 use Rattle.indices.specs.Steps.{if_then_else_}
-use Rattle.indices.specs.Tests.{all, any}
+use Rattle.indices.specs.Tests.{all, any, lead}
 use Rattle.indices.proofs.Steps.{by-truth}
 use Rattle.indices.proofs.Tests.{or-left, or-right, and-left, and-right, any-at, all-at}
-use Rattle.sheet.specs.Words.{words, word, kind, bytesOf}
+use Rattle.sheet.specs.Words.{words, word, kind, payload, bytesOf}
+use Rattle.sheet.specs.Sections.{kindFrom}
 use Rattle.sheet.proofs.Samples.{hallA, oneNode, flatHall}
-use Rattle.judgement.specs.Form.{wrongSize, outOfOrder}
+use Rattle.judgement.specs.Form.{wrongSize, wrongHolds, outOfOrder}
 use Rattle.judgement.specs.Kinds.{mayBegin, mayFollow, mayEnd, wrongFirst, wrongNeighbours, wrongLast, wrongKinds}
 use Rattle.judgement.specs.Kinds.{Ordered, Begins, Follows, Ends, ByCases}
-use Rattle.judgement.proofs.Order.{by-kinds}
+use Rattle.judgement.proofs.Order.{by-cases-or-holds}
 
 -- IN A SHEET IN ORDER NOTHING SAYS NO
 module _ (b : List ℕ) (order : outOfOrder b ≡ false) where
   none-wrong : (wrongFirst b || any (wrongNeighbours b) (words b - 1) ≡ false) × (wrongLast b ≡ false)
   unfolding wrongKinds
   none-wrong =
-      let none : wrongKinds b ≡ false = sym (by-kinds b) ∙ order in (
+      let none : wrongKinds b ≡ false = or-left (wrongKinds b) _ (sym (by-cases-or-holds b) ∙ order) in (
         or-left (wrongFirst b || any (wrongNeighbours b) (words b - 1)) (wrongLast b) none,
         or-right (wrongFirst b || any (wrongNeighbours b) (words b - 1))
             (wrongLast b) none,
@@ -44,9 +45,9 @@ module _ (b : List ℕ) (order : outOfOrder b ≡ false) where
 abbrev noSpan : List ℕ
 noSpan = 0x10000001 ∷ 0x20000000 ∷ []
 
--- what is computed of a sheet that is given: its entries are bytes, 1 does not apply, and nothing says no
+-- what is computed of a sheet that is given: its entries are bytes, 1 does not apply, nothing says no, and the number of holds is right
 abbrev inOrder : List ℕ → Bool
-inOrder b = all (λ i. ltb (getD b i 0) 256) (length b) && (not (wrongSize b) && not (wrongKinds b))
+inOrder b = all (λ i. ltb (getD b i 0) 256) (length b) && (not (wrongSize b) && not (wrongKinds b || wrongHolds b))
 
 in-order : (b : List ℕ) → inOrder b ≡ true → Ordered b
 in-order b e =
@@ -54,7 +55,7 @@ in-order b e =
     let rest = and-right each _ e in record {
       bytes = λ i l. ltb-true (getD b i 0) 256 (all-at (λ i. ltb (getD b i 0) 256) (length b) i (and-left each _ e) l);
       size = not-true (wrongSize b) (and-left (not (wrongSize b)) _ rest);
-      order = by-kinds b ∙ not-true (wrongKinds b) (and-right (not (wrongSize b)) _ rest);
+      order = by-cases-or-holds b ∙ not-true (wrongKinds b || wrongHolds b) (and-right (not (wrongSize b)) _ rest);
     }
 
 -- the sheets: hall A and the one-node hall, a hall with an arc on region 0, and short ones, most of which a later number refuses
@@ -69,9 +70,15 @@ record Sheets : Type 0 where
   no-span-arc : Ordered (bytesOf (noSpan ++ (0x40000000 ∷ 0x50000000 ∷ [])))
   no-span-inner : Ordered (bytesOf (noSpan ++ (0x60000000 ∷ [])))
   no-span-leaf : Ordered (bytesOf (noSpan ++ (0x70000000 ∷ [])))
+  no-span-hold : Ordered (bytesOf (noSpan ++ (0xd0000000 ∷ [])))
+  one-node-hold : Ordered (bytesOf (oneNode ++ (0xd0000000 ∷ [])))
+  two-holds : Ordered (bytesOf (0x10000002 ∷ 0x20000000 ∷ 0xd0000000 ∷ 0xd0000000 ∷ []))
+  hold-arc : Ordered (bytesOf (noSpan ++ (0xd0000000 ∷ 0x40000000 ∷ 0x50000000 ∷ [])))
+  hold-inner : Ordered (bytesOf (noSpan ++ (0xd0000000 ∷ 0x60000000 ∷ [])))
+  hold-leaf : Ordered (bytesOf (noSpan ++ (0xd0000000 ∷ 0x70000000 ∷ [])))
 
 sheets : Sheets
-unfolding all any word kind wrongSize wrongKinds mayBegin mayFollow mayEnd
+unfolding all any lead word kind payload kindFrom wrongSize wrongKinds wrongHolds mayBegin mayFollow mayEnd
 sheets = record {
   hall-a = in-order _ refl;
   inner-last = in-order _ refl;
@@ -83,6 +90,12 @@ sheets = record {
   no-span-arc = in-order _ refl;
   no-span-inner = in-order _ refl;
   no-span-leaf = in-order _ refl;
+  no-span-hold = in-order _ refl;
+  one-node-hold = in-order _ refl;
+  two-holds = in-order _ refl;
+  hold-arc = in-order _ refl;
+  hold-inner = in-order _ refl;
+  hold-leaf = in-order _ refl;
 }
 
 -- the first word of such a sheet, two neighbouring ones, and the last
@@ -109,17 +122,23 @@ module _ {k : ℕ} where
   unfolding kind word
   after-node-count = is (Follows 1) (pair (sheets .hall-a) 0 refl)
 
-  after-source : eqb k 3 || eqb k 4 || eqb k 6 || eqb k 7 ≡ true → Follows 2 k
+  after-source : eqb k 3 || eqb k 13 || eqb k 4 || eqb k 6 || eqb k 7 ≡ true → Follows 2 k
   unfolding kind word
   after-source =
-      is (Follows 2) (pair (sheets .hall-a) 1 refl) or is (Follows 2) (pair (sheets .no-span-arc) 1 refl)
+      is (Follows 2) (pair (sheets .hall-a) 1 refl) or is (Follows 2) (pair (sheets .no-span-hold) 1 refl) or is (Follows 2) (pair (sheets .no-span-arc) 1 refl)
       or is (Follows 2) (pair (sheets .no-span-inner) 1 refl) or is (Follows 2) (pair (sheets .no-span-leaf) 1 refl)
 
-  after-span : eqb k 3 || eqb k 4 || eqb k 6 || eqb k 7 ≡ true → Follows 3 k
+  after-span : eqb k 3 || eqb k 13 || eqb k 4 || eqb k 6 || eqb k 7 ≡ true → Follows 3 k
   unfolding kind word
   after-span =
-      is (Follows 3) (pair (sheets .hall-a) 2 refl) or is (Follows 3) (pair (sheets .hall-a) 3 refl)
+      is (Follows 3) (pair (sheets .hall-a) 2 refl) or is (Follows 3) (pair (sheets .one-node-hold) 2 refl) or is (Follows 3) (pair (sheets .hall-a) 3 refl)
       or is (Follows 3) (pair (sheets .one-node-inner) 2 refl) or is (Follows 3) (pair (sheets .one-node-leaf) 2 refl)
+
+  after-hold : eqb k 13 || eqb k 4 || eqb k 6 || eqb k 7 ≡ true → Follows 13 k
+  unfolding kind word
+  after-hold =
+      is (Follows 13) (pair (sheets .two-holds) 2 refl) or is (Follows 13) (pair (sheets .hold-arc) 2 refl)
+      or is (Follows 13) (pair (sheets .hold-inner) 2 refl) or is (Follows 13) (pair (sheets .hold-leaf) 2 refl)
 
   after-ends : eqb k 5 ≡ true → Follows 4 k
   unfolding kind word
@@ -145,7 +164,8 @@ module _ {k : ℕ} where
   end-shown : mayEnd k ≡ true → Ends k
   unfolding mayEnd kind word
   end-shown =
-      is Ends (end (sheets .no-span) 1 refl) or is Ends (end (sheets .one-node) 2 refl) or is Ends (end (sheets .no-span-arc) 3 refl)
+      is Ends (end (sheets .no-span) 1 refl) or is Ends (end (sheets .one-node) 2 refl) or is Ends (end (sheets .no-span-hold) 2 refl)
+      or is Ends (end (sheets .no-span-arc) 3 refl)
       or is Ends (end (sheets .inner-last) 18 refl) or is Ends (end (sheets .hall-a) 17 refl)
 
 module _ {before k : ℕ} where
@@ -156,8 +176,8 @@ module _ {before k : ℕ} where
   follow-shown : mayFollow before k ≡ true → Follows before k
   unfolding mayFollow
   follow-shown =
-      arm 1 after-node-count (arm 2 after-source (arm 3 after-span (arm 4 after-ends (arm 5 after-length (arm 6 after-inner (arm 7 after-leaf
-      (λ e. absurd (false≢true e))))))))
+      arm 1 after-node-count (arm 2 after-source (arm 3 after-span (arm 13 after-hold (arm 4 after-ends (arm 5 after-length (arm 6 after-inner (arm 7 after-leaf
+      (λ e. absurd (false≢true e)))))))))
 
 -- THE CLAIM
 pub by-cases : ByCases
@@ -165,5 +185,5 @@ by-cases = record {
   follows = λ before k. (follow-shown, λ s. rw (← s .first, ← s .second) (neighbours-yes (s .sheet) (s .ordered .order) (s .place) (s .inside)));
   begins = λ k. (begin-shown, λ s. rw (← s .first) (first-yes (s .sheet) (s .ordered .order)));
   ends = λ k. (end-shown, λ s. rw (← s .kind-there) (last-yes (s .sheet) (s .ordered .order) (s .place) (s .last)));
-  judged = by-kinds;
+  judged = by-cases-or-holds;
 }

@@ -1,5 +1,5 @@
--- Words of which each may follow the one before it are in the order of the sheet: the spans, the arcs in pairs, and then region words alone. So refusal 2
--- applies just where the front, some neighbouring pair or the end says no.
+-- Words of which each may follow the one before it are in the order of the sheet: the spans, the holds, the arcs in pairs, and then region words alone. So
+-- refusal 2, but for the number of holds, applies just where the front, some neighbouring pair or the end says no.
 -- By recursion on the words from the back of the order to its front.
 use Prim.Native.Nat.{ℕ, zero, suc, _+_, _-_, _*_, _/_, _<_, _≤_}
 use mathlib.Core.Bool.{Bool, true, false, not, _&&_, _||_, or-true}
@@ -12,9 +12,9 @@ use Rattle.indices.specs.Tests.{any, lead}
 use Rattle.indices.proofs.Steps.{by-truth}
 use Rattle.indices.proofs.Tests.{or-assoc, any-ext, any-front, lead-ext, and-left, and-right}
 use Rattle.sheet.specs.Words.{words, kind}
-use Rattle.sheet.specs.Sections.{isSpan, spansFrom, spanCount, isArc, arcsFrom, arcsAt, arcCount, regionWords}
+use Rattle.sheet.specs.Sections.{ofKind, kindFrom, spanCount, holdsAt, holdCount, isArc, arcsFrom, arcsAt, arcCount, regionWords}
 use Rattle.sheet.proofs.Bounds.{region-words, region-kind}
-use Rattle.judgement.specs.Form.{noRegionWord, outOfOrder}
+use Rattle.judgement.specs.Form.{noRegionWord, wrongSections, wrongHolds, outOfOrder}
 use Rattle.judgement.specs.Kinds.{mayBegin, mayFollow, mayEnd, wrongNeighbours, wrongKinds}
 
 -- n words, whose kinds are given, after one of kind `before`: each may follow the one before it, and the sheet may end
@@ -155,60 +155,98 @@ after-arc kinds (suc (suc n)) =
     by-truth (arcAt kinds 0) (λ arc. arc-first kinds n arc ∙ after-arc (λ i. kinds (suc (suc i))) n ∙ sym (arcs-one kinds n arc))
     (λ none. no-arc kinds n none ∙ sym (arcs-none kinds (suc (suc n)) (lead-zero kinds n none)))
 
--- SPANS
--- how many spans stand at the front of n words, and that what is behind them is in order
-unfoldable spansLead : (ℕ → ℕ) → ℕ → ℕ
-spansLead kinds n = lead (λ i. eqb (kinds i) 3) n
+-- A RUN of words of kind κ, and behind it what may stand after kind e
+-- how many words of the kind stand at the front of n words, and that what is behind them is in order
+unfoldable runLead : ℕ → (ℕ → ℕ) → ℕ → ℕ
+runLead κ kinds n = lead (λ i. eqb (kinds i) κ) n
 
-unfoldable spansThenArcs : (ℕ → ℕ) → ℕ → Bool
-spansThenArcs kinds n = arcsThenRegions (λ i. kinds (spansLead kinds n + i)) (n - spansLead kinds n)
+unfoldable runThen : ℕ → ((ℕ → ℕ) → ℕ → Bool) → (ℕ → ℕ) → ℕ → Bool
+runThen κ rest kinds n = rest (λ i. kinds (runLead κ kinds n + i)) (n - runLead κ kinds n)
 
-span-follows : (before k : ℕ) → eqb before 2 || eqb before 3 ≡ true → mayFollow before k ≡ eqb k 3 || mayFollow 5 k
-unfolding mayFollow
-span-follows before k e = by-kind before 2 3 e (λ two. rw two grouped) (λ three. rw three grouped)
+-- what is in order depends on the kinds alone
+abbrev Ext : ((ℕ → ℕ) → ℕ → Bool) → Type 0
+Ext rest = (kinds kinds′ : ℕ → ℕ) (n n′ : ℕ) → n ≡ n′ → ((i : ℕ) → kinds i ≡ kinds′ i) → rest kinds n ≡ rest kinds′ n′
+
+-- a kind of the run may be followed by one more of it, and else by what may follow kind e; and the sheet may end after it where it may end after e
+record InRun (κ e before : ℕ) : Type 0 where
+  follows : (k : ℕ) → mayFollow before k ≡ eqb k κ || mayFollow e k
+  ends : mayEnd before ≡ mayEnd e
+
+module _ (κ : ℕ) where
+  lead-more-run : (kinds : ℕ → ℕ) (n : ℕ) → eqb (kinds 0) κ ≡ true → runLead κ kinds (suc n) ≡ suc (runLead κ (λ i. kinds (suc i)) n)
+  unfolding runLead lead
+  lead-more-run kinds n e = rw e
+
+  lead-no-run : (kinds : ℕ → ℕ) (n : ℕ) → eqb (kinds 0) κ ≡ false → runLead κ kinds (suc n) ≡ 0
+  unfolding runLead lead
+  lead-no-run kinds n e = rw e
+
+  lead-no-words : (kinds : ℕ → ℕ) → runLead κ kinds 0 ≡ 0
+  unfolding runLead lead
+  lead-no-words kinds = refl
+
+  module _ (rest : (ℕ → ℕ) → ℕ → Bool) (ext : Ext rest) where
+    run-ext : Ext (runThen κ rest)
+    unfolding runThen runLead
+    run-ext kinds kinds′ n n′ e h =
+        rw (e, lead-ext (λ i. eqb (kinds i) κ) (λ i. eqb (kinds′ i) κ) n′ (λ i l. ap (λ (k : ℕ). eqb k κ) (h i)))
+        (ext _ _ _ _ refl (λ i. h (lead (λ i. eqb (kinds′ i) κ) n′ + i)))
+
+    run-none : (kinds : ℕ → ℕ) (n : ℕ) → runLead κ kinds n ≡ 0 → runThen κ rest kinds n ≡ rest kinds n
+    unfolding runThen
+    run-none kinds n e = rw e (ext (λ i. kinds (0 + i)) kinds (n - 0) n (omega arith) (λ i. ap kinds (omega arith)))
+
+    run-one : (kinds : ℕ → ℕ) (n : ℕ) → eqb (kinds 0) κ ≡ true → runThen κ rest kinds (suc n) ≡ runThen κ rest (λ i. kinds (suc i)) n
+    unfolding runThen
+    run-one kinds n e =
+        let more = runLead κ (λ i. kinds (suc i)) n in
+        rw (lead-more-run kinds n e)
+        (ext (λ i. kinds (suc more + i)) (λ i. kinds (suc (more + i))) (suc n - suc more) (n - more) (omega arith) (λ i. ap kinds (omega arith)))
+
+    -- after a kind of the run stand words of the run, and behind them words that are in order after kind e
+    after-run : (e : ℕ) → ((kinds : ℕ → ℕ) (n : ℕ) → followOn e kinds n ≡ rest kinds n) → InRun κ e κ
+        → (before : ℕ) (kinds : ℕ → ℕ) (n : ℕ) → InRun κ e before → followOn before kinds n ≡ runThen κ rest kinds n
+    unfolding followOn
+    after-run e behind own before kinds zero r = r .ends ∙ behind kinds 0 ∙ sym (run-none kinds 0 (lead-no-words kinds))
+    after-run e behind own before kinds (suc n) r =
+        rw (r .follows (kinds 0))
+        (by-truth (eqb (kinds 0) κ)
+        (λ h. let same : kinds 0 ≡ κ = eqb-true (kinds 0) κ h in
+        rw h (after-run e behind own (kinds 0) (λ i. kinds (suc i)) n (rw same own) ∙ sym (run-one kinds n h)))
+        (λ h. rw h (behind kinds (suc n) ∙ sym (run-none kinds (suc n) (lead-no-run kinds n h)))))
+
+-- HOLDS, and behind them the arcs
+abbrev holdsThenArcs : (ℕ → ℕ) → ℕ → Bool
+holdsThenArcs = runThen 13 arcsThenRegions
+
+hold-run : InRun 13 5 13
+unfolding mayFollow mayEnd
+hold-run = record { follows = λ k. by-truth (eqb k 13) (λ h. rw h) (λ h. rw h); ends = refl }
+
+after-hold : (kinds : ℕ → ℕ) (n : ℕ) → followOn 13 kinds n ≡ holdsThenArcs kinds n
+after-hold kinds n = after-run 13 arcsThenRegions arcs-ext 5 after-arc hold-run 13 kinds n hold-run
+
+-- SPANS, and behind them the holds
+abbrev spansThenHolds : (ℕ → ℕ) → ℕ → Bool
+spansThenHolds = runThen 3 holdsThenArcs
+
+span-run : (before : ℕ) → eqb before 2 || eqb before 3 ≡ true → InRun 3 13 before
+unfolding mayFollow mayEnd
+span-run before e = record {
+  follows = λ k. by-kind before 2 3 e (λ two. rw two (grouped k)) (λ three. rw three (grouped k));
+  ends = by-kind before 2 3 e (λ two. rw two) (λ three. rw three);
+}
   where
-    grouped : eqb k 3 || eqb k 4 || eqb k 6 || eqb k 7 ≡ eqb k 3 || (eqb k 4 || eqb k 6 || eqb k 7)
-    grouped = by-truth (eqb k 3) (λ h. rw h) (λ h. rw h)
+    grouped : (k : ℕ) → eqb k 3 || eqb k 13 || eqb k 4 || eqb k 6 || eqb k 7 ≡ eqb k 3 || (eqb k 13 || eqb k 4 || eqb k 6 || eqb k 7)
+    grouped k = by-truth (eqb k 3) (λ h. rw h) (λ h. rw h)
 
-span-ends : (before : ℕ) → eqb before 2 || eqb before 3 ≡ true → mayEnd before ≡ true
-unfolding mayEnd
-span-ends before e = by-kind before 2 3 e (λ two. rw two) (λ three. rw three)
-
-spans-none : (kinds : ℕ → ℕ) (n : ℕ) → spansLead kinds n ≡ 0 → spansThenArcs kinds n ≡ followOn 5 kinds n
-unfolding spansThenArcs
-spans-none kinds n e = rw e (arcs-ext (λ i. kinds (0 + i)) kinds (n - 0) n (omega arith) (λ i. ap kinds (omega arith)) ∙ sym (after-arc kinds n))
-
-lead-more-spans : (kinds : ℕ → ℕ) (n : ℕ) → eqb (kinds 0) 3 ≡ true → spansLead kinds (suc n) ≡ suc (spansLead (λ i. kinds (suc i)) n)
-unfolding spansLead lead
-lead-more-spans kinds n e = rw e
-
-lead-no-span : (kinds : ℕ → ℕ) (n : ℕ) → eqb (kinds 0) 3 ≡ false → spansLead kinds (suc n) ≡ 0
-unfolding spansLead lead
-lead-no-span kinds n e = rw e
-
-lead-no-words : (kinds : ℕ → ℕ) → spansLead kinds 0 ≡ 0
-unfolding spansLead lead
-lead-no-words kinds = refl
-
-spans-one : (kinds : ℕ → ℕ) (n : ℕ) → eqb (kinds 0) 3 ≡ true → spansThenArcs kinds (suc n) ≡ spansThenArcs (λ i. kinds (suc i)) n
-unfolding spansThenArcs
-spans-one kinds n e =
-    let rest = spansLead (λ i. kinds (suc i)) n in
-    rw (lead-more-spans kinds n e)
-    (arcs-ext (λ i. kinds (suc rest + i)) (λ i. kinds (suc (rest + i))) (suc n - suc rest) (n - rest) (omega arith) (λ i. ap kinds (omega arith)))
-
-after-span : (before : ℕ) (kinds : ℕ → ℕ) (n : ℕ) → eqb before 2 || eqb before 3 ≡ true → followOn before kinds n ≡ spansThenArcs kinds n
-unfolding followOn mayEnd
-after-span before kinds zero e = span-ends before e ∙ sym (spans-none kinds 0 (lead-no-words kinds))
-after-span before kinds (suc n) e =
-    rw (span-follows before (kinds 0) e)
-    (by-truth (eqb (kinds 0) 3)
-    (λ h. let three : kinds 0 ≡ 3 = eqb-true (kinds 0) 3 h in rw h (after-span (kinds 0) (λ i. kinds (suc i)) n (rw three) ∙ sym (spans-one kinds n h)))
-    (λ h. rw h (sym (spans-none kinds (suc n) (lead-no-span kinds n h)))))
+after-span : (before : ℕ) (kinds : ℕ → ℕ) (n : ℕ) → eqb before 2 || eqb before 3 ≡ true → followOn before kinds n ≡ spansThenHolds kinds n
+after-span before kinds n e =
+    after-run 3 holdsThenArcs (run-ext 13 arcsThenRegions arcs-ext) 13 after-hold (span-run 3 refl) before kinds n (span-run before e)
 
 -- THE WHOLE SHEET
 from-front : (kinds : ℕ → ℕ) (n : ℕ)
-    → mayBegin (kinds 0) && followOn (kinds 0) (λ i. kinds (suc i)) (suc n) ≡ eqb (kinds 0) 1 && (eqb (kinds 1) 2 && spansThenArcs (λ i. kinds (suc (suc i))) n)
+    → mayBegin (kinds 0) && followOn (kinds 0) (λ i. kinds (suc i)) (suc n) ≡ eqb (kinds 0) 1 && (eqb (kinds 1) 2 && spansThenHolds (λ i. kinds (suc (suc i))) n)
 unfolding followOn mayBegin mayFollow
 from-front kinds n =
     by-truth (eqb (kinds 0) 1)
@@ -237,13 +275,13 @@ by-pairs kinds (suc n) =
     )
     (by-truth (mayFollow (kinds 0) (kinds 1)) (λ h. rw h) (λ h. rw h))
 
-short : (b : List ℕ) → words b < 2 → not (outOfOrder b) ≡ false
-unfolding outOfOrder
+short : (b : List ℕ) → words b < 2 → not (wrongSections b) ≡ false
+unfolding wrongSections
 short b l = rw (lt-ltb (words b) 2 l)
 
 long : (b : List ℕ) → 2 ≤ words b
-    → not (outOfOrder b) ≡ eqb (kind b 0) 1 && (eqb (kind b 1) 2 && not (any (noRegionWord (regionWords b)) (words (regionWords b))))
-unfolding outOfOrder
+    → not (wrongSections b) ≡ eqb (kind b 0) 1 && (eqb (kind b 1) 2 && not (any (noRegionWord (regionWords b)) (words (regionWords b))))
+unfolding wrongSections
 long b l = rw (le-ltb (words b) 2 l) (at (eqb (kind b 0) 1) (eqb (kind b 1) 2) (any (noRegionWord (regionWords b)) (words (regionWords b))))
   where
     at : (x y z : Bool) → not (false || not x || not y || z) ≡ x && (y && not z)
@@ -252,11 +290,15 @@ long b l = rw (le-ltb (words b) 2 l) (at (eqb (kind b 0) 1) (eqb (kind b 1) 2) (
     at false y z = refl
 
 module _ (b : List ℕ) where
-  span-count : (n : ℕ) → words b ≡ suc (suc n) → spansLead (λ i. kind b (suc (suc i))) n ≡ spanCount b
-  unfolding spansLead spansFrom
+  span-count : (n : ℕ) → words b ≡ suc (suc n) → runLead 3 (λ i. kind b (suc (suc i))) n ≡ spanCount b
+  unfolding runLead kindFrom
   span-count n e =
-      lead-ext (λ i. eqb (kind b (suc (suc i))) 3) (isSpan b 2) n (λ i l. ap (λ (j : ℕ). eqb (kind b j) 3) (omega arith))
-      ∙ ap (lead (isSpan b 2)) (omega arith)
+      lead-ext (λ i. eqb (kind b (suc (suc i))) 3) (ofKind 3 b 2) n (λ i l. ap (λ (j : ℕ). eqb (kind b j) 3) (omega arith))
+      ∙ ap (lead (ofKind 3 b 2)) (omega arith)
+
+  hold-count : runLead 13 (λ i. kind b (holdsAt b + i)) (words b - holdsAt b) ≡ holdCount b
+  unfolding runLead kindFrom
+  hold-count = refl
 
   arc-count : arcsLead (λ i. kind b (arcsAt b + i)) (words b - arcsAt b) ≡ arcCount b
   unfolding arcsLead arcsFrom
@@ -273,12 +315,19 @@ module _ (b : List ℕ) where
       (ap not (any-ext (λ i. not (regionKind (kind b (arcsAt b + (2 * arcCount b + i))))) (noRegionWord (regionWords b)) (words (regionWords b))
       (λ i l. ap (λ (k : ℕ). not (eqb k 6 || eqb k 7)) (ap (kind b) (omega arith) ∙ sym (region-kind b i)))))
 
-  sections : (n : ℕ) → words b ≡ suc (suc n) → spansThenArcs (λ i. kind b (suc (suc i))) n ≡ not (any (noRegionWord (regionWords b)) (words (regionWords b)))
-  unfolding spansThenArcs
+  arc-part : 2 ≤ words b → holdsThenArcs (λ i. kind b (holdsAt b + i)) (words b - holdsAt b) ≡ not (any (noRegionWord (regionWords b)) (words (regionWords b)))
+  unfolding runThen
+  arc-part two =
+      rw hold-count
+      (arcs-ext (λ i. kind b (holdsAt b + (holdCount b + i))) (λ i. kind b (arcsAt b + i)) (words b - holdsAt b - holdCount b) (words b - arcsAt b)
+      (omega arith) (λ i. ap (kind b) (omega arith)) ∙ region-part two)
+
+  sections : (n : ℕ) → words b ≡ suc (suc n) → spansThenHolds (λ i. kind b (suc (suc i))) n ≡ not (any (noRegionWord (regionWords b)) (words (regionWords b)))
+  unfolding runThen
   sections n e =
       rw (span-count n e)
-      (arcs-ext (λ i. kind b (suc (suc (spanCount b + i)))) (λ i. kind b (arcsAt b + i)) (n - spanCount b) (words b - arcsAt b) (omega arith)
-      (λ i. ap (kind b) (omega arith)) ∙ region-part (omega arith))
+      (run-ext 13 arcsThenRegions arcs-ext (λ i. kind b (suc (suc (spanCount b + i)))) (λ i. kind b (holdsAt b + i)) (n - spanCount b) (words b - holdsAt b)
+      (omega arith) (λ i. ap (kind b) (omega arith)) ∙ arc-part (omega arith))
 
   -- the test of the whole sheet, word by word from its front
   word-by-word : (n : ℕ) → words b ≡ suc n → not (wrongKinds b) ≡ mayBegin (kind b 0) && followOn (kind b 0) (λ i. kind b (suc i)) n
@@ -297,22 +346,27 @@ module _ (b : List ℕ) where
   unfolding wrongKinds
   no-word e = rw (eq-eqb (words b) 0 e)
 
-  same-not : not (outOfOrder b) ≡ not (wrongKinds b)
+  same-not : not (wrongSections b) ≡ not (wrongKinds b)
   same-not = at (words b) refl
     where
-      at : (m : ℕ) → words b ≡ m → not (outOfOrder b) ≡ not (wrongKinds b)
+      at : (m : ℕ) → words b ≡ m → not (wrongSections b) ≡ not (wrongKinds b)
       at zero e = short b (omega arith) ∙ sym (no-word e)
       at (suc zero) e = short b (omega arith) ∙ sym (word-by-word 0 e ∙ too-short (kind b))
       at (suc (suc n)) e =
           long b (omega arith) ∙ ap (λ (r : Bool). eqb (kind b 0) 1 && (eqb (kind b 1) 2 && r)) (sym (sections n e))
           ∙ sym (word-by-word (suc n) e ∙ from-front (kind b) n)
 
-  -- refusal 2 applies just where the front, some neighbouring pair or the end says no
-  pub by-kinds : outOfOrder b ≡ wrongKinds b
-  by-kinds = same (outOfOrder b) (wrongKinds b) same-not
+  -- the sections are not in order just where the front, some neighbouring pair or the end says no
+  pub by-kinds : wrongSections b ≡ wrongKinds b
+  by-kinds = same (wrongSections b) (wrongKinds b) same-not
     where
       same : (x y : Bool) → not x ≡ not y → x ≡ y
       same true true e = refl
       same true false e = sym e
       same false true e = sym e
       same false false e = refl
+
+  -- refusal 2 applies just there, and where the number of holds is wrong
+  pub by-cases-or-holds : outOfOrder b ≡ wrongKinds b || wrongHolds b
+  unfolding outOfOrder
+  by-cases-or-holds = ap (λ (t : Bool). t || wrongHolds b) by-kinds

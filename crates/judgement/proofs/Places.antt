@@ -1,4 +1,4 @@
--- The kinds of an accepted sheet, by place: the first two words, the spans, both words of each arc, the region words.
+-- The kinds of an accepted sheet, by place: the first two words, the spans, the holds, both words of each arc, the region words.
 use Prim.Native.Nat.{ℕ, _+_, _*_, _/_, _%_, _<_}
 use mathlib.Core.Bool.{true, not, _||_}
 use mathlib.Core.Path.{_≡_, sym, ap, _∙_}
@@ -10,16 +10,24 @@ use lib.Dec.{ltb, eqb}
 use Rattle.indices.proofs.Steps.{by-order, by-truth}
 use Rattle.indices.proofs.Tests.{or-left, or-right, or-then, and-left, and-right, lead-true}
 use Rattle.sheet.specs.Words.{words, kind}
-use Rattle.sheet.specs.Sections.{isSpan, isArc, spansFrom, arcsFrom, spanCount, arcCount, arcsAt, regionsAt, regionWords}
+use Rattle.sheet.specs.Sections.{ofKind, isArc, kindFrom, arcsFrom, spanCount, holdsAt, holdCount, arcCount, arcsAt, regionsAt}
+use Rattle.sheet.specs.Sections.{regionWords}
 use Rattle.sheet.proofs.Bounds.{region-kind}
-use Rattle.judgement.specs.Form.{wrongFront, outOfOrder}
+use Rattle.judgement.specs.Form.{wrongFront, wrongSections}
 use Rattle.judgement.specs.Judgement.{Accepted}
+use Rattle.judgement.proofs.Clear.{in-sections}
 use Rattle.judgement.proofs.Accepted.{none-applies, region-kinds}
 
 module _ (b : List ℕ) where
+  run-kind : (κ from : ℕ) (i : ℕ) → i < kindFrom κ b from → kind b (from + i) ≡ κ
+  unfolding kindFrom
+  run-kind κ from i l = eqb-true (kind b (from + i)) κ (lead-true (ofKind κ b from) _ i l)
+
   pub span-kind : (i : ℕ) → i < spanCount b → kind b (2 + i) ≡ 3
-  unfolding spansFrom
-  span-kind i l = eqb-true (kind b (2 + i)) 3 (lead-true (isSpan b 2) _ i l)
+  span-kind = run-kind 3 2
+
+  pub hold-kind : (i : ℕ) → i < holdCount b → kind b (holdsAt b + i) ≡ 13
+  hold-kind = run-kind 13 (holdsAt b)
 
   arc-there : (a : ℕ) → a < arcCount b → isArc b (arcsAt b) a ≡ true
   unfolding arcsFrom
@@ -44,9 +52,9 @@ module _ (b : List ℕ) where
   module _ (ok : Accepted b) where
     -- "kind 1, once", "kind 2, once"
     pub front-kinds : (kind b 0 ≡ 1) × (kind b 1 ≡ 2)
-    unfolding outOfOrder
+    unfolding wrongSections
     front-kinds =
-        let first-two = or-left (wrongFront b) _ (none-applies b ok .order) in
+        let first-two = or-left (wrongFront b) _ (in-sections b (none-applies b ok .order)) in
         let first = or-left (ltb (words b) 2 || not (eqb (kind b 0) 1)) (not (eqb (kind b 1) 2)) first-two in (
           eqb-true (kind b 0) 1 (not-false (eqb (kind b 0) 1) (or-right (ltb (words b) 2) (not (eqb (kind b 0) 1)) first)),
           eqb-true (kind b 1) 2 (not-false (eqb (kind b 1) 2) (or-right (ltb (words b) 2 || not (eqb (kind b 0) 1)) (not (eqb (kind b 1) 2)) first-two)),

@@ -8,7 +8,7 @@ use native.Mathlib.Omega.{arith}
 use Rattle.sheet.specs.Sections.{spanCount, arcCount, regionWords}
 use Rattle.answer.specs.Answer.{input, Answer, refused, _when_, lowest}
 use Rattle.answer.proofs.Lowest.{lowest-less}
-use Rattle.judgement.specs.Arcs.{endsOutside, lengthsOutside, tooManyAtNode}
+use Rattle.judgement.specs.Arcs.{endsOutside, lengthsOutside, holdsOutside, tooManyAtNode}
 use Rattle.judgement.specs.Judgement.{formRefusals, countRefusals, arcRefusals, divisionRefusals, refusalsUnder, judgementUnder}
 use Rattle.judgement.proofs.Clear.{few-at-nodes}
 
@@ -22,4 +22,4 @@ module _ (few most : ℕ) (wider : few ≤ most) (b : List ℕ) where
   unfolding refusalsUnder formRefusals countRefusals arcRefusals
   same-lowest other answer =
       lowest-less (divisionRefusals (regionWords b) (arcCount b) (spanCount b)) (input 10) none-too-many answer
-      (formRefusals b ++ (countRefusals b ++ (input 8 when endsOutside b ∷ input 9 when lengthsOutside b ∷ []))) other
+      (formRefusals b ++ (countRefusals b ++ (input 8 when endsOutside b ∷ input 9 when lengthsOutside b ∷ input 34 when holdsOutside b ∷ []))) other

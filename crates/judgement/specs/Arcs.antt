@@ -1,4 +1,4 @@
--- Refusals 8 to 10 of a sheet, those of its arcs, each beside its line of the paper. Definitions.
+-- Refusals 8 to 10 of a sheet, and 34 after 9, those of its arcs, each beside its line of the paper. Definitions.
 use Prim.Native.Nat.{ℕ}
 use mathlib.Core.List.{List}
 use mathlib.Core.Bool.{Bool, true, false, _||_}
@@ -6,7 +6,7 @@ use lib.Dec.{ltb, leb, eqb}
 use Rattle.indices.specs.Tests.{any, count}
 use Rattle.sheet.specs.Limits.{mostLength}
 use Rattle.sheet.specs.Sections.{nodeCount, arcCount}
-use Rattle.sheet.specs.Arcs.{tail, head, arcLength, endOf}
+use Rattle.sheet.specs.Arcs.{tail, head, arcLength, endOf, takenLength}
 
 -- 8. "A tail or head not below n."
 abbrev pub endOutside : List ℕ → ℕ → Bool
@@ -21,6 +21,13 @@ tooLong b a = ltb mostLength (arcLength b a)
 
 unfoldable pub lengthsOutside : List ℕ → Bool
 lengthsOutside b = any (tooLong b) (arcCount b)
+
+-- 2026-08: "34, a tail's hold (0 for the source) plus the arc's length above 262,143, after 9."
+abbrev pub tooLongHeld : List ℕ → ℕ → Bool
+tooLongHeld b a = ltb mostLength (takenLength b a)
+
+unfoldable pub holdsOutside : List ℕ → Bool
+holdsOutside b = any (tooLongHeld b) (arcCount b)
 
 -- 10. "A node with more than two outgoing or more than two incoming arcs.", where "From now on a node may have up to four each way, and five is still 10."
 -- (2026-01): with `limit` for two and four.

@@ -7,15 +7,18 @@ use lib.Dec.{ltb, leb, eqb}
 use Rattle.indices.specs.Tests.{any}
 use Rattle.sheet.specs.Limits.{mostBytes, mostNodes, mostSpans, mostSpan, mostArcs, mostRegionWords}
 use Rattle.sheet.specs.Words.{words, kind, payload}
-use Rattle.sheet.specs.Sections.{nodeCount, source, spanCount, span, arcCount, regionWords}
+use Rattle.sheet.specs.Sections.{nodeCount, source, spanCount, span, holdCount, arcCount, regionWords}
 use Rattle.sheet.specs.Arcs.{endsWord}
 use Rattle.sheet.specs.Regions.{leafWord}
 
--- 1. "Byte count not a multiple of 4, or above 32,828."
-unfoldable pub wrongSize : List ℕ → Bool
-wrongSize b = not (eqb (length b % 4) 0) || ltb mostBytes (length b)
+-- 1. "Byte count not a multiple of 4, or above 32,828.", where "The byte limit becomes 36,924." (2026-08): with `limit` for the one and the other.
+abbrev pub wrongSizeUnder : ℕ → List ℕ → Bool
+wrongSizeUnder limit b = not (eqb (length b % 4) 0) || ltb limit (length b)
 
--- 2. "Kinds out of order, an unpaired 4 or 5, an unknown kind, or the sheet ends too soon." The order is kind 1, kind 2, the spans, the arcs
+unfoldable pub wrongSize : List ℕ → Bool
+wrongSize b = wrongSizeUnder mostBytes b
+
+-- 2. "Kinds out of order, an unpaired 4 or 5, an unknown kind, or the sheet ends too soon." The order is kind 1, kind 2, the spans, the holds, the arcs
 -- in pairs, and after the last of them kinds 6 and 7 alone.
 abbrev pub noRegionWord : List ℕ → ℕ → Bool
 noRegionWord d k = not (eqb (kind d k) 6 || eqb (kind d k) 7)
@@ -23,8 +26,15 @@ noRegionWord d k = not (eqb (kind d k) 6 || eqb (kind d k) 7)
 abbrev pub wrongFront : List ℕ → Bool
 wrongFront b = ltb (words b) 2 || not (eqb (kind b 0) 1) || not (eqb (kind b 1) 2)
 
+unfoldable pub wrongSections : List ℕ → Bool
+wrongSections b = wrongFront b || any (noRegionWord (regionWords b)) (words (regionWords b))
+
+-- 2026-08: "A number of hold words other than 0 or the payload of kind 1 is 2."
+unfoldable pub wrongHolds : List ℕ → Bool
+wrongHolds b = not (eqb (holdCount b) 0 || eqb (holdCount b) (nodeCount b))
+
 unfoldable pub outOfOrder : List ℕ → Bool
-outOfOrder b = wrongFront b || any (noRegionWord (regionWords b)) (words (regionWords b))
+outOfOrder b = wrongSections b || wrongHolds b
 
 -- 3. "A bit set that must be zero." Kind 4: "bits 27 to 20 zero". Kind 7: "bits 27 to 23 zero".
 abbrev pub arcBits : List ℕ → ℕ → Bool

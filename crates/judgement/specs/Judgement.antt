@@ -6,10 +6,10 @@ use Rattle.sheet.specs.Limits.{mostArcsEachWay}
 use Rattle.sheet.specs.Sections.{spanCount, arcCount, regionWords}
 use Rattle.answer.specs.Answer.{input, Answer, accepted, Case, _when_, lowest}
 use Rattle.judgement.specs.Form.{wrongSize, outOfOrder, bitSet, nodesOutside, sourceOutside, spansOutside, tooMany}
-use Rattle.judgement.specs.Arcs.{endsOutside, lengthsOutside, tooManyAtNode}
+use Rattle.judgement.specs.Arcs.{endsOutside, lengthsOutside, holdsOutside, tooManyAtNode}
 use Rattle.judgement.specs.Division.{wrongParents, wrongLeaves, childlessRegions, spansDiffer}
 
--- "From the input", 1 to 14
+-- "From the input", 1 to 14, and 34 (2026-08)
 unfoldable pub formRefusals : List ℕ → List Case
 formRefusals b = input 1 when wrongSize b ∷ input 2 when outOfOrder b ∷ input 3 when bitSet b ∷ []
 
@@ -19,7 +19,8 @@ countRefusals b =
 
 -- where a node may have so many arcs each way
 unfoldable pub arcRefusals : ℕ → List ℕ → List Case
-arcRefusals limit b = input 8 when endsOutside b ∷ input 9 when lengthsOutside b ∷ input 10 when tooManyAtNode limit b ∷ []
+arcRefusals limit b =
+    input 8 when endsOutside b ∷ input 9 when lengthsOutside b ∷ input 34 when holdsOutside b ∷ input 10 when tooManyAtNode limit b ∷ []
 
 -- of region words d, where the sheet has so many arcs and spans
 unfoldable pub divisionRefusals : List ℕ → ℕ → ℕ → List Case
@@ -41,6 +42,6 @@ refusals b = refusalsUnder mostArcsEachWay b
 unfoldable pub judgement : List ℕ → Answer
 judgement b = judgementUnder mostArcsEachWay b
 
--- "A sheet is accepted when no refusal of the sheet itself (here 1 to 14) applies to it."
+-- "A sheet is accepted when no refusal of the sheet itself (here 1 to 14) applies to it.", and 34 is one too
 abbrev pub Accepted : List ℕ → Type 0
 Accepted b = judgement b ≡ accepted

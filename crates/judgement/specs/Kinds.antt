@@ -1,5 +1,6 @@
 -- Request 2026-05: which kinds may stand at the front of a sheet, right after each other, and at its end, a case for each kind. And what is claimed of these
--- cases: they say yes exactly where the order of refusal 2, which is defined by the sections of a sheet, lets the one follow the other. Definitions.
+-- cases: they say yes exactly where the order of refusal 2, which is defined by the sections of a sheet, lets the one follow the other. Of how many holds
+-- there are, the other part of refusal 2 (2026-08), neighbours say nothing. Definitions.
 use Prim.Native.Nat.{ℕ, _+_, _-_, _<_}
 use mathlib.Core.Bool.{Bool, true, false, not, _||_}
 use mathlib.Core.List.{List}
@@ -10,7 +11,7 @@ use lib.Dec.{eqb}
 use Rattle.indices.specs.Steps.{if_then_else_}
 use Rattle.indices.specs.Tests.{any}
 use Rattle.sheet.specs.Words.{words, kind}
-use Rattle.judgement.specs.Form.{wrongSize, outOfOrder}
+use Rattle.judgement.specs.Form.{wrongSize, wrongHolds, outOfOrder}
 
 -- "A sheet is read word by word from its front, in this order": the kinds with which a sheet may begin
 unfoldable pub mayBegin : ℕ → Bool
@@ -23,9 +24,11 @@ mayFollow before k =
     -- "kind 1, once: the node count n, 1 to 1,024"
     if eqb before 1 then eqb k 2 else
     -- "kind 2, once: the source node"
-    if eqb before 2 then eqb k 3 || eqb k 4 || eqb k 6 || eqb k 7 else
+    if eqb before 2 then eqb k 3 || eqb k 13 || eqb k 4 || eqb k 6 || eqb k 7 else
     -- "kind 3, up to 15 times: the span, 1 to 1,000,000, for heights 1, 2, 3 and so on"
-    if eqb before 3 then eqb k 3 || eqb k 4 || eqb k 6 || eqb k 7 else
+    if eqb before 3 then eqb k 3 || eqb k 13 || eqb k 4 || eqb k 6 || eqb k 7 else
+    -- "A sheet may carry n words of kind 13 after the spans, or none: the hold in hundredths at nodes 0, 1, 2 and so on." (2026-08)
+    if eqb before 13 then eqb k 13 || eqb k 4 || eqb k 6 || eqb k 7 else
     -- "kinds 4 and 5 in pairs, up to 2,048 pairs, one arc each. Kind 4: bits 19 to 10 the tail node, bits 9 to 0 the head, bits 27 to 20 zero. .."
     if eqb before 4 then eqb k 5 else
     -- "kinds 4 and 5 in pairs, up to 2,048 pairs, one arc each. .. Kind 5: the length in hundredths of a second, 0 to 262,143"
@@ -38,7 +41,7 @@ mayFollow before k =
 
 -- "an unpaired 4 or 5, .. or the sheet ends too soon": the kinds after which a sheet may end, not after the node count alone, and not within an arc
 unfoldable pub mayEnd : ℕ → Bool
-mayEnd k = eqb k 2 || eqb k 3 || eqb k 5 || eqb k 6 || eqb k 7
+mayEnd k = eqb k 2 || eqb k 3 || eqb k 13 || eqb k 5 || eqb k 6 || eqb k 7
 
 -- The test of a whole sheet by these cases. Its front says no: it has no word, or its first is of a kind with which no sheet begins.
 abbrev pub wrongFirst : List ℕ → Bool
@@ -93,5 +96,5 @@ pub record ByCases : Type 0 where
   pub begins : (k : ℕ) → mayBegin k ≡ true ↔ Begins k
   pub ends : (k : ℕ) → mayEnd k ≡ true ↔ Ends k
   -- "Every sheet is judged as before.": refusal 2, by the sections of a sheet, applies exactly where by the cases its front, some neighbouring pair or its end
-  -- says no
-  pub judged : (b : List ℕ) → outOfOrder b ≡ wrongKinds b
+  -- says no, or where the number of holds is wrong
+  pub judged : (b : List ℕ) → outOfOrder b ≡ wrongKinds b || wrongHolds b

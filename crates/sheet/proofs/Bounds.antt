@@ -9,28 +9,28 @@ use lib.Seq.{take-all, getD-drop}
 use Rattle.indices.proofs.Tests.{lead-le}
 use Rattle.sheet.specs.declared.Sections.{Sections}
 use Rattle.sheet.specs.Words.{words, word, kindOf, kind}
-use Rattle.sheet.specs.Sections.{isSpan, isArc, spansFrom, arcsFrom, arcsAt, arcCount, regionsAt, regionWords}
+use Rattle.sheet.specs.Sections.{ofKind, isArc, kindFrom, arcsFrom, holdsAt, arcsAt, arcCount, regionsAt, regionWords}
 use Rattle.sheet.specs.Inner.{Located}
 
-pub spans-le : (b : List ℕ) (i : ℕ) → spansFrom b i ≤ words b - i
-unfolding spansFrom
-spans-le b i = lead-le (isSpan b i) (words b - i)
+pub kind-le : (κ : ℕ) (b : List ℕ) (i : ℕ) → kindFrom κ b i ≤ words b - i
+unfolding kindFrom
+kind-le κ b i = lead-le (ofKind κ b i) (words b - i)
 
 pub arcs-le : (b : List ℕ) (i : ℕ) → arcsFrom b i ≤ (words b - i) / 2
 unfolding arcsFrom
 arcs-le b i = lead-le (isArc b i) ((words b - i) / 2)
 
--- the words of an arc are words of the sheet
-pub arc-inside : {b : List ℕ} {sections : Sections} → Located b sections → (a : ℕ) → a < arcCount b → 2 + sections .spans + 2 * a + 1 < words b
-arc-inside {b} found a l = omega (arith, spans-le b 2, arcs-le b (arcsAt b), found .front, found .spans-all)
-
 -- the last arc ends within the sheet
 pub regions-inside : (b : List ℕ) → 2 ≤ words b → regionsAt b ≤ words b
-regions-inside b two = omega (arith, spans-le b 2, arcs-le b (arcsAt b))
+regions-inside b two = omega (arith, kind-le 3 b 2, kind-le 13 b (holdsAt b), arcs-le b (arcsAt b))
 
 -- the same of the sections that were found
-pub located-inside : {b : List ℕ} {sections : Sections} → Located b sections → 4 * (2 + sections .spans + 2 * sections .arcs) ≤ length b
-located-inside {b} found = omega (arith, regions-inside b (found .front), found .spans-all, found .arcs-all)
+pub located-inside : {b : List ℕ} {sections : Sections} → Located b sections → sections .after ≤ words b
+located-inside {b} found = omega (arith, regions-inside b (found .front), found .regions-from)
+
+-- the words of an arc are words of the sheet
+pub arc-inside : {b : List ℕ} {sections : Sections} → Located b sections → (a : ℕ) → a < arcCount b → sections .first + 2 * a + 1 < words b
+arc-inside {b} found a l = omega (arith, regions-inside b (found .front), found .arcs-from)
 
 -- there are as many region words as words are left
 pub region-words : (b : List ℕ) → 2 ≤ words b → words (regionWords b) ≡ words b - regionsAt b

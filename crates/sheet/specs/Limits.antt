@@ -1,9 +1,13 @@
 -- The limits of a sheet, each a named number. Definitions.
 use Prim.Native.Nat.{ℕ}
 
--- "Byte count not a multiple of 4, or above 32,828."
+-- "The byte limit becomes 36,924." (2026-08)
 abbrev pub mostBytes : ℕ
-mostBytes = 32828
+mostBytes = 36924
+
+-- "Byte count not a multiple of 4, or above 32,828.": so many before 2026-08
+abbrev pub mostBytesBefore : ℕ
+mostBytesBefore = 32828
 
 -- "the node count n, 1 to 1,024"
 abbrev pub mostNodes : ℕ

@@ -1,10 +1,10 @@
-// The fields of an arc and of a region word.
+// The fields of an arc, the holds at nodes, and the fields of a region word.
 ghost use mathlib.Core.Path.{_≡_};
 ghost use Prim.Native.Nat.{_≤_, _<_};
 ghost use Rattle.sheet.specs.Words.{words, payload};
 ghost use Rattle.sheet.specs.Sections.{arcCount};
 ghost use Rattle.sheet.specs.Inner.{Located};
-ghost use Rattle.sheet.specs.Arcs.{endsWord, arcLength, endOf};
+ghost use Rattle.sheet.specs.Arcs.{endsWord, arcLength, endOf, hold, charged, takenLength};
 ghost use Rattle.sheet.specs.Regions.{leafWord, parentWord, arcWord, isLeaf};
 ghost use Rattle.sheet.specs.Limits.{nodeNumbers, arcNumbers};
 use crate::Arc;
@@ -25,7 +25,7 @@ pub fn ends_payload(s: &[u8], sections: Sections, a: Arc) -> u32
     ensures { λ r. ⌜ r ≡ payload (now (s .entry)) (endsWord (now (s .entry)) (a .0)) ⌝ }
 {
     let i = a.0 as usize;
-    crate::payload_at(s, 2 + sections.spans + 2 * i)
+    crate::payload_at(s, sections.first + 2 * i)
 }
 
 // One end of an arc: its head, or else its tail.
@@ -46,7 +46,39 @@ pub fn length_at(s: &[u8], sections: Sections, a: Arc) -> u32
     ensures { λ r. ⌜ r ≡ arcLength (now (s .entry)) (a .0) ⌝ }
 {
     let i = a.0 as usize;
-    crate::payload_at(s, 2 + sections.spans + 2 * i + 1)
+    crate::payload_at(s, sections.first + 2 * i + 1)
+}
+
+// The hold at a node: 0 in a sheet that carries none.
+fn hold_at(s: &[u8], sections: Sections, v: Node) -> u32
+    requires { ⌜ Located (now s) sections ⌝ }
+    ensures { λ r. ⌜ r ≡ hold (now (s .entry)) (v .0) ⌝ }
+{
+    let i = 2 + sections.spans + v.0 as usize;
+    if i < sections.first {
+        return crate::payload_at(s, i);
+    }
+    0
+}
+
+// What passing a node takes: its hold, but at the source nothing.
+fn charged_at(s: &[u8], sections: Sections, v: Node) -> u32
+    requires { ⌜ Located (now s) sections ⌝ }
+    ensures { λ r. ⌜ r ≡ charged (now (s .entry)) (v .0) ⌝ }
+{
+    if v.0 as u32 == crate::source_number(s) {
+        return 0;
+    }
+    hold_at(s, sections, v)
+}
+
+// The length of an arc with its tail's hold added, which the procedure takes.
+pub fn taken_length_at(s: &[u8], sections: Sections, a: Arc) -> u32
+    requires { ⌜ Located (now s) sections × (a .0 < arcCount (now s)) ⌝ }
+    ensures { λ r. ⌜ r ≡ takenLength (now (s .entry)) (a .0) ⌝ }
+{
+    let tail = end_at(s, sections, a, false);
+    length_at(s, sections, a) + charged_at(s, sections, tail)
 }
 
 // Whether word k of the region words is a leaf.

@@ -1,10 +1,10 @@
-// The sections of a sheet: reading it word by word, and where spans, arcs and region words end.
+// The sections of a sheet: reading it word by word, and where spans, holds, arcs and region words end.
 ghost use mathlib.Core.Path.{_≡_};
 ghost use mathlib.Core.Bool.{_&&_};
 ghost use Prim.Native.Nat.{_+_, _*_, _≤_, _<_};
 ghost use lib.Dec.{eqb};
 ghost use Rattle.sheet.specs.Words.{words, kind};
-ghost use Rattle.sheet.specs.Sections.{partAfter, spansFrom, arcsFrom};
+ghost use Rattle.sheet.specs.Sections.{partAfter, kindFrom, arcsFrom};
 ghost use Rattle.sheet.specs.Inner.{stepAt, Located};
 use crate::Cursor;
 use crate::Sections;
@@ -30,16 +30,16 @@ pub fn part_after(s: &[u8], c: Cursor) -> &[u8]
     &s[from..]
 }
 
-// The place after the spans that stand from c on.
-fn past_spans(s: &[u8], c: Cursor) -> Cursor
+// The place after the words of a kind that stand from c on.
+fn past_kind(s: &[u8], c: Cursor, kind: u32) -> Cursor
     requires { ⌜ c .place ≤ words (now s) ⌝ }
-    ensures { λ r. ⌜ r .place ≡ c .place + spansFrom (now (s .entry)) (c .place) ⌝ }
+    ensures { λ r. ⌜ r .place ≡ c .place + kindFrom kind (now (s .entry)) (c .place) ⌝ }
 {
     let from = c.place;
     let total = s.len() / 4;
     let mut k = 0;
     while from + k < total {
-        if crate::kind_at(s, from + k) != 3 {
+        if crate::kind_at(s, from + k) != kind {
             return Cursor { place: from + k };
         }
         k += 1;
@@ -84,10 +84,13 @@ pub fn find_sections(s: &[u8]) -> Sections
     requires { ⌜ 2 ≤ words (now s) ⌝ }
     ensures { λ r. ⌜ Located (now (s .entry)) r ⌝ }
 {
-    let arcs = past_spans(s, Cursor { place: 2 });
+    let holds = past_kind(s, Cursor { place: 2 }, 3);
+    let arcs = past_kind(s, holds, 13);
     let regions = past_arcs(s, arcs);
     Sections {
-        spans: arcs.place - 2,
+        spans: holds.place - 2,
+        first: arcs.place,
         arcs: (regions.place - arcs.place) / 2,
+        after: regions.place,
     }
 }

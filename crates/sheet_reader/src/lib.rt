@@ -71,7 +71,7 @@ pub fn region_words(s: &[u8], sections: Sections) -> &[u8]
     rest_after(
         s,
         Cursor {
-            place: 2 + sections.spans + 2 * sections.arcs,
+            place: sections.after,
         },
     )
 }

@@ -1,4 +1,4 @@
-// Tests of a lent table at the source and at the arcs: the source is at 0, and every arc is relaxed.
+// Tests of a lent table at the source and at the arcs: the source is at 0, and every arc is relaxed, its tail's hold added.
 ghost use mathlib.Core.Path.{_≡_};
 ghost use Prim.Native.Nat.{_<_};
 ghost use Rattle.indices.specs.Tests.{all};
@@ -31,7 +31,7 @@ pub fn arc_relaxed(s: &[u8], sections: Sections, table: &[u32], a: Arc) -> bool
         return true;
     }
     table::read::label_of(table, sheet::fields::end_at(s, sections, a, true))
-        <= from + sheet::fields::length_at(s, sections, a)
+        <= from + sheet::fields::taken_length_at(s, sections, a)
 }
 
 // Whether every arc is relaxed.

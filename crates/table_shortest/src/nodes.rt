@@ -9,7 +9,7 @@ use sheet::Arc;
 use sheet::Node;
 use sheet::Sections;
 
-// Whether an arc leads to v from a reached node, and v's label is exactly the tail's plus the length or, where that is not asked, not below it.
+// Whether an arc leads to v from a reached node, and v's label is exactly the tail's plus the length, hold added, or, where that is not asked, not below it.
 fn feeds(s: &[u8], sections: Sections, table: &[u32], exact: bool, a: Arc, v: Node) -> bool
     requires { ⌜ Tried (now s) sections (now table) (a .0) (v .0) ⌝ }
     ensures { λ r. ⌜ r ≡ feeds (now (s .entry)) (now (table .entry)) exact (a .0) (v .0) ⌝ }
@@ -22,7 +22,7 @@ fn feeds(s: &[u8], sections: Sections, table: &[u32], exact: bool, a: Arc, v: No
     if from == sheet::NONE {
         return false;
     }
-    let sum = from + sheet::fields::length_at(s, sections, a);
+    let sum = from + sheet::fields::taken_length_at(s, sections, a);
     let label = table::read::label_of(table, v);
     if exact {
         return sum == label;

@@ -10,6 +10,7 @@ use Rattle.procedure.specs.Graph.{Graph}
 use Rattle.procedure.specs.Routes.{Shortest}
 use Rattle.procedure.proofs.OfSheet.{graph-nodes}
 use Rattle.theory_shortest.proofs.Agree.{same-columns}
+use Rattle.theory_shortest.proofs.Travel.{for-sheet}
 use Rattle.calls.specs.Tables.{labelIn, labelsIn, predecessorsIn}
 use Rattle.calls.specs.Routes.{ShortestTable}
 use Rattle.calls.specs.Halls.{hallWords}
@@ -24,8 +25,9 @@ module _ (b b′ : List ℕ) (ok : Accepted b) (ok′ : Accepted b′) (same : h
 
   pub same-distances : labelsIn (nodeCount b) table ≡ labelsIn (nodeCount b′) table′
   same-distances =
-      same-columns shortest
-      (subst (λ (g : Graph). Shortest g (labelsIn (nodeCount b′) table′) (predecessorsIn (nodeCount b′) table′)) (sym (same-graph b b′ ok ok′ same)) shortest′)
+      same-columns (for-sheet b .1 shortest)
+      (subst (λ (g : Graph). Shortest g (labelsIn (nodeCount b′) table′) (predecessorsIn (nodeCount b′) table′)) (sym (same-graph b b′ ok ok′ same))
+      (for-sheet b′ .1 shortest′))
       (labels-length (nodeCount b) table ∙ sym (graph-nodes b))
       (labels-length (nodeCount b′) table′ ∙ sym nodes ∙ sym (graph-nodes b))
 

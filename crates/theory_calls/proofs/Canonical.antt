@@ -1,5 +1,5 @@
--- What is claimed of the canonical form of every accepted sheet. Sheets of one canonical form agree in the words of kinds 1 to 5, so in those of the hall, and
--- tables of one hall agree in their distances; they need not agree in more.
+-- What is claimed of the canonical form of every accepted sheet. Sheets of one canonical form agree in the words of kinds 1 to 5 and 13, so in those of the
+-- hall, and tables of one hall agree in their distances; they need not agree in more.
 use Prim.Native.Nat.{ℕ}
 use mathlib.Core.Bool.{Bool, true, _&&_, _||_}
 use mathlib.Core.Path.{_≡_, refl, sym, ap, _∙_}
@@ -10,7 +10,6 @@ use borrow.Author.Tests.{eqb-true}
 use lib.Dec.{leb, eqb}
 use Rattle.indices.specs.Columns.{column, passing}
 use Rattle.indices.proofs.Steps.{by-truth}
-use Rattle.indices.proofs.Tests.{neither, or-then}
 use Rattle.sheet.specs.Words.{words, word, kindOf, bytesOf}
 use Rattle.sheet.proofs.Samples.{hallA}
 use Rattle.judgement.specs.Judgement.{Accepted}
@@ -29,16 +28,16 @@ use Rattle.calls.proofs.Canonical.{too-short, has-room}
 use Rattle.theory_calls.proofs.Correct.{correct}
 use Rattle.theory_calls.proofs.Marked.{ties}
 
--- THE WORDS OF THE HALL are among those of kinds 1 to 5
-of-kinds : (k : ℕ) → eqb k 1 || eqb k 2 || eqb k 4 || eqb k 5 ≡ true → leb 1 k && leb k 5 ≡ true
+-- THE WORDS OF THE HALL are among those of kinds 1 to 5 and 13
+of-kinds : (k : ℕ) → eqb k 1 || eqb k 2 || eqb k 4 || eqb k 5 || eqb k 13 ≡ true → (leb 1 k && leb k 5) || eqb k 13 ≡ true
 of-kinds k h =
     by-truth (eqb k 1) (is 1 refl)
     (λ n1. by-truth (eqb k 2) (is 2 refl)
     (λ n2. by-truth (eqb k 4) (is 4 refl)
-    (λ n4. is 5 refl (or-then (eqb k 1 || eqb k 2 || eqb k 4) (eqb k 5) h (neither (eqb k 1 || eqb k 2) (eqb k 4) (neither (eqb k 1) (eqb k 2) n1 n2) n4)))))
+    (λ n4. by-truth (eqb k 5) (is 5 refl) (λ n5. is 13 refl (rw (n1, n2, n4, n5) at h)))))
   where
-    is : (j : ℕ) → leb 1 j && leb j 5 ≡ true → eqb k j ≡ true → leb 1 k && leb k 5 ≡ true
-    is j here e = ap (λ (n : ℕ). leb 1 n && leb n 5) (eqb-true k j e) ∙ here
+    is : (j : ℕ) → (leb 1 j && leb j 5) || eqb j 13 ≡ true → eqb k j ≡ true → (leb 1 k && leb k 5) || eqb k 13 ≡ true
+    is j here e = ap (λ (n : ℕ). (leb 1 n && leb n 5) || eqb n 13) (eqb-true k j e) ∙ here
 
 -- what passes p passes q: of those that pass q the same pass p
 passing-within : (p q : ℕ → Bool) → ((x : ℕ) → p x ≡ true → q x ≡ true) → (xs : List ℕ) → passing p (passing q xs) ≡ passing p xs

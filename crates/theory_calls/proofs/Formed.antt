@@ -21,13 +21,14 @@ use Rattle.procedure.specs.Graph.{arcs}
 use Rattle.procedure.specs.OfSheet.{graphOf, divisionOf, spansOf}
 use Rattle.procedure.specs.State.{State, counts}
 use Rattle.procedure.specs.Procedure.{ended}
-use Rattle.procedure.specs.Routes.{Shortest}
+use Rattle.procedure.specs.Travel.{ShortestFor}
 use Rattle.procedure.specs.Table.{largestLabel, innerPlace, updatesPlace, countsLength, tableOf}
 use Rattle.procedure.proofs.OfSheet.{graph-nodes, graph-arcs, spans-count}
 use Rattle.theory_shortest.specs.WellFormed.{WellFormed}
 use Rattle.theory_shortest.proofs.WellFormed.{accepted-well-formed}
 use Rattle.theory.specs.Counts.{Below}
 use Rattle.theory.proofs.Final.{sound-label, sound-label-word, sound-predecessor, sound-predecessor-word}
+use Rattle.theory_shortest.proofs.Travel.{for-sheet}
 use Rattle.theory.proofs.Distances.{sound-shortest}
 use Rattle.theory_calls.specs.Tabled.{Tabled}
 use Rattle.calls.specs.Tables.{tableLength, statusIn, countIn, labelIn, labelsIn, predecessorsIn}
@@ -149,5 +150,6 @@ module _ (b : List ℕ) (ok : Accepted b) (s : State) (T : Tabled b s) where
         (sound-label well s (T .shape) (T .sound) v (rw (graph-nodes b) l))
 
     -- where the state has ended, the table is shortest
-    pub said-shortest : statusIn table ≡ 1 → Shortest (graphOf b) (labelsIn (nodeCount b) table) (predecessorsIn (nodeCount b) table)
-    said-shortest e = rw (said-labels, said-predecessors) (sound-shortest well s (T .shape) (T .sound) (status-ended over (sym said-status ∙ e)))
+    pub said-shortest : statusIn table ≡ 1 → ShortestFor b (labelsIn (nodeCount b) table) (predecessorsIn (nodeCount b) table)
+    said-shortest e =
+        rw (said-labels, said-predecessors) (for-sheet b .0 (sound-shortest well s (T .shape) (T .sound) (status-ended over (sym said-status ∙ e))))

@@ -9,4 +9,5 @@ pub mod Work
 pub mod Marked
 pub mod Canonical
 pub mod AsBefore
+pub mod WithoutHolds
 pub mod AddsUp

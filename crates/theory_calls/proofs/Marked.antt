@@ -4,19 +4,19 @@ use Prim.Native.Nat.{ℕ}
 use mathlib.Core.Bool.{Bool}
 use mathlib.Core.List.{List, [], _∷_, _++_, map}
 use mathlib.Core.Path.{_≡_, refl}
-use lib.ListN.{set, replicate}
+use lib.ListN.{take, drop, set, replicate}
 use Rattle.indices.specs.Columns.{column}
 use Rattle.indices.specs.Steps.{if_then_else_, upTo, times}
 use Rattle.indices.specs.Tests.{all, any, count, lead, most, least}
 use Rattle.sheet.specs.Words.{word, kind, payload, top, bytesOf}
-use Rattle.sheet.specs.Sections.{spansFrom, arcsFrom, regionWords}
-use Rattle.sheet.specs.Arcs.{tail, head, arcLength}
+use Rattle.sheet.specs.Sections.{kindFrom, arcsFrom, regionWords}
+use Rattle.sheet.specs.Arcs.{tail, head, arcLength, hold, charged, takenLength}
 use Rattle.sheet.specs.Heights.{heightIn, heightOf}
 use Rattle.sheet.specs.Regions.{leafWord, parentWord, arcWord}
-use Rattle.sheet.proofs.Samples.{mostOfHallA, hallA, patient, onesBelow, byTwos, oneNode, uneven, shallowFirst, turntable, fiveIn, fiveOut}
+use Rattle.sheet.proofs.Samples.{mostOfHallA, hallA, hallAWith, heldA, andBack, patient, onesBelow, byTwos, oneNode, uneven, shallowFirst, turntable, fiveIn, fiveOut}
 use Rattle.answer.specs.Answer.{input, state, Answer, accepted, ended, paused, route, written, refused}
-use Rattle.judgement.specs.Form.{wrongSize, outOfOrder, bitSet, nodesOutside, sourceOutside, spansOutside, tooMany}
-use Rattle.judgement.specs.Arcs.{endsOutside, lengthsOutside, crowdedNodes, tooManyAtNode}
+use Rattle.judgement.specs.Form.{wrongSize, wrongSections, wrongHolds, outOfOrder, bitSet, nodesOutside, sourceOutside, spansOutside, tooMany}
+use Rattle.judgement.specs.Arcs.{endsOutside, lengthsOutside, holdsOutside, crowdedNodes, tooManyAtNode}
 use Rattle.judgement.specs.Division.{wrongParents, wrongLeaves, childlessRegions, spansDiffer}
 use Rattle.judgement.specs.Judgement.{formRefusals, countRefusals, arcRefusals, divisionRefusals, refusalsUnder, judgement}
 use Rattle.procedure.specs.Division.{leafOf}
@@ -155,6 +155,19 @@ shallowOnce =
     header 0x80000000 0xb0000001 0xb0000001 0xb0000000 0xb0000001 0xb0000007
     ++ (0x90000000 ∷ 0xafffffff ∷ 0x9fffffff ∷ 0xafffffff ∷ 0x900001f4 ∷ 0xa0000003 ∷ 0x9fffffff ∷ 0xafffffff ∷ [])
     ++ (0xc0000001 ∷ 0xc0000000 ∷ 0xc0000001 ∷ 0xc0000000 ∷ 0xc0000000 ∷ [])
+
+-- request 2026-08: hall A with holds, in the longer form: after one round, with the label of node 3 as said, and at its end
+abbrev heldOnce : ℕ → List ℕ
+heldOnce label =
+    header 0x80000000 0xb0000001 0xb0000002 0xb0000001 0xb0000001 0xb0000008
+    ++ (0x90000000 ∷ 0xafffffff ∷ 0x90000004 ∷ 0xa0000000 ∷ 0x9fffffff ∷ 0xafffffff ∷ label ∷ 0xa0000003 ∷ [])
+    ++ (0xc0000000 ∷ 0xc0000001 ∷ 0xc0000000 ∷ 0xc0000000 ∷ [])
+
+abbrev heldEnded : List ℕ
+heldEnded =
+    header 0x80000001 0xb0000002 0xb0000004 0xb0000002 0xb0000002 0xb000000a
+    ++ (0x90000000 ∷ 0xafffffff ∷ 0x90000004 ∷ 0xa0000000 ∷ 0x90000001 ∷ 0xa0000001 ∷ 0x90000013 ∷ 0xa0000003 ∷ [])
+    ++ (0xc0000000 ∷ 0xc0000000 ∷ 0xc0000000 ∷ 0xc0000000 ∷ [])
 
 abbrev rows : List Row
 rows =
@@ -316,6 +329,32 @@ rows =
     ++ ascii "2 500 3\n"
     ++ ascii "3 700 2\n"
     )
+    -- 2026-08: hall A with holds 100, 10, 3 and 7. "A route's length is its arcs plus the hold of each node between its ends; the source's own hold is never
+    -- charged."
+    ∷ print heldA is accepted leaving (
+    ascii "ended rounds 2 leaves 4 inner 2 2 updates 10\n"
+    ++ ascii "0 0 -\n"
+    ++ ascii "1 4 0\n"
+    ++ ascii "2 1 1\n"
+    ++ ascii "3 19 3\n"
+    )
+    ∷ run heldA enoughRounds (blankLong 4 4) is ended leaving heldEnded
+    ∷ run heldA 1 (blankLong 4 4) is paused leaving heldOnce 0x90000013
+    -- "Shortest means shortest in this sense, for the route reader": the routes of the hall with holds are not those of hall A, and the other way about
+    ∷ readRoute heldA heldEnded 3 (0 ∷ 0 ∷ 7 ∷ []) is route 2 leaving (0 ∷ 3 ∷ 7 ∷ [])
+    ∷ readRoute heldA (finishedA 0x90000008) 3 (7 ∷ []) is refused (state 24) leaving (7 ∷ [])
+    ∷ readRoute hallA heldEnded 3 (7 ∷ []) is refused (state 24) leaving (7 ∷ [])
+    -- "and for going on as well, whose test of a possible state adds the same to an arc's length too": node 3 one below its feeder's label, hold and length
+    ∷ resume heldA enoughRounds (heldOnce 0x90000013) is ended leaving heldEnded
+    ∷ resume heldA 1 (heldOnce 0x90000012) is refused (state 33) leaving heldOnce 0x90000012
+    -- "The neat copy carries the holds."
+    ∷ copy heldA (replicate 88 7) is written 88 leaving (
+    bytesOf (take 8 heldA ++ drop 4 neatHallA)
+    )
+    -- "A number of hold words other than 0 or the payload of kind 1 is 2.", "34, a tail's hold (0 for the source) plus the arc's length above 262,143"
+    ∷ print (hallAWith (0xd0000000 ∷ 0xd0000000 ∷ 0xd0000000 ∷ [])) is refused (input 2) leaving ascii "refused 2\n"
+    ∷ print (andBack 262140 0 4 0) is refused (input 34) leaving ascii "refused 34\n"
+    ∷ judge (andBack 262140 4 3 4) is accepted
     ∷ []
 
 -- Where ties decide (2026-04): hall A and the same nesting under other numbers, and both with arc 0 shortened, all accepted; how many rounds the first two
@@ -336,17 +375,17 @@ record Computed : Type 0 where
   tied-halls : Ties
 
 computed : Computed
-unfolding any count lead most upTo times column word kind payload top spansFrom arcsFrom regionWords tail head arcLength heightIn heightOf leafWord
-    parentWord arcWord judgement refusalsUnder formRefusals countRefusals arcRefusals divisionRefusals wrongSize outOfOrder bitSet nodesOutside
-    sourceOutside spansOutside tooMany endsOutside lengthsOutside crowdedNodes tooManyAtNode wrongParents wrongLeaves childlessRegions spansDiffer leafOf
-    graphOf divisionOf spansOf before choose minItemBelow minItem minKey write updateFor update updateArc updateOutgoing relax clearKey processLeaf
-    rewriteKey countAt countInner countInnerBefore countRound processChild alive hasEnded start processForBy processBy roundBy afterBy nodeWords tableOf
-    keyWords isUsual isLong wrongLength runAnswer runTable longRunTable filledTable tableAfter tableBefore all labelsIn predecessorsIn followed leadsBack
-    sourceTest unfedTest fedBy relaxedTest ledTest settled? nodeOutside wrongNode wrongKeys isPaused malformed notShortest tableRefusals routeTo foundRoute
-    routeAnswer leftBy bufferAfter lastDigits decimal cell spaced status counted levels inner statusLine nodeLine nodeLines listingOf refusedLine printed
-    allSpansOne leavesOnRoot reachedArcs least sooner ancestor holds lowestArc pathFor path newNumber oldNumber newWord frontWords newWords canonical
-    canonicalAnswer outAfter longTable hasKey ownIn keysOf stateIn boundTest keylessTest doneTest soundTest countsTest statusTest possible? notLong
-    notPossible resumed resumedTable resumeAnswer resumeTable
+unfolding any count lead most upTo times column word kind payload top kindFrom arcsFrom regionWords tail head arcLength hold charged takenLength heightIn
+    heightOf leafWord parentWord arcWord judgement refusalsUnder formRefusals countRefusals arcRefusals divisionRefusals wrongSize wrongSections wrongHolds
+    outOfOrder bitSet nodesOutside sourceOutside spansOutside tooMany endsOutside lengthsOutside holdsOutside crowdedNodes tooManyAtNode wrongParents
+    wrongLeaves childlessRegions spansDiffer leafOf graphOf divisionOf spansOf before choose minItemBelow minItem minKey write updateFor update updateArc
+    updateOutgoing relax clearKey processLeaf rewriteKey countAt countInner countInnerBefore countRound processChild alive hasEnded start processForBy
+    processBy roundBy afterBy nodeWords tableOf keyWords isUsual isLong wrongLength runAnswer runTable longRunTable filledTable tableAfter tableBefore all
+    labelsIn predecessorsIn followed leadsBack sourceTest unfedTest fedBy relaxedTest ledTest settled? nodeOutside wrongNode wrongKeys isPaused malformed
+    notShortest tableRefusals routeTo foundRoute routeAnswer leftBy bufferAfter lastDigits decimal cell spaced status counted levels inner statusLine nodeLine
+    nodeLines listingOf refusedLine printed allSpansOne leavesOnRoot reachedArcs least sooner ancestor holds lowestArc pathFor path newNumber oldNumber
+    newWord frontWords newWords canonical canonicalAnswer outAfter longTable hasKey ownIn keysOf stateIn boundTest keylessTest doneTest soundTest countsTest
+    statusTest possible? notLong notPossible resumed resumedTable resumeAnswer resumeTable
 computed = record {
   each-row = refl;
   tied-halls = record {

@@ -28,6 +28,7 @@ use Rattle.theory.proofs.Levels.{more-levels}
 use Rattle.theory.proofs.Counts.{more-held}
 use Rattle.theory.proofs.Grows.{below-wider}
 use Rattle.theory.proofs.Final.{few-each-way, more-in-parts, rounds-in-parts, more-below, after-low}
+use Rattle.theory_shortest.proofs.Travel.{for-sheet}
 use Rattle.theory.proofs.Distances.{sound-shortest}
 use Rattle.calls.specs.Tables.{statusIn, countIn}
 use Rattle.calls.specs.Runs.{stateAfter, longRunTable}
@@ -99,7 +100,7 @@ module _ (b table : List ℕ) (S : Standing b table) where
   -- in an ended table distances are shortest
   pub standing-shortest : EndedShortest b table
   unfolding stateIn
-  standing-shortest e = sound-shortest well before (before-tabled .shape) (before-tabled .sound) (before-ended .0 e)
+  standing-shortest e = for-sheet b .0 (sound-shortest well before (before-tabled .shape) (before-tabled .sound) (before-ended .0 e))
 
   module _ (k : ℕ) where
     -- THE STATE AFTER k ROUNDS MORE is sound, and its counts have grown by less than 2^54

@@ -16,7 +16,7 @@ use Rattle.sheet.proofs.Heights.{nesting-ext}
 use Rattle.judgement.specs.Arcs.{endsAt}
 use Rattle.judgement.specs.Division.{leafOfArc}
 use Rattle.judgement.specs.Judgement.{Accepted}
-use Rattle.judgement.proofs.Accepted.{few-nodes, source-in, few-arcs, tail-in, head-in, length-short, few-ends, few-region-words, nesting, leaf-arc, one-leaf, few-spans, span-positive, span-below, spans-height}
+use Rattle.judgement.proofs.Accepted.{few-nodes, source-in, few-arcs, tail-in, head-in, taken-short, few-ends, few-region-words, nesting, leaf-arc, one-leaf, few-spans, span-positive, span-below, spans-height}
 use Rattle.procedure.specs.Graph.{arcs, tail}
 use Rattle.procedure.specs.Division.{Division, regions, arcOf, isLeaf, leafOf}
 use Rattle.procedure.specs.OfSheet.{graphOf, divisionOf, spansOf}
@@ -60,7 +60,7 @@ module _ (b : List ℕ) (ok : Accepted b) where
     lengths-all = graph-lengths b ∙ sym (graph-arcs b);
     tail-in = λ a l. let la = is-arc a l in omega (arith, graph-nodes b, graph-tail b a la, tail-in b ok a la);
     head-in = λ a l. let la = is-arc a l in omega (arith, graph-nodes b, graph-head b a la, head-in b ok a la);
-    short = λ a l. let la = is-arc a l in omega (arith, graph-len b a la, length-short b ok a la);
+    short = λ a l. let la = is-arc a l in omega (arith, graph-len b a la, taken-short b ok a la);
     few-out = λ v. rw (graph-arcs b, same-out v) (few-ends b ok false v);
   }
 

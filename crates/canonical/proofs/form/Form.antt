@@ -56,18 +56,18 @@ module _ {b : List ℕ} {sections : Sections} {arcs parents sizes nexts numbers 
       pub new-in : words d + 1 ≤ length (new ++ rest)
       new-in = omega (arith, length-append new rest, each-new)
 
-      pub writable : {out : List ℕ} → FrontWritten b (2 + sections .spans + 2 * sections .arcs) before out
-          → Writable b d (take (words d + 1) (new ++ rest)) (2 + sections .spans + 2 * sections .arcs) out
+      pub writable : {out : List ℕ} → FrontWritten b (sections .after) before out
+          → Writable b d (take (words d + 1) (new ++ rest)) (sections .after) out
       writable F = rw (take-at new rest (words d + 1) each-new) (record {
         accepted = lent .out-lent .accepted;
         words-of = is;
-        place = omega (arith, lent .out-lent .located .spans-all, lent .out-lent .located .arcs-all);
+        place = lent .out-lent .located .regions-from;
         numbered = N;
         room = omega (arith, lent .out-lent .room, F .long);
         front = F .words-in;
       })
 
   -- what is behind the form is as it was before the front
-  pub form-written : {out out′ : List ℕ} → FrontWritten b (2 + sections .spans + 2 * sections .arcs) before out
+  pub form-written : {out out′ : List ℕ} → FrontWritten b (sections .after) before out
       → out′ ≡ canonical b ++ drop (length b) out → out′ ≡ canonical b ++ drop (length b) before
-  form-written F e = e ∙ ap (λ (rest : List ℕ). canonical b ++ rest) (rest-kept (length b) (located-inside (lent .out-lent .located)) F)
+  form-written F e = e ∙ ap (λ (rest : List ℕ). canonical b ++ rest) (rest-kept (length b) (omega (arith, located-inside (lent .out-lent .located))) F)

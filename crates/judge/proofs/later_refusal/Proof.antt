@@ -19,7 +19,7 @@ begin c = c .before .before .before
 abbrev begun : tie.Else2 → tie.Start
 begun c = begin (c .before .before)
 
--- 1 to 3 do not apply, nor 4 to 7, nor 8 to 10
+-- 1 to 3 do not apply, nor 4 to 7, nor 8 to 10 and 34
 formed : (c : tie.Else1) → lowest (formRefusals (begin c .args .s .now)) accepted ≡ accepted
 formed c = form-clear _ (begin c .pre .sized) (begin c .pre .ordered) (sym (c .before .bit-set .ensures) ∙ c .if1 .left)
 

@@ -13,9 +13,7 @@ use Rattle.sheet.specs.declared.Cursor.{Cursor}
 use Rattle.sheet.specs.declared.Step.the-variants.{Word, End}
 use Rattle.sheet.specs.Words.{words, word, kindOf, kind}
 use Rattle.sheet.specs.Inner.{stepAt}
-use Rattle.judgement.specs.Form.{outOfOrder}
 use Rattle.judgement.specs.Kinds.{mayBegin, mayFollow, mayEnd, wrongFirst, wrongNeighbours, wrongKinds}
-use Rattle.judgement.proofs.Order.{by-kinds}
 
 -- a step of the cursor
 pub record Stepped (b : List ℕ) (c : Cursor) (w : ℕ) (next : Cursor) : Type 0 where
@@ -53,13 +51,13 @@ pub record Passed (b : List ℕ) (before at : ℕ) : Type 0 where
   pub last : before ≡ kind b (at - 1)
 
 -- a sheet without a word, and a first word with which no sheet begins
-pub pass-empty : (b : List ℕ) → words b ≤ 0 → outOfOrder b ≡ true
+pub pass-empty : (b : List ℕ) → words b ≤ 0 → wrongKinds b ≡ true
 unfolding wrongKinds
-pass-empty b l = rw (by-kinds b, eq-eqb (words b) 0 (omega arith))
+pass-empty b l = rw (eq-eqb (words b) 0 (omega arith))
 
-pub pass-front : (b : List ℕ) → mayBegin (kind b 0) ≡ false → outOfOrder b ≡ true
+pub pass-front : (b : List ℕ) → mayBegin (kind b 0) ≡ false → wrongKinds b ≡ true
 unfolding wrongKinds
-pass-front b bad = rw (by-kinds b, bad, or-true)
+pass-front b bad = rw (bad, or-true)
 
 -- a first word with which one may begin
 pub pass-start : (b : List ℕ) → 0 < words b → mayBegin (kind b 0) ≡ true → Passed b (kind b 0) 1
@@ -89,14 +87,14 @@ module _ {b : List ℕ} {before at : ℕ} (p : Passed b before at) where
       }
 
   -- a word that may not
-  pub pass-stop : at < words b → mayFollow before (kind b at) ≡ false → outOfOrder b ≡ true
+  pub pass-stop : at < words b → mayFollow before (kind b at) ≡ false → wrongKinds b ≡ true
   unfolding wrongKinds
   pass-stop l bad =
-      rw (by-kinds b, any-hit (wrongNeighbours b) (at - 1) (words b - 1) (omega (arith, p .some)) (here ∙ ap not bad), or-true)
+      rw (any-hit (wrongNeighbours b) (at - 1) (words b - 1) (omega (arith, p .some)) (here ∙ ap not bad), or-true)
 
   -- the end
-  pub pass-end : words b ≤ at → not (mayEnd before) ≡ outOfOrder b
+  pub pass-end : words b ≤ at → not (mayEnd before) ≡ wrongKinds b
   unfolding wrongKinds
   pass-end l =
       let place : words b - 1 ≡ at - 1 = omega (arith, p .inside) in
-      rw (by-kinds b, place, p .first, p .none, p .last)
+      rw (place, p .first, p .none, p .last)

@@ -14,13 +14,14 @@ use Rattle.sheet.specs.Sections.{nodeCount, source, arcCount}
 use Rattle.judgement.proofs.Accepted.{few-nodes}
 use Rattle.procedure.specs.OfSheet.{graphOf}
 use Rattle.theory_shortest.specs.WellFormed.{GraphOk}
-use Rattle.procedure.specs.Routes.{chainTo}
+use Rattle.procedure.specs.Routes.{chainTo, Shortest}
 use Rattle.procedure.proofs.OfSheet.{graph-nodes, graph-source, graph-arcs}
 use Rattle.theory_shortest.proofs.WellFormed.{accepted-well-formed}
 use Rattle.theory_shortest.proofs.TightTree.{chain-few}
 use Rattle.theory_shortest.proofs.Chains.{chain-home, chain-arc, chain-from, chain-reached, chain-back, chain-longer}
+use Rattle.theory_shortest.proofs.Travel.{for-sheet}
 use Rattle.calls.specs.Tables.{labelIn, predecessorIn}
-use Rattle.calls.specs.Routes.{ShortestTable, routeTo}
+use Rattle.calls.specs.Routes.{routeTo}
 use Rattle.calls.proofs.Routes.{shortest-agrees}
 use Rattle.table.specs.Fitting.{labels, predecessors, nodeBefore}
 use Rattle.table.proofs.read.Columns.{label-there, predecessor-there}
@@ -38,8 +39,8 @@ module _ {b table : List ℕ} {sections′ : Sections} (R : Ready b sections′ 
   good : GraphOk mostArcsEachWay (graphOf b)
   good = accepted-well-formed b (R .fitting .accepted) .graph
 
-  table-shortest : ShortestTable b table
-  table-shortest = shortest-agrees b table (R .fitting .accepted) .0 (R .passed)
+  table-shortest : Shortest (graphOf b) (labels b table) (predecessors b table)
+  table-shortest = for-sheet b .1 (shortest-agrees b table (R .fitting .accepted) .0 (R .passed))
 
   module _ {u : ℕ} (r : Reached b table u) where
     node : u < graphOf b .nodes

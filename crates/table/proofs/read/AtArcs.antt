@@ -5,7 +5,7 @@ use mathlib.Core.List.{List}
 use Rattle.indices.specs.Columns.{at}
 use Rattle.sheet.specs.declared.Sections.{Sections}
 use Rattle.sheet.specs.Sections.{source, nodeCount, arcCount}
-use Rattle.sheet.specs.Arcs.{tail as tailField, head as headField, arcLength}
+use Rattle.sheet.specs.Arcs.{tail as tailField, head as headField, takenLength}
 use Rattle.judgement.proofs.Accepted.{source-in, tail-in, head-in}
 use Rattle.procedure.specs.Graph.{tail, head, len}
 use Rattle.procedure.specs.OfSheet.{graphOf}
@@ -34,7 +34,7 @@ module _ {b table : List ℕ} {sections′ : Sections} (F : Fitting b sections�
     pub to-node : {u : ℕ} → u ≡ headField b a → u ≡ head (graphOf b) a
     to-node e = e ∙ sym (graph-head b a la)
 
-    pub arc-length : {n : ℕ} → n ≡ arcLength b a → n ≡ len (graphOf b) a
+    pub arc-length : {n : ℕ} → n ≡ takenLength b a → n ≡ len (graphOf b) a
     arc-length e = e ∙ sym (graph-len b a la)
 
   -- the label and the predecessor of the source

@@ -10,7 +10,7 @@ use Rattle.indices.specs.Columns.{at}
 use Rattle.sheet.specs.declared.Sections.{Sections}
 use Rattle.sheet.specs.Words.{top}
 use Rattle.sheet.specs.Sections.{source, arcCount}
-use Rattle.sheet.specs.Arcs.{tail as tailField, head as headField, arcLength}
+use Rattle.sheet.specs.Arcs.{tail as tailField, head as headField, takenLength}
 use Rattle.procedure.specs.Graph.{tail}
 use Rattle.procedure.specs.OfSheet.{graphOf}
 use Rattle.theory_shortest.specs.TableTest.{sourceTest, relaxedTest}
@@ -36,7 +36,7 @@ module _ {b table : List ℕ} {sections′ : Sections} (F : Fitting b sections�
     unfolding relaxedTest
     relaxed-unreached e = rw (eq-eqb (at (labels b table) (tail (graphOf b) a)) top (sym (from-label F la eu ex) ∙ e))
 
-    module _ (reached : x ≢ top) {n : ℕ} (en : n ≡ arcLength b a) where
+    module _ (reached : x ≢ top) {n : ℕ} (en : n ≡ takenLength b a) where
       -- to a node w with label y
       pub relaxed-compared : {w y : ℕ} → w ≡ headField b a → y ≡ labelIn table w → leb y (x + n) ≡ arcRelaxed b table a
       unfolding relaxedTest

@@ -11,7 +11,7 @@ use Rattle.indices.specs.Columns.{at}
 use Rattle.sheet.specs.declared.Sections.{Sections}
 use Rattle.sheet.specs.Words.{top}
 use Rattle.sheet.specs.Sections.{nodeCount, source, arcCount}
-use Rattle.sheet.specs.Arcs.{tail as tailField, head as headField, arcLength}
+use Rattle.sheet.specs.Arcs.{tail as tailField, head as headField, takenLength}
 use Rattle.procedure.specs.Graph.{arcs, tail}
 use Rattle.procedure.specs.OfSheet.{graphOf}
 use Rattle.procedure.proofs.OfSheet.{graph-source, graph-arcs}
@@ -25,7 +25,7 @@ use Rattle.table_shortest.specs.NodeChecks.{allowed, feeds, nodeFits}
 module _ {b table : List ℕ} {sections′ : Sections} (F : Fitting b sections′ table) (exact : Bool) where
   -- arc a from a node u with label x
   module _ {a u x : ℕ} (la : a < arcCount b) (eu : u ≡ tailField b a) (ex : x ≡ labelIn table u) where
-    module _ (reached : x ≢ top) {n : ℕ} (en : n ≡ arcLength b a) where
+    module _ (reached : x ≢ top) {n : ℕ} (en : n ≡ takenLength b a) where
       -- to node v with label y
       pub feeds-compared : {w v y : ℕ} → v < nodeCount b → w ≡ headField b a → w ≡ v → y ≡ labelIn table v → allowed exact (x + n) y ≡ feeds b table exact a v
       feeds-compared {v = v} l ew e ey =

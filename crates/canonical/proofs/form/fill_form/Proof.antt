@@ -62,10 +62,7 @@ fill-form-spec =
     (tie.spec
     (λ c κs. search needs)
     (λ c. search needs)
-    (λ c. omega (arith, located-inside))
-    (λ c. omega (arith, located-inside))
-    (λ c. omega (arith, located-inside))
-    (λ c. omega (arith, located-inside))
+    (λ c. omega (arith, rows-in))
     (λ c. search (needs, rows-in))
     (λ c. sym (length-take-le _ _ (search (needs, rows-in))))
     (λ c. search (needs, entries-in))

@@ -1,9 +1,9 @@
--- `enter_lengths` meets its contract: the arcs passed have their lengths.
+-- `enter_lengths` meets its contract: the arcs passed have their lengths, holds included.
 use borrow.Author.Needs.{needs}
 use Prim.Native.Nat.{_-_}
 use native.Mathlib.Omega.{arith}
 use Rattle.sheet.specs.Sections.{arcCount}
-use Rattle.sheet.specs.Arcs.{arcLength}
+use Rattle.sheet.specs.Arcs.{takenLength}
 use Rattle.procedure.specs.OfSheet.{graphOf}
 use Rattle.indices.proofs.Entries.{Prefix, prefix-none, prefix-more, prefix-all}
 use Rattle.run_layout.proofs.lengths.enter_lengths.Statement.{statement}
@@ -14,7 +14,7 @@ unfolding graphOf
 enter-lengths-spec =
     tie.close
     (tie.spec
-    (λ s sections lengths₀ n a₀ lengths a. Prefix (arcCount s) (arcLength s) lengths a)
+    (λ s sections lengths₀ n a₀ lengths a. Prefix (arcCount s) (takenLength s) lengths a)
     (λ s sections lengths₀ n a₀ lengths a. arcCount s - a)
     (λ c. prefix-none _ _ _ (search needs))
     (λ c. omega arith)
@@ -23,6 +23,6 @@ enter-lengths-spec =
     (λ c. omega arith)
     (λ c. omega arith)
     (λ c. omega arith)
-    (λ c. prefix-more _ (c .before .before .loop .inv) (omega arith) (c .length-at .ensures))
+    (λ c. prefix-more _ (c .before .before .loop .inv) (omega arith) (search needs))
     (λ c. omega arith)
     (λ c. prefix-all (c .before .loop .inv) (omega arith)))

@@ -3,7 +3,7 @@ use borrow.Author.Needs.{needs}
 use Prim.Native.Nat.{_-_}
 use native.Mathlib.Omega.{arith}
 use Rattle.sheet.specs.Sections.{spanCount, span}
-use Rattle.sheet.proofs.Bounds.{spans-le}
+use Rattle.sheet.proofs.Bounds.{kind-le}
 use Rattle.procedure.specs.OfSheet.{spansOf}
 use Rattle.indices.proofs.Entries.{Prefix, prefix-none, prefix-more, prefix-all}
 use Rattle.run_layout.proofs.lengths.enter_spans.Statement.{statement}
@@ -16,7 +16,7 @@ abbrev μ-loop : tie.MeasureT-loop
 μ-loop s spans₀ n i₀ spans i = spanCount s - i
 
 span-at-requires : tie.Need-span-at-requires Inv-loop μ-loop
-span-at-requires c κs = let start : tie.Start Inv-loop μ-loop = search needs in omega (arith, spans-le (start .args .s .now) 2)
+span-at-requires c κs = let start : tie.Start Inv-loop μ-loop = search needs in omega (arith, kind-le 3 (start .args .s .now) 2)
 
 pub enter-spans-spec : {M : Type 1} → statement M
 unfolding spansOf

@@ -1,4 +1,4 @@
--- `out_of_order` meets its contract: of the words that are passed none says no, and the first that does decides.
+-- `wrong_kinds` meets its contract: of the words that are passed none says no, and the first that does decides.
 use Prim.Native.Nat.{ℕ, _-_}
 use mathlib.Core.List.{List}
 use mathlib.Core.Path.{_≡_, sym, ap, _∙_}
@@ -20,8 +20,8 @@ use Rattle.judge_form.proofs.order.Pass.{
   pass-stop,
   pass-end,
 }
-use Rattle.judge_form.proofs.order.out_of_order.Statement.{statement}
-use Rattle.judge_form.proofs.order.out_of_order.Tie as tie
+use Rattle.judge_form.proofs.order.wrong_kinds.Statement.{statement}
+use Rattle.judge_form.proofs.order.wrong_kinds.Tie as tie
 
 abbrev Inv-loop : tie.InvT-loop
 Inv-loop s first before₀ cursor₀ before cursor = Passed s before (cursor .place)
@@ -106,8 +106,8 @@ loop-again c =
     let word = stepped (search needs) in
     rw (word .moved, kind-read (search needs)) (pass-on (here .loop .inv) (word .inside) (sym (tested (c .before)) ∙ not-false _ (c .if2 .left)))
 
-pub out-of-order-spec : {M : Type 1} → statement M
-out-of-order-spec =
+pub wrong-kinds-spec : {M : Type 1} → statement M
+wrong-kinds-spec =
     tie.close (tie.spec
     Inv-loop
     μ-loop
