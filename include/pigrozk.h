@@ -33,8 +33,8 @@
 extern "C" {
 #endif
 
-/* A stack of so many bytes has room for each call. No theorem speaks of a stack: tests/c/stack.c measures it, on a sheet of height 15, as 184,839 bytes for
- * a run, 184,951 for a resume, 58,583 for a canonical form, 11,639 for a route and 9,367 for a judgement. */
+/* A stack of so many bytes has room for each call. No theorem speaks of a stack: tests/c/stack.c measures it, on a sheet of height 15, as 184,871 bytes for
+ * a run, 184,999 for a resume, 58,599 for a canonical form, 11,735 for a route and 9,383 for a judgement. */
 #define PIGROZK_STACK_BYTES 196608
 
 /* The limits of a sheet that is accepted. A node may have PIGROZK_MOST_ARCS_EACH_WAY arcs out of it, and as many into it. PIGROZK_MOST_LENGTH limits the length

@@ -72,13 +72,17 @@ fn charged_at(s: &[u8], sections: Sections, v: Node) -> u32
     hold_at(s, sections, v)
 }
 
-// The length of an arc with its tail's hold added, which the procedure takes.
+// The length of an arc with its tail's hold added, which the procedure takes. In a sheet without holds the tail is not looked at.
 pub fn taken_length_at(s: &[u8], sections: Sections, a: Arc) -> u32
     requires { ⌜ Located (now s) sections × (a .0 < arcCount (now s)) ⌝ }
     ensures { λ r. ⌜ r ≡ takenLength (now (s .entry)) (a .0) ⌝ }
 {
+    let length = length_at(s, sections, a);
+    if sections.first == 2 + sections.spans {
+        return length;
+    }
     let tail = end_at(s, sections, a, false);
-    length_at(s, sections, a) + charged_at(s, sections, tail)
+    length + charged_at(s, sections, tail)
 }
 
 // Whether word k of the region words is a leaf.
