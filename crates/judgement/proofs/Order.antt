@@ -246,7 +246,8 @@ after-span before kinds n e =
 
 -- THE WHOLE SHEET
 from-front : (kinds : ℕ → ℕ) (n : ℕ)
-    → mayBegin (kinds 0) && followOn (kinds 0) (λ i. kinds (suc i)) (suc n) ≡ eqb (kinds 0) 1 && (eqb (kinds 1) 2 && spansThenHolds (λ i. kinds (suc (suc i))) n)
+    → mayBegin (kinds 0) && followOn (kinds 0) (λ i. kinds (suc i)) (suc n)
+    ≡ eqb (kinds 0) 1 && (eqb (kinds 1) 2 && spansThenHolds (λ i. kinds (suc (suc i))) n)
 unfolding followOn mayBegin mayFollow
 from-front kinds n =
     by-truth (eqb (kinds 0) 1)

@@ -13,7 +13,8 @@ use Rattle.sheet.specs.Sections.{kindFrom, arcsFrom, regionWords}
 use Rattle.sheet.specs.Arcs.{tail, head, arcLength, hold, charged, takenLength}
 use Rattle.sheet.specs.Heights.{heightIn, heightOf}
 use Rattle.sheet.specs.Regions.{leafWord, parentWord, arcWord}
-use Rattle.sheet.proofs.Samples.{mostOfHallA, hallA, hallAWith, heldA, andBack, patient, onesBelow, byTwos, oneNode, uneven, shallowFirst, turntable, fiveIn, fiveOut}
+use Rattle.sheet.proofs.Samples.{mostOfHallA, hallA, hallAWith, heldA, andBack, patient, onesBelow, byTwos, oneNode, uneven, shallowFirst}
+use Rattle.sheet.proofs.Samples.{turntable, fiveIn, fiveOut}
 use Rattle.answer.specs.Answer.{input, state, Answer, accepted, ended, paused, route, written, refused}
 use Rattle.judgement.specs.Form.{wrongSize, wrongSections, wrongHolds, outOfOrder, bitSet, nodesOutside, sourceOutside, spansOutside, tooMany}
 use Rattle.judgement.specs.Arcs.{endsOutside, lengthsOutside, holdsOutside, crowdedNodes, tooManyAtNode}

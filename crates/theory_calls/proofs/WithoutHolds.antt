@@ -1,5 +1,5 @@
--- Request 2026-08: a sheet without holds is answered in every call as before. No hold is charged, so an arc takes its length and the graph is the one of before;
--- 34 applies only where 9 does, and 2 just where the sections are out of order.
+-- Request 2026-08: a sheet without holds is answered in every call as before. No hold is charged, so an arc takes its length and the graph is the one of
+-- before; 34 applies only where 9 does, and 2 just where the sections are out of order.
 use Prim.Native.Nat.{ℕ, _%_}
 use mathlib.Core.Bool.{true, false, not, or-false}
 use mathlib.Core.List.{List, [], _∷_, _++_}

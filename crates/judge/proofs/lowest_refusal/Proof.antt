@@ -23,8 +23,12 @@ sized c = sym (c .before .wrong-size .ensures) ∙ c .if1 .left
 kinds-right : (c : tie.Else2) → wrongKinds (sheet (c .before .before)) ≡ false
 kinds-right c = sym (c .before .wrong-kinds .ensures) ∙ c .if2 .left
 
-ordered : (c : tie.Else3) → outOfOrder (sheet (c .before .before .before .before .before)) ≡ false
-ordered c = by-cases-or-holds _ ∙ neither _ _ (kinds-right (search needs)) (sym (c .before .wrong-holds .ensures) ∙ c .if3 .left)
+-- where the kinds were found right, before the sections were found
+abbrev kinds-passed : tie.Else3 → tie.Else2
+kinds-passed c = c .before .before .before
+
+ordered : (c : tie.Else3) → outOfOrder (sheet (kinds-passed c .before .before)) ≡ false
+ordered c = by-cases-or-holds _ ∙ neither _ _ (kinds-right (kinds-passed c)) (sym (c .before .wrong-holds .ensures) ∙ c .if3 .left)
 
 pub lowest-refusal-spec : {M : Type 1} → statement M
 unfolding judgement refusalsUnder formRefusals
