@@ -1,13 +1,13 @@
-/* Travel times by nested regions: the six calls, for C and C++.
+/* Travel times by nested regions: the seven calls, for C and C++.
  *
  * Link target/staticlib/libpigrozk.a, which `rt staticlib pigrozk` writes, for x86-64. Of other libraries it needs memcpy and memset alone.
  *
- * A sheet is bytes, each word of 32 bits with its most significant byte first, and so is a canonical form. A table and the buffer of a route
- * are words in the machine's own order. What is lent is a pointer and a length: of a sheet or a canonical form in bytes, of a table or the
- * buffer of a route in words. There is no other precondition than that of any such pair: the pointer is not null, even where the length is 0,
- * it is aligned for its type, that many items lie behind it, and what is written (the table of a run or a resume, the buffer of a route or of
- * a canonical form) overlaps nothing else that is lent. Each call answers for every content and every length, and ends. Nothing is allocated or kept, so
- * calls may be made in any number of threads.
+ * A sheet is bytes, each word of 32 bits with its most significant byte first, and so is a canonical form or a converted sheet. A table and the buffer of a
+ * route are words in the machine's own order. What is lent is a pointer and a length: of a sheet, a canonical form or a converted sheet in bytes, of a table or
+ * the buffer of a route in words. There is no other precondition than that of any such pair: the pointer is not null, even where the length is 0, it is aligned
+ * for its type, that many items lie behind it, and what is written (the table of a run or a resume, the buffer of a route, of a canonical form or of a
+ * converted sheet) overlaps nothing else that is lent. Each call answers for every content and every length, and ends. Nothing is allocated or kept, so calls
+ * may be made in any number of threads.
  *
  * Each call returns one of the codes below. A refusal leaves all that was lent as it was.
  *
@@ -33,8 +33,9 @@
 extern "C" {
 #endif
 
-/* A stack of so many bytes has room for each call. No theorem speaks of a stack: tests/c/stack.c measures it, on a sheet of height 15, as 184,871 bytes for
- * a run, 184,999 for a resume, 58,599 for a canonical form, 11,735 for a route and 9,383 for a judgement. */
+/* A stack of so many bytes has room for each call. No theorem speaks of a stack: tests/c/stack.c measures it, on a sheet of height 15, as 184,839 bytes for
+ * a run, 184,983 for a resume, 58,567 for a canonical form, 11,719 for a route and 9,383 for a judgement, and on one of 36,924 bytes as 29,911 for a
+ * conversion. */
 #define PIGROZK_STACK_BYTES 196608
 
 /* The limits of a sheet that is accepted. A node may have PIGROZK_MOST_ARCS_EACH_WAY arcs out of it, and as many into it. PIGROZK_MOST_LENGTH limits the length
@@ -91,13 +92,14 @@ extern "C" {
  *     23       state  the table is paused
  *     24       state  the table's distances or feeding arcs are not shortest for this sheet
  *     25       state  the buffer is shorter than the route
- *     31       input  the buffer is shorter than the canonical form
+ *     31       input  the buffer is shorter than the canonical form or the converted sheet
  *     32       state  the table of a resume has not the longer length, or is at fault as in 22
  *     33       state  the table of a resume is not a possible state
  *     34       input  the sheet, in every call: a tail's hold (0 for the source) and the arc's length are above 262,143 together
+ *     35       input  the sheet, in every call but the conversion: an arc from a node to itself
  *
- * Of several the first that applies is given, 34 after 9 and before 10, 31 after 14; of a resume those of the sheet, then 32, then 33. A number of holds that
- * is neither 0 nor n is 2. */
+ * Of several the first that applies is given, 34 after 9 and before 10, 35 after 10 and before 11, 31 after 14; of a resume those of the sheet, then 32, then
+ * 33. A number of holds that is neither 0 nor n is 2. */
 #define PIGROZK_IS_REFUSED(code) ((code) < 100u)
 #define PIGROZK_IS_FROM_STATE(code) \
     ((code) == 21u || (code) == 22u || (code) == 23u || (code) == 24u || (code) == 25u || (code) == 32u || (code) == 33u)
@@ -110,12 +112,12 @@ extern "C" {
 #define PIGROZK_ROUTE 65536u
 #define PIGROZK_IS_ROUTE(code) ((code) >= PIGROZK_ROUTE && (code) < PIGROZK_WRITTEN)
 #define PIGROZK_ROUTE_ARCS(code) ((code) - PIGROZK_ROUTE)
-/* A canonical form: 131,072 and the count of its bytes. */
+/* A canonical form or a converted sheet: 131,072 and the count of its bytes. */
 #define PIGROZK_WRITTEN 131072u
 #define PIGROZK_IS_WRITTEN(code) ((code) >= PIGROZK_WRITTEN)
 #define PIGROZK_WRITTEN_BYTES(code) ((code) - PIGROZK_WRITTEN)
 
-/* Judges a sheet: accepted, or a refusal of the sheet, 1 to 14 or 34. */
+/* Judges a sheet: accepted, or a refusal of the sheet, 1 to 14, 34 or 35. */
 uint32_t pigrozk_judge(const uint8_t *sheet, size_t sheet_bytes);
 
 /* Runs a sheet to its end and fills the table, in the form whose length it has: ended, or a refusal of the sheet or 21. */
@@ -151,6 +153,13 @@ uint32_t pigrozk_route(const uint8_t *sheet, size_t sheet_bytes, const uint32_t 
  * distances are the same, but not always their tables, since ties between regions of one height go by region number. It is as long as the sheet and stands at
  * the front of the buffer, and the rest of the buffer stays; PIGROZK_MOST_BYTES are room for every one. Written, or a refusal of the sheet or 31. */
 uint32_t pigrozk_canonical(const uint8_t *sheet, size_t sheet_bytes, uint8_t *out, size_t out_bytes);
+
+/* Writes a sheet without its self-arcs, the arcs from a node to itself. These and their leaves are dropped, then inner regions other than 0 that are left
+ * childless, until none is; what is left is numbered anew in its old order, and spans above the new height are dropped. Node count, source and holds are as
+ * given. The sheet is judged with 35 left out. The converted one is accepted and has the distances that the old sheet had; a sheet without self-arcs is its own
+ * conversion. It is no longer than the sheet and stands at the front of the buffer, and the rest of the buffer stays. Written, or a refusal of the sheet, 1 to
+ * 14 or 34, or 31. */
+uint32_t pigrozk_convert(const uint8_t *sheet, size_t sheet_bytes, uint8_t *out, size_t out_bytes);
 
 #ifdef __cplusplus
 }

@@ -152,8 +152,8 @@ def fronts():
             if not judge(sheet):
                 yield (sheet, 72 + bit % 4), written(sheet, sheet[:48] + NEAT_A[48:])
     chance = Chance(30)
-    highest = [(v, 1023, 262143) for v in (1023, 0, 1022, 511)]
-    for arcs in (highest, highest[::-1], [(0, 0, 0)] * 4, [(0, 1, 197)] * 4):
+    highest = [(v, 1023, 262143) for v in (1021, 0, 1022, 511)]
+    for arcs in (highest, highest[::-1], [(0, 1, 0)] * 4, [(0, 1, 197)] * 4):
         yield from one_copy(chance, (1024, 1023, arcs), nested([[2, [1]], 0, [3]]), 1, lambda h: 1_000_001 - h)
     for order in ((1, 0, 2, 3), (0, 2, 1, 3), (3, 2, 1, 0)):
         yield (divided(4, 0, [ARCS_A[a] for a in order], HALL_A[12:], lambda h: 3 - h), 72), None

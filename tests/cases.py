@@ -4,7 +4,7 @@ import sys
 from collections import Counter
 from pathlib import Path
 
-from paper import BASE, BEFORE_2026_06, BEFORE_2026_07, BEFORE_2026_08, TODAY, Lists
+from paper import BASE, BEFORE_2026_06, BEFORE_2026_07, BEFORE_2026_08, BEFORE_2026_09, REFUSALS, TODAY, Lists, draws_self_arc
 from procedure import Hall
 
 ROOT = Path(__file__).resolve().parent.parent
@@ -13,15 +13,18 @@ ROOT = Path(__file__).resolve().parent.parent
 MOST_BYTES = 8_500_000
 
 # The vectors of the base paper were made when a node had at most two arcs each way, and those before 2026-06 when there was no longer table.
-# The refusals that alone may have moved since. What a run leaves may have moved too, where the choice among equal keys has, and 1 and 2 may have, of a sheet
-# with holds or one that was too long (`may_move`).
+# The refusals that alone may have moved since. What a run leaves may have moved too, where the choice among equal keys has, 1 and 2 may have, of a sheet with
+# holds or one that was too long, and what was said of a sheet that draws a self-arc (`may_move`).
 REFUSED_THEN = {
     BASE: ('refused input 10', 'refused 10', 'refused state 21'), BEFORE_2026_06: ('refused state 21',), BEFORE_2026_07: (), BEFORE_2026_08: (),
+    BEFORE_2026_09: (),
 }
 REFUSED_UNREAD = ('refused input 1', 'refused 1', 'refused input 2', 'refused 2')
+REFUSED_BEFORE_35 = {form % number for number in [*REFUSALS][:[*REFUSALS].index(35)] for form in ('refused input %d', 'refused %d')}
+REFUSED_35 = ('refused input 35', 'refused 35')
 
 # The change requests. Each has its vectors in a file of its own.
-REQUESTS = ['2026-01', '2026-02', '2026-03', '2026-04', '2026-05', '2026-06', '2026-07', '2026-08']
+REQUESTS = ['2026-01', '2026-02', '2026-03', '2026-04', '2026-05', '2026-06', '2026-07', '2026-08', '2026-09']
 
 # The answers, numbered from 0 as the program numbers them.
 ANSWERS = ['refused input', 'refused state', 'accepted', 'ended', 'paused', 'no route', 'route', 'written']
@@ -42,8 +45,16 @@ def change_fields(request, call):
 
 def rules_of(request):
     """The rules by which the vectors of a request hold."""
-    since = {'2026-06': BEFORE_2026_06, '2026-07': BEFORE_2026_07, '2026-08': BEFORE_2026_08}
+    since = {'2026-06': BEFORE_2026_06, '2026-07': BEFORE_2026_07, '2026-08': BEFORE_2026_08, '2026-09': BEFORE_2026_09}
     return next((rules for changed, rules in since.items() if request < changed), TODAY)
+
+
+def retired_fields(call):
+    """The vectors of a call that are from before 2026-09 and draw self-arcs: each with its request, its sheet and its other fields."""
+    for request in REQUESTS:
+        for digits, *fields in change_fields(request, call) if rules_of(request).self_arcs else ():
+            if draws_self_arc(Lists(bytes_in(digits))):
+                yield request, bytes_in(digits), fields
 
 
 def vectors_of(request, stated_by, *form):
@@ -155,10 +166,13 @@ def sheet_in(case):
 def may_move(rules, case, then, answer):
     """Whether the answer to a case may be another today.
 
-    It was a refusal for which rules have changed, a refusal of a sheet that is read further today, or a state after rounds where the tie rule may decide.
+    It was a refusal for which rules have changed, a refusal of a sheet that is read further today, what was said of a sheet that passed 1 to 10 and draws a
+    self-arc, or a state after rounds where the tie rule may decide.
     """
     if then in REFUSED_THEN[rules] or then in REFUSED_UNREAD and not rules.holds and is_let_in(sheet_in(case)):
         return True
+    if answer.split(':')[0] in REFUSED_35:
+        return rules.self_arcs and then.split(':')[0] not in REFUSED_BEFORE_35 and draws_self_arc(Lists(sheet_in(case)))
     return not rules.ties_by_height and is_of_rounds(then) and is_of_rounds(answer) and height_may_decide(sheet_in(case))
 
 
@@ -180,8 +194,15 @@ def held_vectors(family, answered, rules, before, kind):
     return held(family, answered, before) if rules == TODAY else held_by_rules(family, answered, rules, before, kind)
 
 
+def stored_by(case, answer):
+    """What tells a vector from others: its line; of one that is 35 its call and its sheet, since it says nothing of what else is lent."""
+    fields = case.split()
+    return (fields[0], fields[4]) if answer.split(':')[0] in REFUSED_35 else case
+
+
 def lines_of(vectors, families, answered, kind=lambda answer: answer.split(':')[0], line_of=line_of, before=same):
-    """The lines of all vectors and, each once, of the cases of all families, where they are not too many; prints how many there are.
+    """The lines of all vectors and, each once, of the cases of all families, where they are not too many; prints how many there are. Of the vectors that are
+    35 each sheet has one line.
 
     The vectors are three lists: of the base paper, of 2026-01 and of the requests since. For a family and the rules of its time, `answered`
     gives the cases, each with the answer expected and the one stated, or None; `before` gives an answer in the form before 2026-02.
@@ -195,10 +216,11 @@ def lines_of(vectors, families, answered, kind=lambda answer: answer.split(':')[
     for family, cases in found:
         start = len(lines)
         for case, answer in cases:
-            if family not in families or case not in seen:
+            key = case if family in families else stored_by(case, answer)
+            if key not in seen or family not in families and key == case:
                 lines.append((case, line_of(answer)))
                 kinds[kind(answer)] += 1
-            seen.add(case)
+            seen.update((case, key))
         print('%s: %d cases' % (family.__name__, len(lines) - start))
     sizes = [sum(len(pair[at]) + 1 for pair in lines) for at in range(2)]
     if max(sizes) > MOST_BYTES:

@@ -70,7 +70,7 @@ def heights():
 
 def arc_ends():
     for nodes, answer in ((1023, 8), (1024, 0)):
-        for tail, head in ((1023, 0), (0, 1023), (1023, 1023)):
+        for tail, head in ((1023, 0), (0, 1023), (1023, 1022)):
             yield sheet_of(nodes, 0, [1], [(tail, head)], flat(1)), answer
     for tail, head in ((4, 3), (3, 4), (1023, 0), (0, 1023), (4, 4)):
         for at in range(3):
@@ -79,14 +79,14 @@ def arc_ends():
 
 
 def degrees():
-    """Up to five arcs from a node and five to it, in every mixture, self-arcs among them; parallel arcs; and far too many."""
+    """Up to five arcs from a node and five to it, in every mixture, self-arcs among them, which are 35 where they are not 10; parallel arcs; far too many."""
     for v in (0, 3, 1023):
         near = [(v + step) % 1024 for step in range(1, 6)]
         for own, out, into in product(range(6), repeat=3):
             selves, others = [(v, v)] * own, [(v, w) for w in near[:out]] + [(w, v) for w in near[:into]]
             most = own + max(out, into)
             for arcs in (selves + others, others + selves) if most <= 5 else ():
-                yield sheet_of(1024, 0, [1], arcs, flat(len(arcs))), 10 if most == 5 else 0
+                yield sheet_of(1024, 0, [1], arcs, flat(len(arcs))), 10 if most == 5 else 35 if own else 0
         for count in range(1, 6):
             for ends in ((v, near[0]), (near[0], v)):
                 yield sheet_of(1024, 0, [1], [ends] * count, flat(count)), 10 if count == 5 else 0
@@ -199,10 +199,11 @@ def let_through(listed):
 
 
 def far(listed):
-    """A sheet of these kinds that gets far: as many nodes as holds, or one, spans of 1, regions and leaves in the last inner region, leaves of one arc after
-    the other.
+    """A sheet of these kinds that gets far: as many nodes as holds, or two, spans of 1, arcs to the last node, regions and leaves in the last inner region,
+    leaves of one arc after the other. With one node the arcs are self-arcs.
     """
     words, above, regions, leaves = [], 0, 0, 0
+    nodes = listed.count('d') or 2
     for kind in listed:
         regions += kind in '67'
         if kind == '6':
@@ -212,7 +213,7 @@ def far(listed):
             words.append(leaf(above, leaves))
             leaves += 1
         else:
-            words.append(int(kind, 16) << 28 | {'1': max(1, listed.count('d')), '3': 1}.get(kind, 0))
+            words.append(int(kind, 16) << 28 | {'1': nodes, '3': 1, '4': nodes - 1}.get(kind, 0))
     return packed(words)
 
 
@@ -308,7 +309,7 @@ def full_size():
 def large():
     arcs = each_way(2, 1024)
     yield sheet_of(1024, 0, [1], arcs, flat(2048)[::-1]), 0
-    yield sheet_of(1024, 0, [1], [(v, v) for v in range(1024) for _ in range(2)], flat(2048)), 0
+    yield sheet_of(1024, 0, [1], [(v, v ^ 1) for v in range(1024) for _ in range(2)], flat(2048)), 0
     yield sheet_of(1024, 0, [1], arcs + [(0, 0)], []), 7
     yield sheet_of(1023, 0, [1], arcs, []), 8
     yield sheet_of(1024, 0, [1], arcs[:-1] + [(1023, 4, 262144)], []), 9
@@ -321,13 +322,13 @@ def large():
         if len(regions) != 4080 + more:
             sys.exit('%d region words' % len(regions))
         yield sheet_of(200, 199, [1] * 15, few[:272 + more], regions), answer
-    yield sheet_of(1, 0, [1] * 15, [(0, 0)], chain(4094)), 14
+    yield sheet_of(2, 0, [1] * 15, [(0, 1)], chain(4094)), 14
 
 
 def large_wide():
     arcs = each_way(4, 512)
     yield sheet_of(512, 0, [1], arcs, flat(2048)[::-1]), 0
-    yield sheet_of(512, 0, [1], [(v, v) for v in range(512) for _ in range(4)], flat(2048)), 0
+    yield sheet_of(512, 0, [1], [(v, v ^ 1) for v in range(512) for _ in range(4)], flat(2048)), 0
     yield sheet_of(512, 0, [1], arcs + [(0, 0)], []), 7
     for fifth in ((511, 5), (510, 12)):
         yield sheet_of(512, 0, [1], arcs[:-1] + [fifth], []), 10
@@ -362,11 +363,12 @@ def random_wide():
 def numbers_of_holds():
     """None, one, n - 1, n, n + 1 and twice n, of a sheet with regions, with arcs alone and with spans alone; n is that of kind 1, right or wrong."""
     for nodes in (1, 2, 3, 4, 255, 256, 257, 1024):
+        ends = 0, nodes - 1
         for count in sorted({0, 1, nodes - 1, nodes, nodes + 1, 2 * nodes}):
             good = count in (0, nodes)
-            yield sheet_of(nodes, 0, [1], [(0, 0)], flat(1), [0] * count), 0 if good else 2
+            yield sheet_of(nodes, 0, [1], [ends], flat(1), [0] * count), (0 if nodes > 1 else 35) if good else 2
             yield sheet_of(nodes, nodes - 1, [1], holds=[ANY_HOLD] * count), 0 if good else 2
-            yield sheet_of(nodes, 0, [], [(0, 0)], holds=[5] * count), 12 if good else 2
+            yield sheet_of(nodes, 0, [], [ends], holds=[5] * count), (12 if nodes > 1 else 35) if good else 2
             yield sheet_of(nodes, 0, [], holds=[5] * count), 14 if good else 2
     for nodes, count, number in (
         (0, 0, 4), (0, 1, 2), (0, 2, 2), (1025, 0, 4), (1025, 1025, 4), (1025, 1024, 2), (1025, 1, 2), (2**28 - 1, 1, 2), (2**28 - 1, 1023, 2), (65537, 1, 2),
@@ -403,16 +405,16 @@ def held_lengths():
 
 
 def free_holds():
-    """The source as tail, wherever it is and whatever leaves it, an arc from it to itself too; nodes that no arc leaves; and a tail that is not the source."""
-    arcs = [(0, 1, 262143), (1, 2, 262143), (2, 0, 262143), (2, 2, 262143)]
+    """The source as tail, wherever it is and whatever leaves it; nodes that no arc leaves; and a tail that is not the source."""
+    arcs = [(0, 1, 262143), (1, 2, 262143), (2, 0, 262143), (2, 1, 262143)]
     for source in range(4):
         for node in range(4):
             answer = 0 if node in (source, 3) else 34
             for hold in (1, 262144, ANY_HOLD):
                 yield sheet_of(4, source, [1], arcs, flat(4), changed([0] * 4, node, hold)), answer
-    for arc in ((1, 1), (1, 0), (1, 2)):
+    for arc in ((1, 3), (1, 0), (1, 2)):
         for source, answer in ((1, 0), (0, 34), (2, 34)):
-            yield sheet_of(3, source, [1], [(*arc, 262143)], flat(1), [0, ANY_HOLD, 0]), answer
+            yield sheet_of(4, source, [1], [(*arc, 262143)], flat(1), [0, ANY_HOLD, 0, 0]), answer
     # several arcs leave a node: the last one alone, and the first one alone, is too long with its hold
     for lengths in ((0, 0, 0, 7), (7, 0, 0, 0), (0, 7, 0, 0)):
         for hold, answer in ((262136, 0), (262137, 34)):
@@ -481,10 +483,75 @@ def held_pairs():
             yield from ((sheet, number) for sheet in [with_faults(kept, change) for change in changes] if applies(number, sheet))
 
 
+# Request 2026-09: 35, an arc from a node to itself, after 10.
+
+ROUND = [(0, 1, 4), (0, 2, 1), (2, 1, 2), (1, 3, 5), (3, 0, 1)]
+
+
+def self_arcs():
+    """One self-arc in the place of each arc and after all, at each node, the source and an unreached one among them; several, all; of every length."""
+    for at in range(len(ROUND) + 1):
+        for v in range(5):
+            for length in (0, 262143):
+                arcs = ROUND[:at] + [(v, v, length)] + ROUND[at + 1:]
+                yield sheet_of(5, 0, [1], arcs, flat(len(arcs))), 35
+    for selves in ([(2, 2)] * 2, [(4, 4)] * 4, [(0, 0), (4, 4)], [(v, v) for v in range(5)]):
+        for arcs in (selves, ROUND + selves, selves + ROUND):
+            yield sheet_of(5, 0, [1], arcs, flat(len(arcs))), 35
+    for nodes, v in ((1, 0), (256, 255), (257, 256), (1024, 1023), (1024, 512)):
+        yield sheet_of(nodes, 0, [1], [(v, v)], flat(1)), 35
+        yield sheet_of(nodes, v, [1], [(v, v)] * 4, flat(4)), 35
+    for ways, nodes in ((2, 1024), (4, 512)):
+        arcs = each_way(ways, nodes)
+        for at in (0, 1000, 2047):
+            yield sheet_of(nodes, 0, [1], changed(arcs, at, (arcs[at][0], arcs[at][0], 7)), flat(2048)), 35 if ways == 2 else 10
+        yield sheet_of(nodes, 0, [1], [(v, v) for v in range(nodes) for _ in range(ways)], flat(2048)), 35
+
+
+def bits_apart():
+    """Tail and head that differ in one bit alone are no self-arc, whatever their other bits are; nor are two arcs there and back."""
+    for bit in range(10):
+        for v in (0, 1023, 341, 682):
+            yield sheet_of(1024, 0, [1], [(v, v ^ 1 << bit), (v ^ 1 << bit, v)], flat(2)), 0
+            yield sheet_of(1024, 0, [1], [(v, v ^ 1 << bit), (v ^ 1 << bit, v ^ 1 << bit)], flat(2)), 35
+
+
+def order_of_35():
+    """10 over all arcs is looked at before 35, and 35 before 11 to 14, whichever arc comes first."""
+    crowd, own, good = [(2, 3)] * 5, [(4, 4)], [(0, 1)]
+    for arcs in (crowd + own, own + crowd, good + own + crowd, [(4, 4)] * 5, [(4, 4)] * 4 + [(4, 5)], [(5, 4)] + [(4, 4)] * 4):
+        yield sheet_of(6, 0, [1], arcs, flat(len(arcs))), 10
+    for arcs in (crowd[1:] + own, own + crowd[1:], [(4, 4)] * 4, [(4, 4)] * 3 + [(4, 5)], [(5, 4)] + [(4, 4)] * 3, [(4, 4)] * 3 + [(4, 5), (5, 4)]):
+        count = len(arcs)
+        for regions, spans in (
+            (flat(count), [1]), (flat(count)[:-1], [1]), (flat(count) + [leaf(0, 0)], [1]), ([*flat(count), inner(0)], [1]), (flat(count), [1, 1]),
+            (flat(count), []), ([inner(1), *(leaf(1, a) for a in range(count))], [1, 1]), ([leaf(0, 0), *(leaf(1, a) for a in range(1, count))], [1]),
+            ([], [1]),
+        ):
+            yield sheet_of(6, 0, spans, arcs, regions), 35
+    for ends, number in (((6, 6), 8), ((1023, 1023), 8)):
+        yield sheet_of(6, 0, [1], [(4, 4), ends], flat(2)), number
+    for length, number in ((262143, 35), (262144, 9), (2**28 - 1, 9)):
+        yield sheet_of(6, 0, [1], [(4, 4, length)], flat(1)), number
+    for source, number in ((4, 35), (0, 34)):
+        yield sheet_of(6, source, [1], [(4, 4, 262143)], flat(1), [0, 0, 0, 0, 1, 0]), number
+    yield sheet_of(6, 0, [1], [(4, 4, 262142)], flat(1), [ANY_HOLD, 0, 0, 0, 1, 0]), 35
+
+
+def random_self_arcs():
+    """Sheets by chance in which self-arcs are drawn as often as others, with holds too, and damaged."""
+    chance = Chance(121)
+    for turn in range(90):
+        sheet = packed(random_words(chance, 5, 2 + turn % 3, True))
+        sheet = held(chance, sheet) if turn % 3 == 0 else sheet
+        yield sheet, 35 if applies(35, sheet) else 0
+        yield packed(damaged(chance, words_in(sheet), turn % 4)), None
+
+
 FAMILIES = [
     marked, nodes_and_sources, spans, heights, arc_ends, degrees, bits, parents, leaves, childless_regions, kinds, order, cuts, pairs,
     wide_pairs, full_size, large, large_wide, random_sheets, random_wide, neighbours, numbers_of_holds, places_of_holds, held_lengths, free_holds,
-    order_of_34, longer_sheets, random_held, held_pairs,
+    order_of_34, longer_sheets, random_held, held_pairs, self_arcs, bits_apart, order_of_35, random_self_arcs,
 ]
 
 

@@ -27,8 +27,8 @@ def digits():
 
 def sizes():
     """A sheet that is longer or shorter than the line says, and a line that is longer than there is room for."""
-    for call in (1, 2, 3, 5, 6):
-        head = digits_of_words([call, 0, GOOD if call in (2, 3, 6) else 0])
+    for call in (1, 2, 3, 5, 6, 8):
+        head = digits_of_words([call, 0, GOOD if call in (2, 3, 6, 8) else 0])
         for size in (0, len(A) - 4, len(A) - 1, len(A) + 1, len(A) + 4, 2**31, 2**32 - 16, 2**32 - 1):
             yield head + digits_of_words([size]) + A.hex()
     yield from (digits_of_words([call, 0, 9, size]) + A.hex() for call in (4, 7) for size in (len(A) + 1, 2**32 - 1))
@@ -36,7 +36,7 @@ def sizes():
 
 
 def calls():
-    yield from (case_of(call, A, words=GOOD) for call in (0, 8, 9, 257, 263, 2**16 + 1, 2**16 + 7, 2**28, 2**32 - 1))
+    yield from (case_of(call, A, words=GOOD) for call in (0, 9, 10, 257, 264, 2**16 + 1, 2**16 + 8, 2**28, 2**32 - 1))
 
 
 def tables():
@@ -47,8 +47,9 @@ def tables():
 
 def words():
     yield from (case_of(call, A, 0, more) for call in (*range(1, 6), 7) for more in (WORDS + 1, 2**31, 2**32 - 1))
-    yield from (case_of(6, A, 0, more) for more in (BYTES + 1, 2**31, 2**32 - 1))
-    yield from (case_of(6, A, 0, BYTES) + more for more in ('00', '00000000', '7000200270002002'))
+    for call in (6, 8):
+        yield from (case_of(call, A, 0, more) for more in (BYTES + 1, 2**31, 2**32 - 1))
+        yield from (case_of(call, A, 0, BYTES) + more for more in ('00', '00000000', '7000200270002002'))
 
 
 def readable():
@@ -63,8 +64,9 @@ def readable():
     yield case_of(2, A, 0, WORDS), 'refused state 21'
     for table, words in (([5] * WORDS, WORDS), ([5] * 9, 3), ([5] * 9, 0), ([5] * 3, 9), ([], 9)):
         yield case_of(7, A, 0, words, table), with_words('refused state 32', table[:words])
-    yield case_of(6, bytes(ROOM - 16), 0, BYTES), 'refused input 1'
-    yield from ((case_of(6, A, node, 71), 'refused input 31') for node in (1, 2**32 - 1))
+    for call in (6, 8):
+        yield case_of(call, bytes(ROOM - 16), 0, BYTES), 'refused input 1'
+        yield from ((case_of(call, A, node, 71), 'refused input 31') for node in (1, 2**32 - 1))
 
 
 def lines():

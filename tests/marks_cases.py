@@ -2,10 +2,12 @@
 
 What is expected comes from tests/procedure.py. It has to agree with every line of tests/marks_vectors.txt and of the vectors of every change
 request, from tests/2026-01_vectors.txt on, by the rules of their time, where tests/before.py says how with the older ones, and with each text
-that a case states, and what is printed of an ended run has to be shortest. Otherwise the script stops.
+that a case states, and what is printed of an ended run has to be shortest. Sheets of vectors that draw self-arcs are printed once they are converted by
+tests/convert.py, with the distances that the vectors state. Otherwise the script stops.
 """
 from before import listing_before
-from cases import bytes_in, case_of, change_fields, data, lines_of, vectors_of, vectors_since
+from cases import bytes_in, case_of, change_fields, data, lines_of, retired_fields, vectors_of, vectors_since
+from convert import convert
 from holds import HELD_A, by_hand, held_halls, longest_row
 from paper import TODAY
 from procedure import NONE, printed
@@ -112,7 +114,7 @@ def holds():
     """Hall A with holds, by hand; halls whose distances are stated; n - 1 and n + 1 holds, and 34 by one."""
     yield HELD_A, 'ended rounds 2 leaves 4 inner 2 2 updates 10\n0 0 -\n1 4 0\n2 1 1\n3 19 3'
     for sheet, labels in by_hand():
-        if [line.rsplit(' ', 1)[0] for line in printed(sheet)[1:]] != distances_of(labels):
+        if without_arcs(printed(sheet)) != distances_of(labels):
             raise SystemExit('the distances are not as stated: %s' % sheet.hex())
         yield sheet, None
     yield from ((sheet, None) for sheet in held_halls())
@@ -140,7 +142,21 @@ def holds_full_size():
     yield longest_row(1024), None
 
 
-FAMILIES = [marked, refused, sizes, small_halls, levels, full_size, ties, holds, same_times, holds_full_size]
+def without_arcs(lines):
+    """The lines of the nodes without their feeding arcs."""
+    return [line.rsplit(' ', 1)[0] for line in lines[1:]]
+
+
+def converted_vectors():
+    """The sheets of vectors that draw self-arcs, converted: the distances are those that the vector states."""
+    for _, sheet, (text,) in retired_fields('marks'):
+        if text.startswith('ended'):
+            if without_arcs(printed(convert(sheet))) != without_arcs(text_in(text).split('\n')):
+                raise SystemExit('converted, it has other distances: %s' % sheet.hex()[:300])
+            yield convert(sheet), None
+
+
+FAMILIES = [marked, refused, sizes, small_halls, levels, full_size, ties, holds, same_times, holds_full_size, converted_vectors]
 
 
 def vectors():
@@ -149,9 +165,14 @@ def vectors():
         yield bytes_in(digits), text.replace('|', '\n')
 
 
+def text_in(text):
+    """A text as the vectors of requests spell it."""
+    return text.replace('_', ' ').replace('|', '\n').rstrip('\n')
+
+
 def stated_by(request):
     for digits, text in change_fields(request, 'marks'):
-        yield bytes_in(digits), text.replace('_', ' ').replace('|', '\n').rstrip('\n')
+        yield bytes_in(digits), text_in(text)
 
 
 def answered(family, rules=TODAY):

@@ -5,10 +5,12 @@ import re
 from collections import namedtuple
 
 # What has changed: since request 2026-01 the most arcs from a node and to a node, since 2026-06 the longer form of a table, since 2026-07 the choice among
-# equal keys, which went to the lower region number alone, and since 2026-08 the kind of the holds and the most bytes of a sheet.
-Rules = namedtuple('Rules', 'most_each_way longer_form ties_by_height holds most_bytes')
-TODAY = Rules(4, True, True, True, 36_924)
-BEFORE_2026_08 = TODAY._replace(holds=False, most_bytes=32_828)
+# equal keys, which went to the lower region number alone, since 2026-08 the kind of the holds and the most bytes of a sheet, and since 2026-09 that no arc may
+# lead from a node to itself.
+Rules = namedtuple('Rules', 'most_each_way longer_form ties_by_height holds most_bytes self_arcs')
+TODAY = Rules(4, True, True, True, 36_924, False)
+BEFORE_2026_09 = TODAY._replace(self_arcs=True)
+BEFORE_2026_08 = BEFORE_2026_09._replace(holds=False, most_bytes=32_828)
 BEFORE_2026_07 = BEFORE_2026_08._replace(ties_by_height=False)
 BEFORE_2026_06 = BEFORE_2026_07._replace(longer_form=False)
 BASE = BEFORE_2026_06._replace(most_each_way=2)
@@ -60,6 +62,10 @@ def crowded(s, rules):
     return more_alike(s.tails, rules.most_each_way) or more_alike(s.heads, rules.most_each_way)
 
 
+def draws_self_arc(s):
+    return any(tail == head for tail, head in zip(s.tails, s.heads))
+
+
 def wrong_parent(s):
     return any(parent >= number or parent in s.leaves for number, parent in enumerate(s.parents, 1))
 
@@ -96,6 +102,7 @@ REFUSALS = {
     9: lambda s, _: any(length > 262143 for length in s.lengths),
     34: lambda s, _: held_too_long(s),
     10: crowded,
+    35: lambda s, rules: not rules.self_arcs and draws_self_arc(s),
     11: lambda s, _: wrong_parent(s),
     12: lambda s, _: wrong_leaves(s),
     13: lambda s, _: childless(s),

@@ -10,11 +10,11 @@ from pathlib import Path
 
 ROOT = Path(__file__).resolve().parent.parent
 FOLDERS = ('crates/', 'docs/', 'tests/', 'samples/', 'bench/', 'rust/', 'include/')
-FILES = ('crates.txt', 'mark', '.ci/run')
+FILES = ('crates.txt', 'mark', 'convert', 'sheet.sh', '.ci/run')
 DOCUMENTS = ('README.md', 'CONTRIBUTING.md', 'docs/*.md', 'docs/changes/*.md', 'bench/README.md', 'samples/README.md')
 
 # The crates whose definitions are to be believed, and the files of their specs/ that are not.
-BELIEVED = ('indices', 'sheet', 'answer', 'judgement', 'procedure', 'calls', 'listing')
+BELIEVED = ('indices', 'sheet', 'answer', 'judgement', 'procedure', 'conversion', 'calls', 'listing')
 PASSED_OVER = ('Lib.antt', 'Inner.antt')
 
 

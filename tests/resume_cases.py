@@ -343,8 +343,8 @@ def by_clause(of_tables):
 
 
 # Nodes 0, 1 and 2 in a row, a ring without length between nodes 2 and 3, an arc back to the source, node 4 ahead of node 3, an arc from node 4
-# to itself; from node 5, which no arc leads to, arcs to nodes 4 and 6.
-ROW = [(0, 1, 4), (1, 2, 3), (2, 3, 0), (3, 2, 0), (2, 0, 1), (3, 4, 5), (5, 4, 2), (5, 6, 1), (4, 4, 0)]
+# back to node 2; from node 5, which no arc leads to, arcs to nodes 4 and 6.
+ROW = [(0, 1, 4), (1, 2, 3), (2, 3, 0), (3, 2, 0), (2, 0, 1), (3, 4, 5), (5, 4, 2), (5, 6, 1), (4, 2, 9)]
 ROW_SHEET = divided(7, 0, ROW, balanced(3, list(range(9))), lambda h: 2)
 ROW_COLUMNS = [0, 4, 7, 7, 12, NONE, NONE], [NONE, 0, 1, 2, 5, NONE, NONE], [0] * 9, [3, 9, 4, 3] + [0] * 13 + [20]
 TWO_KEYED = {0: 1, 5: 1}
@@ -371,14 +371,14 @@ def source_at_0():
 
 
 def chains():
-    """Unfed, fed by another's arc, round the ring without length, by an arc to itself, and through a node that is not reached."""
+    """Unfed, fed by another's arc, round the ring without length, by an arc that leaves it, and through a node that is not reached."""
     for node in range(1, 5):
         yield *row(feeding={node: NONE}, keyed=TWO_KEYED), CHAINS
     yield *row(feeding={4: 1}), CHAINS
     yield *row(feeding={3: 1}), CHAINS
     yield *row(feeding={2: 3}), CHAINS
     yield *row({2: 9, 3: 9, 4: 14}, {2: 3}, {1: 1}), CHAINS
-    yield *row(feeding={4: 8}), CHAINS
+    yield *row(feeding={4: 8}), CHAINS, BELOW
     yield *row(feeding={4: 6}), CHAINS, BELOW
     yield *row({3: 8, 2: 8, 4: 13}, {2: 3, 3: 2}, {1: 1}), CHAINS
     yield *row({1: NONE}, {1: NONE}, {0: 1}), CHAINS, BELOW

@@ -238,10 +238,10 @@ def rings():
         yield (sheet, table_of(labels, [NONE, 2, 1, 3]), node, 9), 'refused state 24'
     for feeding in ([NONE, 0, 1, NONE], [NONE, 0, 0, 3], [NONE, 0, 1, 1], [NONE, 3, 1, 3], [NONE, 0, 3, 3]):
         yield (sheet, table_of(labels, feeding), 1, 9), 'refused state 24'
-    own = sheet_of(2, 0, [1], [(0, 0, 0), (0, 1, 3), (1, 1, 0), (1, 0, 0)], flat(4))
-    yield from routes(own, table_of([0, 3], [NONE, 1]))
+    both_ways = sheet_of(2, 0, [1], [(1, 0, 0), (0, 1, 3), (0, 1, 4), (1, 0, 0)], flat(4))
+    yield from routes(both_ways, table_of([0, 3], [NONE, 1]))
     for feeding in ([0, 1], [3, 1], [NONE, 2], [1, 1], [NONE, 0], [NONE, 3]):
-        yield (own, table_of([0, 3], feeding), 1, 9), 'refused state 24'
+        yield (both_ways, table_of([0, 3], feeding), 1, 9), 'refused state 24'
     back = sheet_of(3, 0, [1], [(0, 1, 0), (1, 2, 0), (2, 0, 0), (2, 1, 0)], flat(4))
     yield from routes(back, table_of([0, 0, 0], [NONE, 0, 1]))
     for feeding in ([2, 0, 1], [NONE, 3, 1], [2, 3, 1]):

@@ -6,17 +6,19 @@ with the older ones, and with each answer that a case states; every ended table 
 work as tests/work.py says, every longer table has to be a possible state of request 2026-06, and on small halls the run without heaps has to
 make the same tables, and an ended table has to hold the least of all routes, measured by the sentence of request 2026-08. The halls of
 tests/ties.py have to tell wrong choices among equal keys from that of request 2026-07, and hall A has to be as it was by the choice of before;
-those of tests/holds.py have to tell wrong charges of holds from the right one. Otherwise the script stops.
+those of tests/holds.py have to tell wrong charges of holds from the right one. The sheets of vectors that draw self-arcs are run once they are converted by
+tests/convert.py, and have to have the distances that the vectors state. Otherwise the script stops.
 """
 import sys
 from collections import Counter
 
 from before import MORE, answer_before, listing_before
 from cases import (
-    bytes_in, case_of, change_fields, counted, data, lines_of, stated_in, vectors_of, vectors_since, with_words, words_in,
+    bytes_in, case_of, change_fields, counted, data, lines_of, retired_fields, stated_in, vectors_of, vectors_since, with_words, words_in,
 )
+from convert import convert
 from holds import HELD_A, by_hand, held_halls, hold_charged_apart, hold_every_route, longest_row
-from paper import BASE, BEFORE_2026_07, TODAY, judge
+from paper import BASE, BEFORE_2026_07, BEFORE_2026_09, TODAY, judge
 from procedure import (
     COUNTS, HEADER, MOST_HEIGHT, NONE, Hall, PlainRun, Run, broken_clauses, columns, counts_of, distances, halves_of, longer_size, longer_tables,
     printed, shortest, table_of, table_refusal, table_size, tables,
@@ -99,7 +101,7 @@ def lengths_of_tables():
 
 def single(height):
     """A hall of five nodes in a division of single children."""
-    arcs = [(0, 1, 3), (0, 2, 1), (2, 1, 1), (1, 3, 0), (3, 3, 0), (4, 4, 2)]
+    arcs = [(0, 1, 3), (0, 2, 1), (2, 1, 1), (1, 3, 0), (3, 0, 0), (4, 1, 2)]
     return divided(5, 0, arcs, single_children(height, len(arcs)), lambda h: 1)
 
 
@@ -128,7 +130,7 @@ SPANS = [lambda h: 1, lambda h: 1_000_000, lambda h: 1 + h % 3, lambda h: 2 if h
 
 
 def small_halls(seed, turns, most_nodes, ways):
-    """Halls with ties, zero lengths, parallel arcs, self-arcs and nodes that no route reaches, in every shape of division."""
+    """Halls with ties, zero lengths, parallel arcs and nodes that no route reaches, in every shape of division."""
     chance = Chance(seed)
     lengths = [[0], [0, 1], [1], [0, 1, 2, 5], [262143], list(range(0, 262144, 4099))]
     for turn in range(turns):
@@ -149,7 +151,7 @@ def listed_halls():
         arcs = each_way(2, 4)
         yield divided(4, height % 4, arcs, chain(height, 8), lambda h: 1 + h % 2)
         yield divided(4, height % 4, arcs, ladder(height, 8), lambda h: 1_000_000)
-    for arcs in ([(0, 0, 0)], [(0, 0, 5)], [(0, 0, 0)] * 2, [(0, 1, 4), (0, 1, 3)], [(0, 1, 3), (0, 1, 3)], [(1, 0, 2)], [(1, 2, 0), (2, 1, 0)],
+    for arcs in ([(0, 1, 0)], [(0, 1, 5)], [(0, 1, 0)] * 2, [(0, 1, 4), (0, 1, 3)], [(0, 1, 3), (0, 1, 3)], [(1, 0, 2)], [(1, 2, 0), (2, 1, 0)],
                  [(0, 1, 0), (1, 0, 0)], [(0, 1, 7), (1, 2, 0), (2, 1, 0)], [(0, 2, 3), (0, 1, 2), (1, 2, 1)], [(0, 2, 3), (0, 1, 1), (1, 2, 1)]):
         for regions in (flat(len(arcs)), flat(len(arcs))[::-1], chain(3, len(arcs)), single_children(2, len(arcs))):
             yield divided(3, 0, arcs, regions, lambda h: 1)
@@ -172,7 +174,7 @@ def wide_halls():
         for height in (1, 2, 15):
             yield divided(5, height % 5, each_way(ways, 5), chain(height, 5 * ways), lambda h: 1 + h % 2)
             yield divided(5, height % 5, each_way(ways, 5), ladder(height, 5 * ways), lambda h: 1_000_000)
-        for arcs in ([(0, 0, 0)] * ways, [(0, 1, 3)] * ways, [(0, 1, 9 - a) for a in range(ways)], [(1, 0, 2)] * ways + [(0, 1, 2)] * ways):
+        for arcs in ([(0, 1, 0)] * ways, [(0, 1, 3)] * ways, [(0, 1, 9 - a) for a in range(ways)], [(1, 0, 2)] * ways + [(0, 1, 2)] * ways):
             for regions in (flat(len(arcs)), flat(len(arcs))[::-1], single_children(2, len(arcs))):
                 yield divided(3, 0, arcs, regions, lambda h: 1)
 
@@ -302,8 +304,8 @@ def high():
 # Nodes 1, 3 and 4 are a ring without length. No other node leads to nodes 6 and 7, from which the last four arcs lead; node 8 has no arcs.
 NODES = 9
 ARCS = [
-    (0, 1, 4), (0, 2, 1), (2, 1, 2), (1, 3, 0), (3, 4, 0), (4, 1, 0), (4, 4, 0), (2, 2, 3), (1, 5, 2), (1, 5, 2), (2, 5, 6), (5, 0, 9),
-    (6, 1, 1), (6, 7, 0), (7, 6, 0), (7, 7, 5),
+    (0, 1, 4), (0, 2, 1), (2, 1, 2), (1, 3, 0), (3, 4, 0), (4, 1, 0), (4, 3, 0), (2, 0, 3), (1, 5, 2), (1, 5, 2), (2, 5, 6), (5, 0, 9),
+    (6, 1, 1), (6, 7, 0), (7, 6, 0), (7, 6, 5),
 ]
 
 # By source, the number of these arcs whose tail is reached.
@@ -561,9 +563,23 @@ def hold_holds():
     hold_charged_apart('run', [(sheet, limit, length) for sheet, cases in holds() for limit, length, _ in cases], left)
 
 
+# Self-arcs.
+
+def converted_vectors():
+    """The sheets of vectors that draw self-arcs, converted, with the rounds of the vector: where these ended, the distances are those that it states."""
+    for request, sheet, (limit, _, answer, words) in retired_fields('run'):
+        if answer in ('ended', 'paused'):
+            made = convert(sheet)
+            header = HEADER - MORE if request == '2026-01' else HEADER
+            labels = [word % 2**28 for word in words_in(words)[header:header + 2 * Hall(made).nodes:2]]
+            if answer == 'ended' and distances(Hall(made)) != labels:
+                sys.exit('converted, it has other distances: %s' % sheet.hex()[:300])
+            yield made, [(int(limit), right(made), None)] + [(None, longer(made), None)] * (answer == 'ended')
+
+
 FAMILIES = [
     marked, lengths_of_tables, refused, wide, small, uneven, high, middling, woken_again, full_size, full_size_wide, work_done, longer_forms,
-    longer_full_size, ties_by_hand, ties, holds_by_hand, holds, zero_holds, lengths_as_holds, holds_full_size,
+    longer_full_size, ties_by_hand, ties, holds_by_hand, holds, zero_holds, lengths_as_holds, holds_full_size, converted_vectors,
 ]
 
 
@@ -590,7 +606,7 @@ def marks_vectors():
         found = listing_before('|'.join(printed(sheet, BASE)))
         if found != stated:
             sys.exit('marks prints %s: %s' % (found[:200], line[:200]))
-        lengths = ([FAULTY] if judge(sheet, BASE) else []) + ([] if judge(sheet) else [right(sheet)])
+        lengths = ([FAULTY] if judge(sheet, BASE) else []) + ([] if judge(sheet, BEFORE_2026_09) else [table_size(Hall(sheet).nodes)])
         if len(sheet) <= LONG:
             yield sheet, [(None, length, None) for length in lengths]
 

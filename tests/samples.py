@@ -3,7 +3,8 @@
 The sheets that are said to have one neat copy have it, by tests/canonical.py. The practical, rounds with one set of spans and then with
 another, is as samples/practical.txt has it. What the sample of request 2026-07 prints, and what it printed before, is as its comment says; all
 others print the same by the tie rule of before. Of what the sample of request 2026-08 prints, with its holds and without, its comment has some
-lines. It also tries `./mark` on files that hold something else than words. Run it by
+lines. The sample with self-arcs is converted into the one that is said to be made of it, by tests/convert.py; what `./convert` prints of each sample
+is what that makes. It also tries `./mark` and `./convert` on files that hold something else than words. Run it by
 `python3 tests/samples.py`; with `--write` it writes the .txt files from tests/procedure.py, which shares nothing with the Rattle code.
 """
 import re
@@ -14,8 +15,9 @@ from itertools import groupby
 from pathlib import Path
 
 from canonical import form
+from convert import Converter, convert
 from paper import TODAY, Lists
-from procedure import NONE, Hall, columns, counts_of, longer_tables, printed, resume
+from procedure import NONE, Hall, columns, counts_of, distances, longer_tables, printed, resume
 from sheets import with_holds
 
 ROOT = Path(__file__).resolve().parent.parent
@@ -32,6 +34,9 @@ ROUNDS = 3
 # same by both.
 OTHERWISE = 'shallow-first'
 TIES_OF_BEFORE = TODAY._replace(ties_by_height=False)
+
+# The sample with self-arcs, and what it is converted into.
+CONVERTED = ('recirculating', 'converted')
 
 # The sample with holds that has in its comment some lines of what it prints, and of what it would print without them.
 SCANNERS = 'scanners'
@@ -102,18 +107,37 @@ def practical():
     return '\n'.join(lines) + '\n'
 
 
-def mark(path):
-    done = subprocess.run([ROOT / 'mark', path], capture_output=True, text=True)
+def tried(script, *paths):
+    done = subprocess.run([ROOT / script, *paths], capture_output=True, text=True)
     return done.returncode, done.stdout, done.stderr
 
 
-def refuses(text, line):
+def refuses(script, text, line):
     """A file that holds something else than words is refused before the program runs, in one line that names the file's line."""
     with tempfile.NamedTemporaryFile('w', suffix='.hex') as file:
         file.write(text)
         file.flush()
-        status, out, err = mark(file.name)
+        status, out, err = tried(script, file.name)
     return status == 1 and not out and err.count('\n') == 1 and f'line {line}:' in err
+
+
+def refuses_usage(script):
+    """No file, two files, and one that isn't there."""
+    usages = ([], ['a', 'b'], [ROOT / 'samples' / 'no-such-file.hex'])
+    return all(status == 2 and not out and err for status, out, err in (tried(script, *paths) for paths in usages))
+
+
+def conversion(sheet):
+    """What `./convert` answers for a sheet: its exit status, standard output and standard error."""
+    answer, found = Converter().answer(sheet, len(sheet))
+    return (0, ''.join(found[at:at + 4].hex() + '\n' for at in range(0, len(found), 4)), '') if answer == 'written' else (3, '', f'refused {found}\n')
+
+
+def is_converted_as_said():
+    """Whether the sheet with self-arcs is converted into the other, with fewer arcs, regions and spans and the same distances."""
+    old, new = (sample(name) for name in CONVERTED)
+    fewer = all(len(getattr(Lists(new), name)) < len(getattr(Lists(old), name)) for name in ('ends', 'parents', 'spans'))
+    return convert(old) == new and fewer and distances(Hall(old)) == distances(Hall(new))
 
 
 def main():
@@ -125,12 +149,18 @@ def main():
             beside.write_text(expected)
         if beside.read_text() != expected:
             wrong.append(f'{beside.name} is not what the procedure gives')
-        if mark(path) != (0, expected, ''):
+        if tried('mark', path) != (0, expected, ''):
             wrong.append(f'./mark {path.name} prints something else')
+        if tried('convert', path) != conversion(sample(path.stem)):
+            wrong.append(f'./convert {path.name} prints something else')
         if path.stem != OTHERWISE and printed(sample(path.stem)) != printed(sample(path.stem), TIES_OF_BEFORE):
             wrong.append(f'{path.name} prints otherwise by the tie rule of before')
     refused = [('10000001\n\n2000000g\n', 3), ('1000000120000000\n', 1), ('# a comment\n10000001 2000 # another\n', 2), ('10000001\n-\n', 2)]
-    wrong += [f'{text!r} is not refused' for text, line in refused if not refuses(text, line)]
+    for script in ('mark', 'convert'):
+        wrong += [f'{text!r} is not refused by ./{script}' for text, line in refused if not refuses(script, text, line)]
+        wrong += [] if refuses_usage(script) else [f'./{script}: wrong usage is not refused']
+    if not is_converted_as_said():
+        wrong.append('%s: not one converted into the other' % ', '.join(CONVERTED))
     if not prints_otherwise(OTHERWISE):
         wrong.append(f'{OTHERWISE}.hex: the comment has not what is printed and what was')
     if not differs_by_holds(SCANNERS):

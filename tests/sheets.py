@@ -52,8 +52,9 @@ def side_by_side(depths):
 
 
 def each_way(ways, nodes):
-    """So many arcs from each node and so many to each, with lengths that differ."""
-    return [(v, (v + step) % nodes, 127 * v + step) for v in range(nodes) for step in range(1, 4 * ways, 4)]
+    """So many arcs from each node and so many to each, with lengths that differ, and no self-arc."""
+    steps = [step if step % nodes else step + 1 for step in range(1, 4 * ways, 4)]
+    return [(v, (v + step) % nodes, 127 * v + step) for v in range(nodes) for step in steps]
 
 
 def turntable(lanes, length=lambda a: 1):
@@ -110,6 +111,9 @@ class Parts:
         for a in arcs:
             self.arcs[a][0] = self.arcs[a][0] >> 10 << 10 | node
 
+    def self_arc(self, a):
+        self.heads([a], (self.arcs[a][0] >> 10) % 1024)
+
     def ends_bit(self, a, bit):
         self.arcs[a][0] |= 1 << bit
 
@@ -141,7 +145,8 @@ FAULTS = {
     8: [lambda p: p.heads([0], 8), lambda p: p.tails([5], 1023)],
     9: [lambda p: p.length(0, 262144), lambda p: p.length(5, 2**28 - 1)],
     34: [lambda p: p.hold(0, 262134), lambda p: p.hold(2, 2**28 - 1)],
-    10: [lambda p: p.tails([0, 1, 2, 3, 4], 2), lambda p: p.heads([1, 2, 3, 4, 5], 4)],
+    10: [lambda p: p.tails([0, 1, 2, 3, 4], 0), lambda p: p.heads([1, 2, 3, 4, 5], 0)],
+    35: [lambda p: p.self_arc(3), lambda p: p.self_arc(0)],
     11: [lambda p: p.region(2, inner(2)), lambda p: p.leaf_parent(8, 3)],
     12: [lambda p: p.leaf_arc(3, 6), lambda p: p.leaf_arc(7, 3)],
     13: [lambda p: p.regions.append(inner(0)), lambda p: p.regions.extend([inner(0), inner(9)])],
@@ -150,7 +155,7 @@ FAULTS = {
 
 # Three and four arcs from a node and to a node, which is no fault.
 WIDE = [
-    lambda p: p.tails([1, 2, 3], 2), lambda p: p.heads([2, 3, 4], 4), lambda p: p.tails([2, 3, 4, 5], 3), lambda p: p.heads([0, 1, 2, 3], 2),
+    lambda p: p.tails([2, 3], 1), lambda p: p.heads([2, 3], 5), lambda p: p.tails([2, 3, 4], 1), lambda p: p.heads([0, 1, 2, 3], 7),
 ]
 
 
@@ -231,15 +236,27 @@ def random_regions(chance, arcs):
     return words, 1 + max((height(group) for group in groups), default=0)
 
 
-def random_ends(chance, nodes, count, ways):
-    """The tails and heads of so many arcs, at most so many ways from and to each node, self-arcs and parallel arcs among them."""
-    return zip(*(chance.shuffled([v for v in range(nodes) for _ in range(ways)])[:count] for _ in range(2)))
+def parted(tails, heads):
+    """The same heads in another order: one that is its tail changes places with the next one with which neither arc is a self-arc."""
+    heads, count = list(heads), len(heads)
+    for at, tail in enumerate(tails):
+        if heads[at] == tail:
+            other = next(other % count for other in range(at + 1, at + count) if tail not in (heads[other % count], tails[other % count]))
+            heads[at], heads[other] = heads[other], heads[at]
+    return heads
 
 
-def random_words(chance, most_nodes, ways=2):
+def random_ends(chance, nodes, count, ways, selves=False):
+    """The tails and heads of so many arcs, at most so many ways from and to each node, parallel arcs among them, and self-arcs where these are wanted."""
+    tails, heads = (chance.shuffled([v for v in range(nodes) for _ in range(ways)]) for _ in range(2))
+    return [*zip(tails, heads if selves or nodes == 1 else parted(tails, heads))][:count]
+
+
+def random_words(chance, most_nodes, ways=2, selves=False):
+    """A hall of one node has no arcs but self-arcs."""
     nodes = 1 + chance.below(most_nodes)
-    count = chance.below(ways * nodes + 1)
-    arcs = [(tail, head, chance.below(262144)) for tail, head in random_ends(chance, nodes, count, ways)]
+    count = chance.below(ways * nodes + 1) if selves or nodes > 1 else 0
+    arcs = [(tail, head, chance.below(262144)) for tail, head in random_ends(chance, nodes, count, ways, selves)]
     regions, height = random_regions(chance, count)
     return words_of(nodes, chance.below(nodes), [1 + chance.below(1_000_000) for _ in range(height)], arcs, regions)
 
@@ -334,9 +351,9 @@ def every_division(arcs, inners, words=()):
             yield from every_division(arcs, inners - 1, (*words, inner(parent)))
 
 
-def random_arcs(chance, nodes, count, lengths, ways=2):
+def random_arcs(chance, nodes, count, lengths, ways=2, selves=False):
     """At most so many ways from and to each node, with lengths from a list."""
-    return [(tail, head, lengths[chance.below(len(lengths))]) for tail, head in random_ends(chance, nodes, count, ways)]
+    return [(tail, head, lengths[chance.below(len(lengths))]) for tail, head in random_ends(chance, nodes, count, ways, selves)]
 
 
 def uneven(height):

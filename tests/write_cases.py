@@ -4,6 +4,7 @@ Where a call's expected answers do not agree with its vectors, or with an answer
 Run it by `python3 tests/write_cases.py`: it writes the same files each time.
 """
 import canonical_cases
+import convert_cases
 import judge_cases
 import line_cases
 import marks_cases
@@ -14,7 +15,7 @@ from cases import ROOT
 
 
 def main():
-    calls = (line_cases, judge_cases, run_cases, route_cases, marks_cases, canonical_cases, resume_cases)
+    calls = (line_cases, judge_cases, run_cases, route_cases, marks_cases, canonical_cases, resume_cases, convert_cases)
     lines = [pair for cases in calls for pair in cases.lines()]
     for at, name in enumerate(('stdin', 'stdout')):
         (ROOT / 'crates' / 'cases' / name).write_text(''.join(pair[at] + '\n' for pair in lines))

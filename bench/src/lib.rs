@@ -1,4 +1,4 @@
-//! An independent program of the six calls, generators of sheets and tables, and the way to the proved library.
+//! An independent program of the seven calls, generators of sheets and tables, and the way to the proved library.
 
 pub mod generate;
 pub mod proved;

@@ -1,4 +1,4 @@
-//! The six calls of the proved library, as the numbers of their answers.
+//! The seven calls of the proved library, as the numbers of their answers.
 
 use pigrozk::Answer;
 
@@ -36,4 +36,8 @@ pub fn resume(sheet: &[u8], rounds: u32, table: &mut [u32]) -> u32 {
 
 pub fn canonical(sheet: &[u8], out: &mut [u8]) -> u32 {
     code(pigrozk::canonical(sheet, out))
+}
+
+pub fn convert(sheet: &[u8], out: &mut [u8]) -> u32 {
+    code(pigrozk::convert(sheet, out))
 }

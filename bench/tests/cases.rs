@@ -43,10 +43,10 @@ impl Case {
         let [call, number, lent, size] = words(bytes.get(..16)?)[..] else { return None };
         let rest = &bytes[16..];
         let (sheet, table) = (rest.get(..size as usize)?.to_vec(), &rest[size as usize..]);
-        let most_lent = if call == 6 { MOST_BYTES } else { MOST_WORDS };
+        let most_lent = if matches!(call, 6 | 8) { MOST_BYTES } else { MOST_WORDS };
         let is_case = match call {
             4 | 7 => table.len() % 4 == 0 && table.len() / 4 <= MOST_WORDS,
-            _ => (1..=6).contains(&call) && table.is_empty(),
+            _ => matches!(call, 1..=6 | 8) && table.is_empty(),
         };
         (is_case && lent as usize <= most_lent).then(|| Case { call, number, lent: lent as usize, sheet, table: words(table) })
     }
@@ -59,7 +59,8 @@ impl Case {
             3 => reference::run_limited(&self.sheet, self.number, &mut lent),
             4 => reference::route(&self.sheet, &self.table, self.number, &mut lent),
             5 => return self.listing(),
-            6 => return self.canonical(),
+            6 => return self.written(reference::canonical),
+            8 => return self.written(reference::convert),
             _ => {
                 lent.iter_mut().zip(&self.table).for_each(|(place, word)| *place = *word);
                 reference::resume(&self.sheet, self.number, &mut lent)
@@ -79,9 +80,9 @@ impl Case {
         }
     }
 
-    fn canonical(&self) -> String {
+    fn written(&self, call: fn(&[u8], &mut [u8]) -> Answer) -> String {
         let mut lent = vec![FILLING as u8; self.lent];
-        let answer = reference::canonical(&self.sheet, &mut lent);
+        let answer = call(&self.sheet, &mut lent);
         line(answer, &lent, FILLING as u8)
     }
 }
@@ -127,5 +128,5 @@ fn every_case_agrees() {
     }
     assert!(left.is_empty());
     println!("cases by call, 0 for lines that are none: {calls:?}");
-    assert!((0..=7).all(|call| calls.contains_key(&call)));
+    assert!((0..=8).all(|call| calls.contains_key(&call)));
 }

@@ -117,32 +117,6 @@ fn the_byte_limit() {
     }
 }
 
-/// The least lengths by the sentence of all routes of so many arcs at most from the source, by node.
-struct Least<'a> {
-    sheet: &'a Sheet,
-    arcs: Vec<Arc>,
-    lengths: Vec<u32>,
-}
-
-impl Least<'_> {
-    fn go_on(&mut self, route: &mut Vec<u32>, node: usize, most: usize) {
-        self.lengths[node] = self.lengths[node].min(travel::length(self.sheet, &self.arcs, route));
-        for number in 0..self.arcs.len() {
-            if route.len() < most && self.arcs[number].tail == node {
-                route.push(number as u32);
-                self.go_on(route, self.arcs[number].head, most);
-                route.pop();
-            }
-        }
-    }
-}
-
-fn least(sheet: &Sheet, most: usize) -> Vec<u32> {
-    let mut least = Least { sheet, arcs: sheet.arcs().collect(), lengths: vec![TOP; sheet.nodes()] };
-    least.go_on(&mut vec![], sheet.source(), most);
-    least.lengths
-}
-
 /// Small halls with holds: a run's distances are the least lengths of all routes of up to one arc more than a simple one can have, which are those of Dijkstra.
 #[test]
 fn distances_are_those_of_all_routes() {
@@ -154,7 +128,7 @@ fn distances_are_those_of_all_routes() {
         let division = random.pick(&[Nesting::Flat, Nesting::Mixed, Nesting::Halves]).of(hall.arcs.len(), &mut random);
         let words = sheets::words(&hall, &division, Spans::UpTo(3), &mut random);
         let sheet = sheet_of(&words);
-        let expected = least(&sheet, sheet.nodes());
+        let expected = travel::least(&sheet, sheet.nodes());
         assert_eq!(ended(&words).0, expected, "{words:08x?}");
         assert_eq!(reference::dijkstra::distances(&sheet).labels, expected);
         others += (ended(&charged_wrongly(&sheet, &mut random)).0 != expected) as u32;

@@ -9,7 +9,7 @@ use bench::reference::table::{self, HEADER, HEIGHTS};
 use bench::reference::{self, listing, Answer, TOP};
 
 /// The change requests that have vectors.
-const REQUESTS: [&str; 8] = ["2026-01", "2026-02", "2026-03", "2026-04", "2026-05", "2026-06", "2026-07", "2026-08"];
+const REQUESTS: [&str; 9] = ["2026-01", "2026-02", "2026-03", "2026-04", "2026-05", "2026-06", "2026-07", "2026-08", "2026-09"];
 
 fn lines(name: &str) -> Vec<Vec<String>> {
     let path = format!("{}/../tests/{name}_vectors.txt", env!("CARGO_MANIFEST_DIR"));
@@ -58,6 +58,11 @@ impl Era {
         Era { rules: Rules { holds: true, ..self.rules }, ..self }
     }
 
+    /// The same by a judge that refuses self-arcs.
+    fn without_self_arcs(self) -> Era {
+        Era { rules: Rules { self_arcs: false, ..self.rules }, ..self }
+    }
+
     /// A table to be lent in today's form. One that is as long as it should be, or not, stays so.
     fn lent(self, words: Vec<u32>) -> Vec<u32> {
         if self.one_inner {
@@ -94,8 +99,8 @@ impl Era {
 
 /// Cases made before request 2026-01 hold by the judge of that time, and with four arcs each way unless they were refused as 10.
 fn each_before_2026_01(name: &str, holds: impl Fn(Era, &[String])) {
-    let then = Era { rules: Rules { each_way: 2, holds: false }, one_inner: true, longer_form: false, ties: Ties::ByNumber };
-    let four = Era { rules: Rules { holds: false, ..TODAY }, ..then };
+    let then = Era { rules: Rules { each_way: 2, holds: false, self_arcs: true }, one_inner: true, longer_form: false, ties: Ties::ByNumber };
+    let four = Era { rules: Rules { each_way: TODAY.each_way, ..then.rules }, ..then };
     for case in lines(name) {
         holds(then, &case);
         if !matches!(then.judged(&bytes(&case[0])), Err(10)) {
@@ -106,17 +111,26 @@ fn each_before_2026_01(name: &str, holds: impl Fn(Era, &[String])) {
 
 /// Cases made before request 2026-08 hold by the judge of that time, and by today's unless they were refused as 1 or 2.
 fn each_holds(era: Era, case: &[String], holds: impl Fn(Era, &[String])) {
-    holds(era, case);
+    with_and_without_35(era, case, &holds);
     if !era.rules.holds && !matches!(era.judged(&bytes(&case[0])), Err(1 | 2)) {
-        holds(era.with_holds(), case);
+        with_and_without_35(era.with_holds(), case, &holds);
+    }
+}
+
+/// Cases made before request 2026-09 hold by the judge of that time, and by one that refuses self-arcs unless it refuses them as 35.
+fn with_and_without_35(era: Era, case: &[String], holds: impl Fn(Era, &[String])) {
+    holds(era, case);
+    let without = era.without_self_arcs();
+    if era.rules.self_arcs && !matches!(without.judged(&bytes(&case[0])), Err(35)) {
+        holds(without, case);
     }
 }
 
 /// The cases of a call among those of a request. Since request 2026-02 their tables are level by level, since 2026-06 in two forms, since 2026-07 equal keys
-/// are chosen by height, and since 2026-08 there are holds.
+/// are chosen by height, since 2026-08 there are holds, and since 2026-09 no self-arcs.
 fn each_of_a_request(request: &str, call: &str, holds: impl Fn(Era, &[String])) {
     let ties = if request < "2026-07" { Ties::ByNumber } else { Ties::ByHeight };
-    let rules = Rules { holds: request >= "2026-08", ..TODAY };
+    let rules = Rules { holds: request >= "2026-08", self_arcs: request < "2026-09", ..TODAY };
     let era = Era { rules, one_inner: request < "2026-02", longer_form: request >= "2026-06", ties };
     let lines = lines(request);
     let cases: Vec<_> = lines.iter().filter(|case| case[0] == call).collect();
@@ -236,6 +250,22 @@ fn canonical_agrees() {
         }
     };
     each_since("2026-04", "canonical", holds);
+}
+
+/// Both programs: by the request's sentence, and in one pass.
+#[test]
+fn convert_agrees() {
+    let holds = |_: Era, case: &[String]| {
+        for call in [reference::convert, reference::convert_one_pass] {
+            let before = vec![0xa5; case[1].parse().unwrap()];
+            let mut out = before.clone();
+            assert_eq!(call(&bytes(&case[0]), &mut out), answer(&case[2]), "{}", case[0]);
+            let expected = bytes(&case[3]);
+            assert_eq!(out[..expected.len()], expected, "{}", case[0]);
+            assert_eq!(out[expected.len()..], before[expected.len()..], "{}", case[0]);
+        }
+    };
+    each_since("2026-09", "convert", holds);
 }
 
 #[test]

@@ -1,4 +1,4 @@
-//! Travel times by nested regions: the six proved calls, from Rust.
+//! Travel times by nested regions: the seven proved calls, from Rust.
 //!
 //! None of them has a precondition: each answers for every sheet, table and buffer, and ends. A refusal leaves all that was lent as it was. What they
 //! promise is stated in `crates/pigrozk/src/lib.rt`; `include/pigrozk.h` has the same calls for C.
@@ -127,12 +127,13 @@ mod library {
         ) -> u32;
         pub fn pigrozk_resume(sheet: *const u8, bytes: usize, rounds: u32, table: *mut u32, words: usize) -> u32;
         pub fn pigrozk_canonical(sheet: *const u8, bytes: usize, out: *mut u8, room: usize) -> u32;
+        pub fn pigrozk_convert(sheet: *const u8, bytes: usize, out: *mut u8, room: usize) -> u32;
     }
 }
 
-// SAFETY, of all six: a call reads and writes within the pairs of pointer and length alone, and these are those of slices.
+// SAFETY, of all seven: a call reads and writes within the pairs of pointer and length alone, and these are those of slices.
 
-/// Judges a sheet: `Accepted`, or `Refused` with 1 to 14 or 34, which is looked at after 9.
+/// Judges a sheet: `Accepted`, or `Refused` with 1 to 14, with 34, which is looked at after 9, or with 35, an arc from a node to itself, after 10.
 pub fn judge(sheet: &[u8]) -> Answer {
     Answer::of(unsafe { library::pigrozk_judge(sheet.as_ptr(), sheet.len()) })
 }
@@ -166,4 +167,11 @@ pub fn route(sheet: &[u8], table: &[u32], node: u32, buffer: &mut [u32]) -> Answ
 /// front of `out`: `Written` with the sheet's own length in bytes, or `Refused` as by `judge`, or with 31 where `out` is shorter.
 pub fn canonical(sheet: &[u8], out: &mut [u8]) -> Answer {
     Answer::of(unsafe { library::pigrozk_canonical(sheet.as_ptr(), sheet.len(), out.as_mut_ptr(), out.len()) })
+}
+
+/// Writes a sheet without its self-arcs, the arcs from a node to itself, into the front of `out`: these and their leaves are dropped, then inner regions other
+/// than 0 that are left childless, until none is; what is left is numbered anew in its old order, and spans above the new height are dropped. `Written` with
+/// the length in bytes, the sheet's own at most, or `Refused` as by `judge` with 35 left out, or with 31 where `out` is shorter.
+pub fn convert(sheet: &[u8], out: &mut [u8]) -> Answer {
+    Answer::of(unsafe { library::pigrozk_convert(sheet.as_ptr(), sheet.len(), out.as_mut_ptr(), out.len()) })
 }

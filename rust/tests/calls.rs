@@ -1,5 +1,5 @@
-//! The six calls through the wrapper: the paper's cases on hall A, lengths at the edge, and the samples, whose listings come from another program.
-use pigrozk::{canonical, judge, longer_table_words, resume, route, run, run_limited, table_words, Answer, Counts, Fault};
+//! The seven calls through the wrapper: the paper's cases on hall A, lengths at the edge, and the samples, whose listings come from another program.
+use pigrozk::{canonical, convert, judge, longer_table_words, resume, route, run, run_limited, table_words, Answer, Counts, Fault};
 use pigrozk::{COUNTS, HEADER_WORDS, MOST_ARCS_EACH_WAY, MOST_BYTES, MOST_LONGER_TABLE_WORDS, MOST_SPANS, MOST_TABLE_WORDS, NONE};
 use std::fmt::Write;
 use std::path::{Path, PathBuf};
@@ -396,6 +396,111 @@ fn canonical_forms_with_holds() {
     assert_eq!(form, neat);
 }
 
+/// Hall A with two self-arcs, as arcs 1 and 4, and so many of these holds. Arc 1, from node 1, is alone in region 4, which is alone in region 3, so that
+/// region 0 has height 3 and the third span is 9; arc 4, from node 0, is in region 2.
+fn with_self_arcs(holds: &[u32]) -> Vec<u8> {
+    let arcs = [(0, 1, 4), (1, 1, 7), (0, 2, 1), (2, 1, 2), (0, 0, 0), (1, 3, 5)];
+    let arcs = arcs.into_iter().flat_map(|(tail, head, length)| [4 << 28 | tail << 10 | head, 5 << 28 | length]);
+    let inner = [0, 0, 0, 3].map(|parent| 6 << 28 | parent);
+    let leaves = [(4, 1), (1, 0), (1, 5), (2, 4), (2, 2), (2, 3)].map(|(parent, arc)| 7 << 28 | parent << 11 | arc);
+    let spans = [0x1000_0004, 0x2000_0000, 0x3000_0002, 0x3000_0001, 0x3000_0009];
+    let holds = holds.iter().map(|hold| 13 << 28 | hold);
+    spans.into_iter().chain(holds).chain(arcs).chain(inner).chain(leaves).flat_map(u32::to_be_bytes).collect()
+}
+
+/// Without them it is hall A: regions 3 and 4 and the third span go with arc 1.
+#[test]
+fn conversions() {
+    let holds = [100, 10, 3, 7];
+    for (sheet, expected) in [(with_self_arcs(&[]), sample("hall-a")), (with_self_arcs(&holds), held(&holds))] {
+        let bytes = expected.len();
+        let mut out = vec![0x5e; bytes + 3];
+        assert_eq!(convert(&sheet, &mut out), Answer::Written(bytes));
+        assert_eq!(out, [&expected[..], &[0x5e; 3]].concat());
+        assert_eq!(convert(&expected, &mut out[3..]), Answer::Written(bytes));
+        assert_eq!(out, [&expected[..3], &expected].concat());
+    }
+}
+
+/// A childless region 0 has height 1: one span stays, the first.
+#[test]
+fn conversions_without_arcs() {
+    let front = [0x1000_0001, 0x2000_0000, 0x3000_0005].map(u32::to_be_bytes).concat();
+    let rest = [0x3000_0006, 0x4000_0000, 0x5000_0001, 0x6000_0000, 0x7000_0800].map(u32::to_be_bytes).concat();
+    let mut out = [0x5e; 32];
+    assert_eq!(convert(&[&front[..], &rest].concat(), &mut out), Answer::Written(12));
+    assert_eq!(out, *[&front[..], &[0x5e; 20]].concat());
+}
+
+#[test]
+fn short_buffers_for_conversions() {
+    let sheet = with_self_arcs(&[]);
+    let mut out = [0x5e; 108];
+    assert_eq!(convert(&sheet, &mut out[..71]), Answer::Refused(31));
+    assert_eq!(convert(&sheet, &mut []), Answer::Refused(31));
+    assert_eq!(convert(&sheet[..107], &mut []), Answer::Refused(1));
+    assert_eq!(convert(&sheet[..104], &mut out), Answer::Refused(12));
+    assert_eq!(convert(&with_self_arcs(&[0, NONE, 0, 0]), &mut out), Answer::Refused(34));
+    assert_eq!(out, [0x5e; 108]);
+    assert_eq!(convert(&sheet, &mut out[..72]), Answer::Written(72));
+    assert_eq!(out[72..], [0x5e; 36]);
+}
+
+/// 35 is refused by every other call, before 11 to 14 and 31, and after 10: five self-arcs at one node are 10.
+#[test]
+fn self_arcs_are_refused() {
+    let sheet = with_self_arcs(&[]);
+    let mut table = [PATTERN; 51];
+    let mut out = [0x5e; 108];
+    assert_eq!(judge(&sheet), Answer::Refused(35));
+    assert_eq!(judge(&sheet[..104]), Answer::Refused(35));
+    assert_eq!(run(&sheet, &mut table), Answer::Refused(35));
+    assert_eq!(run_limited(&sheet, 1, &mut table[..45]), Answer::Refused(35));
+    assert_eq!(resume(&sheet, 1, &mut table), Answer::Refused(35));
+    assert_eq!(route(&sheet, &[], 4, &mut table), Answer::Refused(35));
+    assert_eq!(canonical(&sheet, &mut out), Answer::Refused(35));
+    assert_eq!(canonical(&sheet, &mut []), Answer::Refused(35));
+    assert_eq!((table, out), ([PATTERN; 51], [0x5e; 108]));
+    let front = [0x1000_0001, 0x2000_0000, 0x3000_0001];
+    let crowded = [&front[..], &[0x4000_0000, 0x5000_0000].repeat(5)].concat();
+    let crowded: Vec<u8> = crowded.into_iter().flat_map(u32::to_be_bytes).collect();
+    assert_eq!((judge(&crowded), convert(&crowded, &mut out)), (Answer::Refused(10), Answer::Refused(10)));
+}
+
+/// The sample `recirculating` becomes `converted`.
+#[test]
+fn conversion_of_a_sample() {
+    let mut out = sample("recirculating");
+    assert_eq!(convert(&sample("recirculating"), &mut out), Answer::Written(sample("converted").len()));
+    assert_eq!(out[..sample("converted").len()], sample("converted"));
+}
+
+/// Every sample that is accepted is its own conversion; one that is refused as 35 has one, which is accepted; others are refused alike.
+#[test]
+fn conversions_of_the_samples() {
+    let mut tried = [0; 3];
+    for entry in std::fs::read_dir(samples()).expect("samples/") {
+        let path = entry.expect("an entry").path();
+        if path.extension().is_none_or(|kind| kind != "hex") {
+            continue;
+        }
+        let sheet = sheet_of(&std::fs::read_to_string(&path).expect("a sample"));
+        let mut out = sheet.clone();
+        let answer = convert(&sheet, &mut out);
+        match (judge(&sheet), answer) {
+            (Answer::Accepted, Answer::Written(bytes)) => assert_eq!((bytes, &out), (sheet.len(), &sheet)),
+            (Answer::Refused(35), Answer::Written(bytes)) => assert_eq!(judge(&out[..bytes]), Answer::Accepted),
+            (judged, _) => assert_eq!((judged, &out), (answer, &sheet)),
+        }
+        let sort = match answer {
+            Answer::Written(bytes) => (bytes < sheet.len()) as usize,
+            _ => 2,
+        };
+        tried[sort] += 1;
+    }
+    assert!(tried.into_iter().all(|count| count > 0), "{tried:?}");
+}
+
 /// As many bytes as a sheet may have are not refused as 1, and one word more is.
 #[test]
 fn bytes_of_a_sheet() {
@@ -405,7 +510,7 @@ fn bytes_of_a_sheet() {
 
 #[test]
 fn faults() {
-    for number in (1..=15).chain([31, 34]) {
+    for number in (1..=15).chain([31, 34, 35]) {
         assert_eq!(Answer::Refused(number).fault(), Some(Fault::Input));
     }
     for number in (21..=25).chain([32, 33]) {

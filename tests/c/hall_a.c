@@ -1,5 +1,5 @@
-/* The six calls from C, on the paper's hall A: what they answer, and every word or byte that they leave; the same with holds; and the limit on the arcs at a
- * node. */
+/* The seven calls from C, on the paper's hall A: what they answer, and every word or byte that they leave; the same with holds; the limit on the arcs at a
+ * node; and hall A with self-arcs, which the conversion drops. */
 #include <stdio.h>
 #include <string.h>
 
@@ -43,6 +43,11 @@ static const uint32_t held_paused[WORDS] = {0x80000000, COUNT(1), COUNT(2), COUN
                                             0x90000000, 0xafffffff, 0x90000004, 0xa0000000, 0x9fffffff, 0xafffffff, 0x90000013, 0xa0000003};
 static const uint32_t held_ended[WORDS] = {0x80000001, COUNT(2), COUNT(4), COUNT(2), COUNT(2), UNUSED_HEIGHTS, COUNT(10),
                                            0x90000000, 0xafffffff, 0x90000004, 0xa0000000, 0x90000001, 0xa0000001, 0x90000013, 0xa0000003};
+
+/* Hall A with two self-arcs, arcs 1 and 4. Arc 1 is alone in region 4, which is alone in region 3, so that region 0 has height 3; arc 4 is in region 2. */
+static const uint32_t self_arcs[27] = {0x10000004, 0x20000000, 0x30000002, 0x30000001, 0x30000009, 0x40000001, 0x50000004, 0x40000401, 0x50000007,
+                                       0x40000002, 0x50000001, 0x40000801, 0x50000002, 0x40000000, 0x50000000, 0x40000403, 0x50000005, 0x60000000,
+                                       0x60000000, 0x60000000, 0x60000003, 0x70002001, 0x70000800, 0x70000805, 0x70001004, 0x70001002, 0x70001003};
 
 static int failures = 0;
 
@@ -290,8 +295,39 @@ static void copying_with_holds(const uint8_t *held) {
     expect("and the holds where they stood", memcmp(out, form, sizeof form) == 0);
 }
 
+static void refusing_self_arcs(const uint8_t *old_sheet, uint32_t *table) {
+    uint8_t out[108];
+    memset(out, 0x5e, sizeof out);
+    fill(table, LONGER_WORDS + 1);
+    expect("a self-arc is refused as 35", pigrozk_judge(old_sheet, 108) == 35);
+    expect("before a missing leaf", pigrozk_judge(old_sheet, 104) == 35);
+    expect("by a run", pigrozk_run(old_sheet, 108, table, WORDS) == 35);
+    expect("by a limited run", pigrozk_run_limited(old_sheet, 108, 1, table, WORDS) == 35);
+    expect("by a resume", pigrozk_resume(old_sheet, 108, 1, table, LONGER_WORDS) == 35);
+    expect("by a route", pigrozk_route(old_sheet, 108, ended, WORDS, 3, table, WORDS) == 35);
+    expect("by a canonical form", pigrozk_canonical(old_sheet, 108, out, sizeof out) == 35);
+    expect("35 is from the input", PIGROZK_IS_REFUSED(35u) && PIGROZK_IS_FROM_INPUT(35u) && !PIGROZK_IS_FROM_STATE(35u));
+    expect("none changes what was lent", filled(table, LONGER_WORDS + 1) && bytes_filled(out, sizeof out));
+}
+
+static void converting(const uint8_t *sheet, const uint8_t *old_sheet) {
+    uint8_t out[80];
+    memset(out, 0x5e, sizeof out);
+    expect("one byte too few is refused as 31", pigrozk_convert(old_sheet, 108, out, 71) == 31);
+    expect("so is no room", pigrozk_convert(old_sheet, 108, out, 0) == 31);
+    expect("a missing leaf is refused as 12, and before the buffer", pigrozk_convert(old_sheet, 104, out, 0) == 12);
+    expect("a refusal changes no byte", bytes_filled(out, sizeof out));
+    uint32_t code = pigrozk_convert(old_sheet, 108, out, sizeof out);
+    expect("the converted sheet has 72 bytes", PIGROZK_IS_WRITTEN(code) && PIGROZK_WRITTEN_BYTES(code) == 72);
+    expect("they are hall A's", memcmp(out, sheet, 72) == 0);
+    expect("the rest of the buffer stays", bytes_filled(out + 72, sizeof out - 72));
+    memset(out, 0x5e, sizeof out);
+    expect("hall A is its own conversion, into as many bytes", pigrozk_convert(sheet, 72, out, 72) == PIGROZK_WRITTEN + 72);
+    expect("byte by byte", memcmp(out, sheet, 72) == 0 && bytes_filled(out + 72, sizeof out - 72));
+}
+
 int main(void) {
-    uint8_t sheet[72], held[88];
+    uint8_t sheet[72], held[88], old_sheet[108];
     uint32_t table[LONGER_WORDS + 1];
     to_bytes(sheet, words, 18);
     judging(sheet);
@@ -310,6 +346,9 @@ int main(void) {
     running_with_holds(held, table);
     refusing_with_holds(sheet, held, table);
     copying_with_holds(held);
+    to_bytes(old_sheet, self_arcs, 27);
+    refusing_self_arcs(old_sheet, table);
+    converting(sheet, old_sheet);
     puts(failures ? "C: failed" : "C: passed");
     return failures != 0;
 }

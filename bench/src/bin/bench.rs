@@ -1,8 +1,9 @@
 //! Times the proved calls against the independent program and plain Dijkstra, in one run, and prints the ratios: `bench [HALL]..`, for all halls
 //! unless some are named.
 //!
-//! Every time is that of a whole call, from the sheet's bytes to the table, the judgement or the canonical form, and the least of interleaved repetitions. A
-//! resume is from the longer table of the start, or from an ended one, which it gives back. A route is that to the node farthest from the source.
+//! Every time is that of a whole call, from the sheet's bytes to the table, the judgement, the canonical form or the converted sheet, and the least of
+//! interleaved repetitions. A resume is from the longer table of the start, or from an ended one, which it gives back. A route is that to the node farthest
+//! from the source. Of conversions there is one of a sheet without self-arcs, and one of the same sheet with each fourth arc led back to its tail.
 
 use bench::generate::divisions::{Nesting, NESTINGS};
 use bench::generate::halls::{Holds, Shape, NARROW, SHAPES, WIDE};
@@ -79,6 +80,33 @@ fn measured_form(sheet: &[u8]) -> FormTimes {
         least(&mut times.plain_form, || reference::canonical_linear(sheet, &mut out).code(), written);
         least(&mut times.proved_form, || proved::canonical(sheet, &mut out), written);
         least(&mut times.proved_judge, || proved::judge(sheet), 256);
+        repetitions += 1;
+    }
+    times
+}
+
+/// Least times in microseconds, and the words of a sheet and of its conversion. Spans don't matter to a conversion.
+struct ConversionTimes {
+    words: usize,
+    converted_words: usize,
+    proved: f64,
+    plain: f64,
+    proved_judge: f64,
+}
+
+/// Of a sheet, and the judge's of another, since it looks at no division where there are self-arcs.
+fn measured_conversion(sheet: &[u8], accepted: &[u8]) -> ConversionTimes {
+    let mut out = vec![0; sheet.len()];
+    let written = proved::convert(sheet, &mut out);
+    let converted_words = (written as usize - 131_072) / 4;
+    let mut times = ConversionTimes { words: sheet.len() / 4, converted_words, proved: NOT_TIMED, plain: NOT_TIMED, proved_judge: NOT_TIMED };
+    let start = Instant::now();
+    let mut repetitions = 0;
+    while repetitions < LEAST_REPETITIONS || start.elapsed() < TIME_FOR_A_SHEET {
+        let sheet = black_box(sheet);
+        least(&mut times.plain, || reference::convert_one_pass(sheet, &mut out).code(), written);
+        least(&mut times.proved, || proved::convert(sheet, &mut out), written);
+        least(&mut times.proved_judge, || proved::judge(black_box(accepted)), 256);
         repetitions += 1;
     }
     times
@@ -221,6 +249,33 @@ fn every_form(shapes: &[Shape]) {
     println!();
 }
 
+/// The same for conversions, of a sheet and of it with self-arcs. The judge's time is that of the sheet without them.
+fn every_conversion(shapes: &[Shape]) {
+    let Some(first) = shapes.first() else { return };
+    println!("Conversions: {} nodes, {} arcs each way, up to 2048 arcs. Times in microseconds.", first.full_nodes(), first.each_way());
+    print!("| hall | division | words | proved conversion | plain | ratio | proved judge | to the judge ");
+    println!("| words left without self-arcs | proved conversion | plain | ratio | to the judge |");
+    println!("|---|---|--:|--:|--:|--:|--:|--:|--:|--:|--:|--:|--:|");
+    let mut columns = [(); 4].map(|()| Ratios(vec![]));
+    for (shape, nesting) in shapes.iter().flat_map(|shape| NESTINGS.map(|nesting| (*shape, nesting))) {
+        let nodes = shape.full_nodes();
+        let sheet = sheets::regular(shape, nesting, Spans::One, nodes);
+        let old = sheets::regular_with_self_arcs(Holds::None, shape, nesting, Spans::One, nodes);
+        let [same, other] = [&sheet, &old].map(|converted| measured_conversion(converted, &sheet));
+        let ratios = [&same, &other].map(|times| [times.proved / times.plain, times.proved / times.proved_judge]);
+        print!("| {shape:?} | {nesting:?} | {} | {:.1} | {:.1} | {:.2} ", same.words, same.proved, same.plain, ratios[0][0]);
+        print!("| {:.1} | {:.2} | {} ", same.proved_judge, ratios[0][1], other.converted_words);
+        println!("| {:.1} | {:.1} | {:.2} | {:.2} |", other.proved, other.plain, ratios[1][0], ratios[1][1]);
+        columns.iter_mut().zip(ratios.into_iter().flatten()).for_each(|(column, ratio)| column.0.push(ratio));
+    }
+    println!();
+    columns[0].line("proved conversion / plain");
+    columns[1].line("proved conversion / proved judge");
+    columns[2].line("self-arcs, the same / plain");
+    columns[3].line("self-arcs, the same / proved judge");
+    println!();
+}
+
 /// The same for resumes.
 fn every_resume(shapes: &[Shape]) {
     let Some(first) = shapes.first() else { return };
@@ -293,6 +348,21 @@ fn growth_of_forms(shape: Shape, nesting: Nesting) {
     println!();
 }
 
+fn growth_of_conversions(shape: Shape, nesting: Nesting) {
+    println!("Growth: {shape:?}, {nesting:?}. Conversions of sheets with self-arcs in microseconds.");
+    println!("| arcs | words | words left | proved conversion | plain | ratio | proved, ns a word | plain, ns a word |");
+    println!("|--:|--:|--:|--:|--:|--:|--:|--:|");
+    for arcs in GROWING_ARCS {
+        let nodes = arcs / shape.each_way();
+        let sheet = sheets::regular(shape, nesting, Spans::One, nodes);
+        let t = measured_conversion(&sheets::regular_with_self_arcs(Holds::None, shape, nesting, Spans::One, nodes), &sheet);
+        let of_word = |time: f64| 1000.0 * time / t.words as f64;
+        print!("| {arcs} | {} | {} | {:.1} | {:.1} | {:.2} ", t.words, t.converted_words, t.proved, t.plain, t.proved / t.plain);
+        println!("| {:.1} | {:.1} |", of_word(t.proved), of_word(t.plain));
+    }
+    println!();
+}
+
 fn growth_of_resumes(shape: Shape, nesting: Nesting, spans: Spans) {
     println!("Growth: {shape:?}, {nesting:?}, spans {spans:?}. A run of no round, and resumes of its table and of an ended one, in microseconds.");
     println!("| arcs | run of 0 | resume of 0 | resume of the end | run, ns an arc | resume of 0, ns an arc | of the end, ns an arc |");
@@ -332,11 +402,13 @@ fn main() {
     let groups = [&NARROW[..], &WIDE].map(|shapes| shapes.iter().copied().filter(wanted).collect::<Vec<_>>());
     groups.iter().for_each(|shapes| every_sheet(shapes));
     groups.iter().for_each(|shapes| every_form(shapes));
+    groups.iter().for_each(|shapes| every_conversion(shapes));
     groups.iter().for_each(|shapes| every_resume(shapes));
     groups.iter().for_each(|shapes| every_hold(shapes));
     for (shape, nesting, spans) in GROWING.into_iter().filter(|(shape, _, _)| wanted(shape)) {
         growth(shape, nesting, spans);
         growth_of_forms(shape, nesting);
+        growth_of_conversions(shape, nesting);
         growth_of_resumes(shape, nesting, spans);
     }
 }

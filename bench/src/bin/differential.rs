@@ -1,23 +1,24 @@
-//! The six proved calls against the independent program, on generated sheets: `differential [CASES] [SEED]`.
+//! The seven proved calls against the independent program, on generated sheets: `differential [CASES] [SEED]`.
 //!
 //! Compared are the answers, every word or byte of the tables and buffers lent and of what lies around them, and that a refusal changed nothing. Every
 //! table left as ended is held to request 2026-03, the canonical forms of some sheets to request 2026-04, every refusal with 2 to the list of cases of
-//! request 2026-05 and to the number of holds, rounds made in parts and with other spans to request 2026-06, and distances to routes as request 2026-08
-//! measures them. Ends with 1 at the first difference, or if a refusal number, an answer, a number of arcs one way, a sort of ended tables, a change to a
-//! sheet, two kinds next to each other, a broken clause of a possible state, a sort of resumed tables, a table that the choice among equal keys of request
-//! 2026-07 changes or a sort of sheets with holds were never seen, or no inner region of some height was worked.
+//! request 2026-05 and to the number of holds, rounds made in parts and with other spans to request 2026-06, distances to routes as request 2026-08 measures
+//! them, and converted sheets to request 2026-09. Ends with 1 at the first difference, or if a refusal number, an answer, a number of arcs one way, a sort of
+//! ended tables, a change to a sheet, two kinds next to each other, a broken clause of a possible state, a sort of resumed tables, a table that the choice
+//! among equal keys of request 2026-07 changes, a sort of sheets with holds or a sort of conversions were never seen, or no inner region of some height was
+//! worked.
 
 use bench::generate::changes::{self, Change, CHANGES};
 use bench::generate::random::Random;
 use bench::generate::{damage, kinds, sheets, tables};
 use bench::proved;
 use bench::reference::dijkstra::distances;
-use bench::reference::judge::{accepted, Judged, MOST_BYTES, MOST_EACH_WAY, MOST_LENGTH};
+use bench::reference::judge::{accepted, accepted_by, Judged, CONVERTIBLE, MOST_BYTES, MOST_EACH_WAY, MOST_LENGTH};
 use bench::reference::neighbours::{self, Place, PLACES};
 use bench::reference::nesting::alike;
 use bench::reference::possible::{broken, Clause, CLAUSES};
 use bench::reference::procedure::Ties;
-use bench::reference::sheet::{kind, payload, words, Arc, Sheet};
+use bench::reference::sheet::{is_leaf, kind, leaf_arc, parent, payload, words, Arc, Sheet};
 use bench::reference::table::{self, HEIGHTS};
 use bench::reference::work::Work;
 use bench::reference::{self, Answer};
@@ -68,7 +69,7 @@ const WRITTEN: u32 = 131_072;
 
 /// How often each call gave each answer. How many sheets there were of each sort, and by the most arcs that a node has one way, how many accepted ones and how
 /// many refused as 10. How many finished tables have a figure above 0 at each height. How many ended tables there were of each of `SORTS`. What was seen of
-/// canonical forms, of kinds, of possible states, of holds, and, by call, of the choice among equal keys.
+/// canonical forms, of kinds, of possible states, of holds, of conversions, and, by call, of the choice among equal keys.
 #[derive(Default)]
 struct Tally {
     answers: BTreeMap<(&'static str, u32), u64>,
@@ -81,6 +82,7 @@ struct Tally {
     kinds: Kinds,
     states: States,
     holds: Holds,
+    conversions: Conversions,
     choices: BTreeMap<&'static str, Choices>,
 }
 
@@ -196,6 +198,82 @@ impl Holds {
             (self.wrong_states, "resumes of tables with holds charged wrongly, refused as 33"),
         ];
         sheets.chain(others.map(|(count, name)| (count, name.to_string())))
+    }
+}
+
+/// A convertible sheet and the converted one.
+struct Conversion<'a> {
+    old: &'a Sheet,
+    new: &'a Sheet,
+}
+
+impl Conversion<'_> {
+    fn is_change(&self) -> bool {
+        self.old.before_regions() != self.new.before_regions() || self.old.regions() != self.new.regions()
+    }
+
+    fn is_lower(&self) -> bool {
+        self.new.spans().len() < self.old.spans().len()
+    }
+
+    fn inner_dropped(&self) -> usize {
+        let inner = |sheet: &Sheet| sheet.regions().iter().filter(|word| !is_leaf(**word)).count();
+        inner(self.old) - inner(self.new)
+    }
+
+    /// How many inner regions other than 0 have no child but leaves of self-arcs.
+    fn childless_at_once(&self) -> usize {
+        let self_arcs: Vec<bool> = self.old.arcs().map(Arc::is_self_arc).collect();
+        let regions = self.old.regions();
+        let mut has_child = vec![false; regions.len() + 1];
+        regions.iter().filter(|word| !is_leaf(**word) || !self_arcs[leaf_arc(**word)]).for_each(|word| has_child[parent(*word)] = true);
+        regions.iter().zip(&has_child[1..]).filter(|(word, has_child)| !is_leaf(**word) && !**has_child).count()
+    }
+}
+
+/// Sorts of conversions.
+const CONVERSIONS: [(&str, fn(&Conversion) -> bool); 10] = [
+    ("without a change", |of| !of.is_change()),
+    ("with a change", |of| of.is_change()),
+    ("with a change, no inner region dropped", |of| of.is_change() && of.inner_dropped() == 0),
+    ("inner regions dropped, as high as before", |of| of.inner_dropped() > 0 && !of.is_lower()),
+    ("inner regions dropped after those within them", |of| of.inner_dropped() > of.childless_at_once()),
+    ("lower", |of| of.is_lower()),
+    ("lower by more than one", |of| of.new.spans().len() + 1 < of.old.spans().len()),
+    ("all arcs dropped", |of| of.is_change() && of.new.arc_count() == 0),
+    ("with a change, with holds", |of| of.is_change() && !of.old.holds().is_empty()),
+    ("with a change, of 36,924 bytes", |of| of.is_change() && 4 * (of.old.before_regions().len() + of.old.regions().len()) == MOST_BYTES),
+];
+
+/// Request 2026-09: how many conversions there were of each of `CONVERSIONS`, how many sheets refused as 35 are not convertible, by what the converter refuses
+/// them as, and how many with a self-arc are refused as 10.
+#[derive(Default)]
+struct Conversions {
+    sheets: [u64; CONVERSIONS.len()],
+    refused: BTreeMap<u32, u64>,
+    crowded: u64,
+}
+
+impl Conversions {
+    fn count(&mut self, old: &Sheet, new: &Sheet) {
+        let conversion = Conversion { old, new };
+        self.sheets.iter_mut().zip(CONVERSIONS).for_each(|(sheets, (_, is_of))| *sheets += is_of(&conversion) as u64);
+    }
+
+    /// Counts a sheet by the numbers of the judge and of the converter.
+    fn count_refused(&mut self, bytes: &[u8], judged: u32, converter: u32) {
+        if judged == 35 {
+            *self.refused.entry(converter).or_default() += 1;
+        }
+        let has_self_arc = |sheet: Sheet| sheet.arcs().any(Arc::is_self_arc);
+        self.crowded += (judged == 10 && Sheet::in_order(words(bytes)).is_some_and(has_self_arc)) as u64;
+    }
+
+    fn counts(&self) -> impl Iterator<Item = (u64, String)> + '_ {
+        let sheets = self.sheets.into_iter().zip(CONVERSIONS).map(|(count, (sort, _))| (count, format!("conversions, {sort}")));
+        let refused =
+            (11..=14).map(|number| (self.refused.get(&number).copied().unwrap_or(0), format!("refused as 35, by the converter as {number}")));
+        sheets.chain(refused).chain([(self.crowded, "refused as 10, with a self-arc".to_string())])
     }
 }
 
@@ -386,12 +464,12 @@ impl Tally {
         self.forms.print();
         self.kinds.print();
         self.states.print();
-        self.holds.counts().for_each(|(count, name)| println!("{name}: {count}"));
+        self.holds.counts().chain(self.conversions.counts()).for_each(|(count, name)| println!("{name}: {count}"));
         for call in ROUNDS {
             let Choices { made, other, other_feeds } = self.chosen(call);
             println!("{call}, tables also made with the tie rule of before: {made}, others {other}, ended with other feeding arcs {other_feeds}");
         }
-        for call in ["judge", "run", "run_limited", "route", "canonical", "resume"] {
+        for call in ["judge", "run", "run_limited", "route", "canonical", "resume", "convert"] {
             let answers = self.answers.iter().filter(|((of, _), _)| *of == call);
             let parts: Vec<String> = answers.map(|((_, code), count)| format!("{} {count}", named(*code))).collect();
             println!("{call}: {}", parts.join(", "));
@@ -403,17 +481,17 @@ impl Tally {
         self.choices.get(call).copied().unwrap_or_default()
     }
 
-    /// The numbers, answers, numbers of arcs one way, worked heights, sorts of ended tables, changes, neighbouring kinds, states, sorts of sheets with holds
-    /// and choices that were never seen.
+    /// The numbers, answers, numbers of arcs one way, worked heights, sorts of ended tables, changes, neighbouring kinds, states, sorts of sheets with holds,
+    /// sorts of conversions and choices that were never seen.
     fn unseen(&self) -> Vec<String> {
-        let wanted = (1..=15).chain(21..=25).chain(31..=34).chain(256..=259).chain([ROUTE, WRITTEN]);
+        let wanted = (1..=15).chain(21..=25).chain(31..=35).chain(256..=259).chain([ROUTE, WRITTEN]);
         let answers = wanted.filter(|code| !self.answers.keys().any(|(_, seen)| seen == code)).map(named);
         let seen: BTreeSet<_> = self.accepted.keys().chain(self.crowded.keys()).collect();
         let arcs = (0..=MOST_EACH_WAY + 2).filter(|most| !seen.contains(most)).map(|most| ways(most) + " arcs one way");
         let heights = (0..HEIGHTS).filter(|at| self.worked[*at] == 0).map(|at| format!("workings at height {}", at + 1));
         let sorts = SORTS.iter().zip(self.ended).filter(|(_, tables)| *tables == 0).map(|((sort, _), _)| format!("ended tables, {sort}"));
         let choices = ROUNDS.into_iter().flat_map(|call| self.chosen(call).unseen().map(move |name| format!("{call}, {name}")));
-        let holds = self.holds.counts().filter(|(count, _)| *count == 0).map(|(_, name)| name);
+        let holds = self.holds.counts().chain(self.conversions.counts()).filter(|(count, _)| *count == 0).map(|(_, name)| name);
         let of_requests = self.forms.unseen().chain(self.kinds.unseen()).chain(self.states.unseen()).chain(holds).chain(choices);
         answers.chain(arcs).chain(heights).chain(sorts).chain(of_requests).collect()
     }
@@ -527,6 +605,7 @@ impl Trial<'_> {
         let judged = accepted(bytes);
         self.tally.count_ways(bytes, &judged);
         self.tally.holds.count(bytes, &judged);
+        self.conversions(judged.as_ref().err().copied().unwrap_or(0))?;
         match judged {
             Ok(accepted) => {
                 let finished = self.accepted(&accepted.sheet)?;
@@ -984,6 +1063,70 @@ impl Trial<'_> {
     }
 }
 
+/// Request 2026-09.
+impl Trial<'_> {
+    fn convert(&mut self, room: usize) -> Result<(Answer, Vec<u8>), Difference> {
+        let lent = Lent::new(room, self.random);
+        let bytes = self.bytes;
+        let told = || format!("into {room} bytes, of the sheet {}", hexadecimal(bytes));
+        compared("convert", told, lent, self.tally, |out| proved::convert(bytes, out), |out| reference::convert(bytes, out))
+    }
+
+    /// With no room, one byte too few, one more than enough, more than enough and just enough. Gives the converted sheet, which the program in one pass writes
+    /// too, or the number of the refusal.
+    fn converts(&mut self) -> Result<Result<Vec<u8>, u32>, Difference> {
+        let mut expected = vec![0; self.bytes.len()];
+        let length = match reference::convert_one_pass(self.bytes, &mut expected) {
+            Answer::Written(bytes) => bytes as usize,
+            _ => self.bytes.len(),
+        };
+        let longer = length + 2 + self.random.below(9);
+        for room in [0, length.saturating_sub(1), length + 1, longer] {
+            self.convert(room)?;
+        }
+        match self.convert(length)? {
+            (Answer::Refused(number), _) => Ok(Err(number)),
+            (_, converted) if converted == expected[..length] => Ok(Ok(converted)),
+            _ => Err(Difference(format!("the program in one pass writes {}", hexadecimal(&expected)))),
+        }
+    }
+
+    /// The conversion of any sheet, with the number that the judge refuses it by, or 0, and what the request says of it.
+    fn conversions(&mut self, judged: u32) -> Outcome {
+        let converted = match self.converts()? {
+            Err(number) => {
+                self.tally.conversions.count_refused(self.bytes, judged, number);
+                return Ok(());
+            }
+            Ok(converted) => converted,
+        };
+        let (old, new) = (accepted_by(CONVERTIBLE, self.bytes), Sheet::in_order(words(&converted)));
+        let (Ok(old), Some(new)) = (old, new) else {
+            return Err(Difference(format!("{} is no conversion of a convertible sheet", hexadecimal(&converted))));
+        };
+        self.tally.conversions.count(&old.sheet, &new);
+        match judged {
+            0 if converted == self.bytes => Ok(()),
+            35 if converted != self.bytes => self.converted(&old.sheet, &converted),
+            _ => Err(Difference(format!("judged {judged}, converted into {}", hexadecimal(&converted)))),
+        }
+    }
+
+    /// The converted sheet is accepted and its own conversion, and a run of it leaves the distances of the old sheet, measured with its self-arcs.
+    fn converted(&mut self, old: &Sheet, converted: &[u8]) -> Outcome {
+        let code = proved::judge(converted);
+        let again = self.of(converted).converts()?;
+        if code != Answer::Accepted.code() || again.as_deref() != Ok(converted) {
+            return Err(Difference(format!("{} is judged {code}, or not its own conversion", hexadecimal(converted))));
+        }
+        let table = self.of(converted).run(table::length(old.nodes()))?;
+        match labels(old, &table).map(|word| payload(*word)).eq(distances(old).labels) {
+            true => Ok(()),
+            false => Err(Difference(format!("{} has other distances", hexadecimal(converted)))),
+        }
+    }
+}
+
 /// Request 2026-07.
 impl Trial<'_> {
     /// Of some cases, counts how a table that a call has left differs from that which the choice of before leaves of what was lent.
@@ -1010,7 +1153,10 @@ fn sheet_of(random: &mut Random) -> (&'static str, Vec<u8>) {
         435 if random.once_in(3) => ("accepted, full size", sheets::bytes(&sheets::full(random))),
         436 if random.once_in(3) => ("damaged, full size", damage::damaged(sheets::full(random), random)),
         437 if random.once_in(3) => ("of the most bytes or one word more", sheets::bytes(&sheets::largest_or_above(random))),
-        435..=869 => ("damaged", damage::damaged(sheets::any(random), random)),
+        438 => ("with self-arcs, full size", sheets::bytes(&sheets::full_with_self_arcs(random))),
+        435..=789 => ("damaged", damage::damaged(sheets::any(random), random)),
+        790..=809 => ("with self-arcs, damaged", damage::damaged(sheets::with_self_arcs(random), random)),
+        810..=869 => ("with self-arcs", sheets::bytes(&sheets::with_self_arcs(random))),
         870..=899 => ("accepted, flat, spans near the arcs", sheets::bytes(&sheets::flat(random))),
         900..=949 => ("kinds along the order", sheets::bytes(&kinds::words(random))),
         _ => ("noise", sheets::noise(random)),

@@ -3,8 +3,8 @@
 use super::divisions::Division;
 use super::random::Random;
 use super::sheets::Spans;
-use crate::reference::judge::MOST_LENGTH;
-use crate::reference::sheet::{Arc, Sheet};
+use crate::reference::judge::{MOST_EACH_WAY, MOST_LENGTH};
+use crate::reference::sheet::{is_leaf, leaf_arc, parent, Arc, Sheet};
 
 /// The spans that are drawn for a sheet in place of its own.
 const SPANS: [Spans; 5] = [Spans::One, Spans::UpTo(2), Spans::UpTo(4), Spans::Random, Spans::Million];
@@ -133,6 +133,52 @@ impl Parts {
 pub fn with_other_spans(sheet: &Sheet, random: &mut Random) -> Vec<u32> {
     let spans: Vec<u32> = sheet.spans().iter().map(|_| 3 << 28 | random.pick(&SPANS).span(random)).collect();
     [&sheet.before_regions()[..2], &spans, sheet.holds(), sheet.arc_words(), sheet.regions()].concat()
+}
+
+/// Leads these arcs back to their tails. Where a node has as many arcs into it as it may have, one of them gets the head that the arc had, so that an accepted
+/// sheet becomes a convertible one.
+pub fn lead_back(words: &mut [u32], wanted: impl Fn(usize) -> bool) {
+    let places: Vec<usize> = (0..words.len()).filter(|at| words[*at] >> 28 == 4).collect();
+    let (tail, head) = (|word: u32| word >> 10 & 1023, |word: u32| word & 1023);
+    for at in places.iter().enumerate().filter(|(arc, _)| wanted(*arc)).map(|(_, at)| *at) {
+        let node = tail(words[at]);
+        let into: Vec<usize> = places.iter().copied().filter(|other| head(words[*other]) == node).collect();
+        let other = into.iter().find(|other| tail(words[**other]) != node).filter(|_| into.len() >= MOST_EACH_WAY && head(words[at]) != node);
+        if let Some(other) = other {
+            words[*other] = words[*other] & !1023 | head(words[at]);
+        }
+        words[at] = words[at] & !1023 | node;
+    }
+}
+
+/// Leads back some arcs of an accepted sheet, those that one region holds, or all.
+pub fn with_self_arcs(mut words: Vec<u32>, random: &mut Random) -> Vec<u32> {
+    let sheet = Sheet::in_order(words.clone()).expect("a sheet in order");
+    let held = held_by_one(&sheet, random);
+    let some: Vec<bool> = (0..sheet.arc_count()).map(|_| random.once_in(3)).collect();
+    match random.below(8) {
+        0 => lead_back(&mut words, |_| true),
+        1..=2 => lead_back(&mut words, |arc| some[arc]),
+        3 => lead_back(&mut words, |arc| some[arc] || held[arc]),
+        _ => lead_back(&mut words, |arc| held[arc]),
+    }
+    words
+}
+
+/// Which arcs a region holds that is drawn at random, at any depth.
+fn held_by_one(sheet: &Sheet, random: &mut Random) -> Vec<bool> {
+    let regions = sheet.regions();
+    let drawn = random.below(regions.len() + 1);
+    let mut within = vec![false; regions.len() + 1];
+    within[drawn] = true;
+    let mut held = vec![false; sheet.arc_count()];
+    for (at, word) in regions.iter().enumerate() {
+        within[at + 1] |= within[parent(*word)];
+        if is_leaf(*word) {
+            held[leaf_arc(*word)] = within[at + 1];
+        }
+    }
+    held
 }
 
 /// The words of a sheet with a hold of 0 at each node and nothing else changed.

@@ -1,5 +1,6 @@
 //! Damage to sheets: words changed, dropped, added and swapped, bits flipped, and one kind of damage for each refusal.
 
+use super::changes;
 use super::random::Random;
 use super::sheets::LENGTHS;
 
@@ -9,9 +10,10 @@ const ORDER: [u32; 8] = [1, 2, 3, 13, 4, 5, 6, 7];
 /// The bytes of a sheet damaged in one to three places.
 pub fn damaged(mut words: Vec<u32>, random: &mut Random) -> Vec<u8> {
     for _ in 0..random.pick(&[1, 1, 1, 2, 3]) {
-        match random.below(5) {
-            0 => crowded(&mut words, random),
-            1..=2 => anywhere(&mut words, random),
+        match random.below(11) {
+            0 => some_led_back(&mut words, random),
+            1..=2 => crowded(&mut words, random),
+            3..=6 => anywhere(&mut words, random),
             _ => in_a_section(&mut words, random),
         }
     }
@@ -96,6 +98,13 @@ fn crowded(words: &mut [u32], random: &mut Random) {
     for at in places.into_iter().take(more) {
         words[at] = words[at] & !ends | wanted;
     }
+}
+
+/// One to three arcs, where there are some, led back to their tails. They are refused as 35.
+fn some_led_back(words: &mut [u32], random: &mut Random) {
+    let arcs = places(words, 4).len();
+    let (first, more) = (random.below(arcs.max(1)), random.below(3));
+    changes::lead_back(words, |arc| (first..=first + more).contains(&arc));
 }
 
 /// An arc, where there is one, of the greatest length that is allowed, or one above it.

@@ -1,7 +1,7 @@
 //! Halls: nodes, source, arcs and holds, with at most four arcs from and to each node.
 
 use super::random::Random;
-use crate::reference::judge::MOST_LENGTH;
+use crate::reference::judge::{MOST_EACH_WAY, MOST_LENGTH};
 use crate::reference::TOP;
 
 pub const MOST_NODES: usize = 1024;
@@ -69,6 +69,30 @@ impl Hall {
         most[self.source] = TOP;
         most
     }
+
+    /// Adds self-arcs, so many at most, at nodes that may have one arc more each way, anywhere in the order of the arcs.
+    fn add_self_arcs(&mut self, most: usize, random: &mut Random) {
+        for _ in 0..most {
+            let node = random.below(self.nodes);
+            let out = self.arcs.iter().filter(|arc| arc.0 == node).count();
+            let into = self.arcs.iter().filter(|arc| arc.1 == node).count();
+            if out.max(into) < MOST_EACH_WAY && self.arcs.len() < MOST_ARCS {
+                self.arcs.insert(random.below(self.arcs.len() + 1), (node, node, 0));
+            }
+        }
+    }
+
+    /// Lengths below one of some limits, or all the greatest; some of them 0 at times.
+    fn set_lengths(&mut self, random: &mut Random) {
+        let limit = random.pick(&[1, 2, 4, 16, 1000, 262_144]);
+        let zeros = random.once_in(3);
+        for arc in &mut self.arcs {
+            arc.2 = if zeros && random.once_in(3) { 0 } else { random.below(limit) as u32 };
+        }
+        if random.once_in(20) {
+            self.arcs.iter_mut().for_each(|arc| arc.2 = MOST_LENGTH);
+        }
+    }
 }
 
 #[derive(Clone, Copy, Debug, PartialEq, Eq)]
@@ -101,15 +125,17 @@ impl Shape {
         MOST_ARCS / self.each_way()
     }
 
-    /// Arcs of this shape between so many nodes, with length 0.
+    /// Arcs of this shape between so many nodes, with length 0 and no self-arc among them.
     fn arcs(self, nodes: usize, random: &mut Random) -> Vec<(usize, usize, u32)> {
-        match self {
+        let mut arcs = match self {
             Shape::Grid => grid(nodes),
             Shape::Ladder => ladder(nodes),
             Shape::Rings => (0..nodes).flat_map(|v| [(v, (v + 1) % nodes, 0), (v, (v + nodes - 1) % nodes, 0)]).collect(),
             Shape::Random | Shape::WideRandom => random_arcs(nodes, self.each_way(), random),
             Shape::WideGrid => wide_grid(nodes),
-        }
+        };
+        arcs.retain(|arc| arc.0 != arc.1);
+        arcs
     }
 
     /// The same, in random order and some left out where they are more than a hall may have.
@@ -163,10 +189,17 @@ fn ladder(nodes: usize) -> Vec<(usize, usize, u32)> {
     arcs
 }
 
-/// Self-arcs and parallel arcs among them.
+/// Parallel arcs among them. A self-arc, where there are two nodes or more, exchanges its head with the next arc that neither leads to its node nor from it.
 fn random_arcs(nodes: usize, each_way: usize, random: &mut Random) -> Vec<(usize, usize, u32)> {
     let mut heads: Vec<usize> = (0..each_way * nodes).map(|end| end / each_way).collect();
     random.shuffle(&mut heads);
+    for end in 0..heads.len() {
+        let node = end / each_way;
+        let mut others = (end + 1..heads.len()).chain(0..end).filter(|other| other / each_way != node && heads[*other] != node);
+        if let Some(other) = others.next().filter(|_| heads[end] == node) {
+            heads.swap(end, other);
+        }
+    }
     heads.into_iter().enumerate().map(|(end, head)| (end / each_way, head, 0)).collect()
 }
 
@@ -188,8 +221,18 @@ pub fn any_shape(random: &mut Random) -> Shape {
     }
 }
 
-/// A hall of any kind: arcs left out, in any order, with lengths of a kind. One in three has holds.
+/// A hall of any kind without self-arcs: arcs left out, in any order, with lengths of a kind. One in three has holds.
 pub fn any(most_nodes: usize, random: &mut Random) -> Hall {
+    any_with(0, most_nodes, random)
+}
+
+/// The same with self-arcs added, some or wherever there is room.
+pub fn with_self_arcs(most_nodes: usize, random: &mut Random) -> Hall {
+    let more = random.pick(&[1, 1, 2, 3, 6, 4 * most_nodes]);
+    any_with(more, most_nodes, random)
+}
+
+fn any_with(self_arcs: usize, most_nodes: usize, random: &mut Random) -> Hall {
     let nodes = 1 + random.below(most_nodes);
     let mut arcs = any_shape(random).arcs_within_limit(nodes, random);
     if random.once_in(2) {
@@ -200,15 +243,9 @@ pub fn any(most_nodes: usize, random: &mut Random) -> Hall {
         random.shuffle(&mut arcs);
         arcs.truncate(kept);
     }
-    let limit = random.pick(&[1, 2, 4, 16, 1000, 262_144]);
-    let zeros = random.once_in(3);
-    for arc in &mut arcs {
-        arc.2 = if zeros && random.once_in(3) { 0 } else { random.below(limit) as u32 };
-    }
-    if random.once_in(20) {
-        arcs.iter_mut().for_each(|arc| arc.2 = 262_143);
-    }
     let mut hall = Hall { nodes, source: random.below(nodes), arcs, holds: vec![] };
+    hall.add_self_arcs(self_arcs, random);
+    hall.set_lengths(random);
     if random.once_in(3) {
         hall.set_holds(Holds::any(random), random);
     }

@@ -1,5 +1,6 @@
 //! Sheets: a hall, a division and spans as words, accepted ones and noise.
 
+use super::changes;
 use super::divisions::{Division, Nesting, NESTINGS};
 use super::halls::{self, Hall, Holds, Shape};
 use super::random::Random;
@@ -45,16 +46,33 @@ pub fn bytes(words: &[u32]) -> Vec<u8> {
 
 /// An accepted sheet of any shape; most are small, a few of full size.
 pub fn any(random: &mut Random) -> Vec<u32> {
-    let most_nodes = match random.below(2000) {
+    let most_nodes = most_nodes(random);
+    nested(&halls::any(most_nodes, random), random)
+}
+
+fn most_nodes(random: &mut Random) -> usize {
+    match random.below(2000) {
         0 => halls::MOST_NODES,
         1..=20 => 200,
         21..=400 => 40,
         _ => 12,
-    };
-    let hall = halls::any(most_nodes, random);
+    }
+}
+
+fn nested(hall: &Hall, random: &mut Random) -> Vec<u32> {
     let nesting = random.pick(&NESTINGS);
     let division = nesting.of(hall.arcs.len(), random);
-    words(&hall, &division, random.pick(&SPANS), random)
+    words(hall, &division, random.pick(&SPANS), random)
+}
+
+/// A convertible sheet of any shape: self-arcs are added to a hall, or arcs of an accepted sheet are led back to their tails. A few have no self-arc.
+pub fn with_self_arcs(random: &mut Random) -> Vec<u32> {
+    if random.once_in(2) {
+        return changes::with_self_arcs(any(random), random);
+    }
+    let any = most_nodes(random);
+    let most_nodes = random.pick(&[1, 4, any, any]);
+    nested(&halls::with_self_arcs(most_nodes, random), random)
 }
 
 /// An accepted sheet, small and flat, with a span from 1 to a little above the number of arcs.
@@ -78,7 +96,14 @@ pub fn regular_with(holds: Holds, shape: Shape, nesting: Nesting, spans: Spans, 
     bytes(&words(&hall, &division, spans, &mut random))
 }
 
-/// A sheet of full size: up to 2,048 arcs, between 1,024 nodes or so few that each has as many as the shape gives it. One in three has holds.
+/// The same sheet with each fourth arc led back to its tail.
+pub fn regular_with_self_arcs(holds: Holds, shape: Shape, nesting: Nesting, spans: Spans, nodes: usize) -> Vec<u8> {
+    let mut words = crate::reference::sheet::words(&regular_with(holds, shape, nesting, spans, nodes));
+    changes::lead_back(&mut words, |arc| arc % 4 == 0);
+    bytes(&words)
+}
+
+/// An accepted sheet of full size: up to 2,048 arcs, between 1,024 nodes or so few that each has as many as the shape gives it. One in three has holds.
 pub fn full(random: &mut Random) -> Vec<u32> {
     let shape = halls::any_shape(random);
     let nodes = random.pick(&[shape.full_nodes(), halls::MOST_NODES]);
@@ -98,7 +123,13 @@ pub fn largest(random: &mut Random) -> Vec<u32> {
     words(&hall, &Division::largest(random), random.pick(&SPANS), random)
 }
 
-/// The same, or every second time with one region more.
+/// A convertible sheet of full size, or with as many words as there can be, whose arcs are led back.
+pub fn full_with_self_arcs(random: &mut Random) -> Vec<u32> {
+    let words = if random.once_in(2) { full(random) } else { largest(random) };
+    changes::with_self_arcs(words, random)
+}
+
+/// An accepted sheet of the most words, or every second time with one region more.
 pub fn largest_or_above(random: &mut Random) -> Vec<u32> {
     let mut words = largest(random);
     if random.once_in(2) {

@@ -1,6 +1,6 @@
-//! The refusals 1 to 14 and 34, one after the other.
+//! The refusals 1 to 14, 34 and 35, one after the other.
 
-use super::sheet::{is_leaf, kind, leaf_arc, parent, payload, words, Sheet};
+use super::sheet::{is_leaf, kind, leaf_arc, parent, payload, words, Arc, Sheet};
 
 /// The most arcs out of a node, and the most into it.
 pub const MOST_EACH_WAY: usize = 4;
@@ -8,15 +8,19 @@ pub const MOST_EACH_WAY: usize = 4;
 pub const MOST_BYTES: usize = 36_924;
 pub const MOST_LENGTH: u32 = 262_143;
 
-/// What requests have changed in the judge: the most arcs out of a node and into it, `MOST_EACH_WAY` at most and 2 before request 2026-01; and whether a sheet
-/// may have holds, and more bytes for them, which it may not before request 2026-08.
+/// What requests have changed in the judge: the most arcs out of a node and into it, `MOST_EACH_WAY` at most and 2 before request 2026-01; whether a sheet may
+/// have holds, and more bytes for them, which it may not before request 2026-08; and whether it may have self-arcs, which it may before request 2026-09.
 #[derive(Clone, Copy)]
 pub struct Rules {
     pub each_way: usize,
     pub holds: bool,
+    pub self_arcs: bool,
 }
 
-pub const TODAY: Rules = Rules { each_way: MOST_EACH_WAY, holds: true };
+pub const TODAY: Rules = Rules { each_way: MOST_EACH_WAY, holds: true, self_arcs: false };
+
+/// What the converter takes: "a sheet at fault in nothing else".
+pub const CONVERTIBLE: Rules = Rules { self_arcs: true, ..TODAY };
 
 impl Rules {
     fn most_bytes(self) -> usize {
@@ -71,6 +75,9 @@ pub fn accepted_by(rules: Rules, bytes: &[u8]) -> Judged {
     passes(&sheet, &BEFORE_CROWDED)?;
     if crowded(rules.each_way, &sheet) {
         return Err(10);
+    }
+    if !rules.self_arcs && sheet.arcs().any(Arc::is_self_arc) {
+        return Err(35);
     }
     passes(&sheet, &AFTER_CROWDED)?;
     let heights = heights(&sheet);

@@ -1,12 +1,14 @@
-//! The six calls as a program of its own, written from the paper; it shares nothing with the proved crates.
+//! The seven calls as a program of its own, written from the paper; it shares nothing with the proved crates.
 
 pub mod canonical;
+pub mod convert;
 pub mod dijkstra;
 pub mod judge;
 pub mod linear;
 pub mod listing;
 pub mod neighbours;
 pub mod nesting;
+pub mod one_pass;
 pub mod possible;
 pub mod procedure;
 pub mod route;
@@ -15,7 +17,7 @@ pub mod table;
 pub mod travel;
 pub mod work;
 
-use judge::{accepted, Judged};
+use judge::{accepted, accepted_by, Judged, CONVERTIBLE};
 use procedure::Ties;
 use sheet::Sheet;
 
@@ -90,6 +92,16 @@ pub fn canonical_linear(bytes: &[u8], out: &mut [u8]) -> Answer {
     canonical_linear_of(accepted(bytes), out)
 }
 
+/// The converted sheet by the request's sentence.
+pub fn convert(bytes: &[u8], out: &mut [u8]) -> Answer {
+    convert_of(accepted_by(CONVERTIBLE, bytes), out)
+}
+
+/// The same, written for speed.
+pub fn convert_one_pass(bytes: &[u8], out: &mut [u8]) -> Answer {
+    convert_one_pass_of(accepted_by(CONVERTIBLE, bytes), out)
+}
+
 /// Distances and feeding arcs by Dijkstra's procedure, in a table whose counts are 0.
 pub fn run_dijkstra(bytes: &[u8], table: &mut [u32]) -> Answer {
     match fitting(accepted(bytes), table) {
@@ -143,27 +155,49 @@ pub fn route_of(judged: Judged, table: &[u32], node: u32, buffer: &mut [u32]) ->
 }
 
 pub fn canonical_of(judged: Judged, out: &mut [u8]) -> Answer {
-    written_of(judged, out, |sheet, out| {
-        for (place, word) in out.chunks_exact_mut(4).zip(canonical::words(sheet)) {
+    written_of(judged, |sheet| words_written(out, &canonical::words(sheet)))
+}
+
+/// The form has the sheet's own length.
+pub fn canonical_linear_of(judged: Judged, out: &mut [u8]) -> Answer {
+    let length = |sheet: &Sheet| 4 * (sheet.before_regions().len() + sheet.regions().len());
+    written_of(judged, |sheet| written(out, length(sheet), |front| linear::write(sheet, front)))
+}
+
+/// The sheet is judged as a convertible one.
+pub fn convert_of(judged: Judged, out: &mut [u8]) -> Answer {
+    written_of(judged, |sheet| words_written(out, &convert::words(sheet)))
+}
+
+pub fn convert_one_pass_of(judged: Judged, out: &mut [u8]) -> Answer {
+    written_of(judged, |sheet| {
+        let conversion = one_pass::Conversion::of(sheet);
+        written(out, conversion.bytes(), |front| conversion.write(front))
+    })
+}
+
+fn written_of(judged: Judged, write: impl FnOnce(&Sheet) -> Answer) -> Answer {
+    match judged {
+        Err(number) => Answer::Refused(number),
+        Ok(accepted) => write(&accepted.sheet),
+    }
+}
+
+fn words_written(out: &mut [u8], words: &[u32]) -> Answer {
+    written(out, 4 * words.len(), |front| {
+        for (place, word) in front.chunks_exact_mut(4).zip(words) {
             place.copy_from_slice(&word.to_be_bytes());
         }
     })
 }
 
-pub fn canonical_linear_of(judged: Judged, out: &mut [u8]) -> Answer {
-    written_of(judged, out, linear::write)
-}
-
-/// The form has the sheet's own length.
-fn written_of(judged: Judged, out: &mut [u8], write: impl FnOnce(&Sheet, &mut [u8])) -> Answer {
-    let length = |sheet: &Sheet| 4 * (sheet.before_regions().len() + sheet.regions().len());
-    match judged {
-        Err(number) => Answer::Refused(number),
-        Ok(accepted) if out.len() < length(&accepted.sheet) => Answer::Refused(31),
-        Ok(accepted) => {
-            let length = length(&accepted.sheet);
-            write(&accepted.sheet, &mut out[..length]);
-            Answer::Written(length as u32)
+/// Writes the first so many bytes, or refuses with 31 where there are fewer.
+fn written(out: &mut [u8], bytes: usize, write: impl FnOnce(&mut [u8])) -> Answer {
+    match out.get_mut(..bytes) {
+        None => Answer::Refused(31),
+        Some(front) => {
+            write(front);
+            Answer::Written(bytes as u32)
         }
     }
 }

@@ -113,6 +113,11 @@ impl Arc {
     fn of(ends: u32, length: u32) -> Arc {
         Arc { tail: (ends >> 10 & 1023) as usize, head: (ends & 1023) as usize, length: payload(length) }
     }
+
+    /// "an arc from a node to itself"
+    pub fn is_self_arc(self) -> bool {
+        self.tail == self.head
+    }
 }
 
 pub fn is_leaf(region: u32) -> bool {

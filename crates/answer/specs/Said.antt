@@ -26,7 +26,7 @@ routeSaid (Route arcs) = route arcs
 routeSaid NoRoute = noRoute
 routeSaid (RouteRefused fault) = refused (refusalOf fault)
 
--- the call for the canonical form
+-- the call for the canonical form, and the converter
 abbrev pub copiedSaid : Copied → Answer
 copiedSaid (Written bytes) = written bytes
 copiedSaid (CopyRefused fault) = refused (refusalOf fault)

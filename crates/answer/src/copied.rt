@@ -1,4 +1,4 @@
-// What the call for the canonical form answers.
+// What the calls that write bytes answer: for the canonical form, and to convert a sheet.
 use crate::Fault;
 
 pub enum Copied {

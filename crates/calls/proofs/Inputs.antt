@@ -7,7 +7,7 @@ use Rattle.indices.proofs.Tests.{and-left, and-right}
 use Rattle.answer.specs.Answer.{Refusal, input, state, Case, isRefused, lowest}
 use Rattle.answer.specs.Answer.{Answer, accepted, ended, paused, route, noRoute, written, refused}
 use Rattle.answer.proofs.Lowest.{lowest-append}
-use Rattle.judgement.specs.Judgement.{formRefusals, countRefusals, arcRefusals, divisionRefusals, refusalsUnder, refusals, judgement, Accepted}
+use Rattle.judgement.specs.Judgement.{formRefusals, countRefusals, arcRefusals, divisionRefusals, refusalsBy, refusals, judgementBy, Accepted}
 use Rattle.calls.specs.Calls.{Call, callAnswer}
 
 -- the input is at fault
@@ -50,12 +50,14 @@ inputs-clear (c ∷ cs) a i l =
     by false mine rest l = rest l
 
 sheet-inputs : (b : List ℕ) → inputs (refusals b) ≡ true
-unfolding refusalsUnder formRefusals countRefusals arcRefusals divisionRefusals
+unfolding refusalsBy formRefusals countRefusals arcRefusals divisionRefusals
 sheet-inputs b = refl
 
 -- A CALL whose answer does not blame the input: its sheet is accepted
 pub sheet-accepted : (b : List ℕ) (call : Call) → byInput (callAnswer (refusals b) call) ≡ false → Accepted b
-unfolding judgement
-sheet-accepted b call e =
-    inputs-clear (refusals b) (lowest (call .later) (call .good)) (sheet-inputs b)
-    (ap byInput (sym (lowest-append (refusals b) (call .later) (call .good))) ∙ e)
+unfolding judgementBy
+sheet-accepted b call e = record {
+  judged =
+      inputs-clear (refusals b) (lowest (call .later) (call .good)) (sheet-inputs b)
+      (ap byInput (sym (lowest-append (refusals b) (call .later) (call .good))) ∙ e);
+}

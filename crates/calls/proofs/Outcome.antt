@@ -12,7 +12,7 @@ use Rattle.indices.specs.Steps.{if_then_else_}
 use Rattle.sheet.specs.Sections.{nodeCount, arcCount}
 use Rattle.answer.specs.Answer.{Refusal, state, Answer, ended, paused, refused, _when_, isRefused, lowest}
 use Rattle.answer.proofs.Lowest.{lowest-append, lowest-clear, lowest-stop}
-use Rattle.judgement.specs.Judgement.{refusals, judgement, Accepted}
+use Rattle.judgement.specs.Judgement.{refusals, judgementBy, judgement, Accepted}
 use Rattle.procedure.specs.Table.{keyWords}
 use Rattle.calls.specs.Tables.{tableLength, longLength, isUsual, isLong, wrongLength, statusSays, statusIn}
 use Rattle.calls.specs.Runs.{stateAfter, endedAfter, runAnswer, runTable, longRunTable, filledTable, tableAfter}
@@ -94,15 +94,16 @@ module _ (b : List ℕ) (k : ℕ) (table : List ℕ) where
 
   -- a refused sheet: the answer is the judge's, and the table stays
   pub refused-sheet : (r : Refusal) → judgement b ≡ refused r → (refused r ≡ runAnswer b k table) × (table ≡ tableAfter b k table)
-  unfolding judgement
+  unfolding judgementBy
   refused-sheet r e =
       let answer = sheet-first ∙ lowest-stop (refusals b) (lowest (state 21 when wrongLength b table ∷ []) (if endedAfter b k then ended else paused)) r e in
       (sym answer, sym (kept-where-refused (refused r) answer))
 
   module _ (ok : Accepted b) where
     table-decides : runAnswer b k table ≡ cond (wrongLength b table) (refused (state 21)) (if endedAfter b k then ended else paused)
-    unfolding judgement
-    table-decides = sheet-first ∙ lowest-clear (refusals b) (lowest (state 21 when wrongLength b table ∷ []) (if endedAfter b k then ended else paused)) ok
+    unfolding judgementBy
+    table-decides = sheet-first ∙ lowest-clear (refusals b) (lowest (state 21 when wrongLength b table ∷ []) (if endedAfter b k then ended else paused))
+        (ok .judged)
 
     -- a table of the wrong length: 21, and it stays
     pub refused-table : wrongLength b table ≡ true → (refused (state 21) ≡ runAnswer b k table) × (table ≡ tableAfter b k table)

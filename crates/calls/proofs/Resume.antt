@@ -9,7 +9,7 @@ use Rattle.indices.specs.Steps.{if_then_else_}
 use Rattle.sheet.specs.Sections.{spanCount}
 use Rattle.answer.specs.Answer.{Refusal, numberOf, state, Answer, ended, paused, refused, Case, _when_, isRefused, lowest}
 use Rattle.answer.proofs.Lowest.{lowest-append, lowest-clear, lowest-stop}
-use Rattle.judgement.specs.Judgement.{refusals, judgement, Accepted}
+use Rattle.judgement.specs.Judgement.{refusals, judgementBy, judgement, Accepted}
 use Rattle.procedure.specs.OfSheet.{graphOf, divisionOf}
 use Rattle.procedure.specs.Procedure.{ended as hasEnded}
 use Rattle.theory_shortest.proofs.WellFormed.{accepted-well-formed}
@@ -63,13 +63,13 @@ module _ (b table : List ℕ) (k : ℕ) where
 
   -- a refused sheet: the answer is the judge's, and the table stays
   pub refused-sheet : (r : Refusal) → judgement b ≡ refused r → (refused r ≡ resumeAnswer b table k) × (table ≡ resumeTable b table k)
-  unfolding judgement
+  unfolding judgementBy
   refused-sheet r e = left-by (refused r) (sheet-first ∙ lowest-stop (refusals b) (lowest tableCases status) r e)
 
   module _ (ok : Accepted b) where
     table-decides : resumeAnswer b table k ≡ lowest tableCases status
-    unfolding judgement
-    table-decides = sheet-first ∙ lowest-clear (refusals b) (lowest tableCases status) ok
+    unfolding judgementBy
+    table-decides = sheet-first ∙ lowest-clear (refusals b) (lowest tableCases status) (ok .judged)
 
     -- 32, and the table stays
     pub refused-long : notLong b table ≡ true → (refused (state 32) ≡ resumeAnswer b table k) × (table ≡ resumeTable b table k)

@@ -14,7 +14,7 @@ use Rattle.sheet.specs.Sections.{nodeCount}
 use Rattle.answer.specs.Answer.{Refusal, numberOf, input, state, _when_, isRefused, lowest}
 use Rattle.answer.specs.Answer.{Answer, accepted, ended, paused, route, noRoute, written, refused}
 use Rattle.answer.proofs.Lowest.{lowest-append, lowest-clear, lowest-stop}
-use Rattle.judgement.specs.Judgement.{refusals, judgement, Accepted}
+use Rattle.judgement.specs.Judgement.{refusals, judgementBy, judgement, Accepted}
 use Rattle.procedure.specs.OfSheet.{graphOf}
 use Rattle.theory_shortest.proofs.WellFormed.{accepted-well-formed}
 use Rattle.theory_shortest.proofs.TableTest.{test-shortest, shortest-test}
@@ -88,13 +88,13 @@ module _ (b table : List ℕ) where
     answer-staged = lowest-append (refusals b) _ (foundRoute b table node buffer)
 
     pub sheet-stops : (r : Refusal) → judgement b ≡ refused r → routeAnswer b table node buffer ≡ refused r
-    unfolding judgement
+    unfolding judgementBy
     sheet-stops r e = answer-staged ∙ lowest-stop (refusals b) _ r e
 
     pub after-sheet : Accepted b → routeAnswer b table node buffer
         ≡ lowest (input 15 when nodeOutside b node ∷ state 21 when wrongLength b table ∷ tableRefusals b table) (foundRoute b table node buffer)
-    unfolding judgement
-    after-sheet ok = answer-staged ∙ lowest-clear (refusals b) _ ok
+    unfolding judgementBy
+    after-sheet ok = answer-staged ∙ lowest-clear (refusals b) _ (ok .judged)
 
     as-later : Accepted b → routeAnswer b table node buffer
         ≡ later (nodeOutside b node) (wrongLength b table) (malformed b table) (isPaused table) (notShortest b table) (foundRoute b table node buffer)

@@ -19,7 +19,7 @@ use Rattle.sheet.specs.Sections.{nodeCount, spanCount, span, arcCount, regionWo
 use Rattle.sheet.specs.Arcs.{tail}
 use Rattle.sheet.specs.Regions.{regionCount, leafWord, isLeaf as leafRegion, parent}
 use Rattle.sheet.proofs.Heights.{flat-height}
-use Rattle.judgement.specs.Judgement.{Accepted}
+use Rattle.judgement.specs.Judgement.{AcceptedBy}
 use Rattle.judgement.proofs.Accepted.{tail-in, nesting, has-child, spans-height}
 use Rattle.procedure.specs.Graph.{tail as graphTail}
 use Rattle.procedure.specs.Division.{regions, isLeaf}
@@ -65,7 +65,7 @@ module _ (b : List ℕ) where
   )
 
 -- OF AN ACCEPTED SHEET
-module _ (b : List ℕ) (ok : Accepted b) where
+module _ (b : List ℕ) {retired : Bool} (ok : AcceptedBy retired b) where
   pub each-span-one : allSpansOne b ≡ true → (i : ℕ) → i < length (spansOf b) → at (spansOf b) i ≡ 1
   each-span-one one i l = let li : i < spanCount b = omega (arith, spans-count b) in spans-at b i li ∙ spans-one b .0 one i li
 

@@ -1,4 +1,5 @@
--- What requests leave as it was before them, one by one: all else is today's on both sides, the choice among equal keys (2026-07) too. Definitions.
+-- What requests leave as it was before them, one by one: all else is today's on both sides, the choice among equal keys (2026-07) and 35
+-- (2026-09) too. Definitions.
 use Prim.Native.Nat.{ℕ, _+_, _*_}
 use mathlib.Core.Bool.{true, false, not}
 use mathlib.Core.Path.{_≡_}
@@ -10,10 +11,11 @@ use Rattle.indices.specs.Tests.{total}
 use Rattle.sheet.specs.Limits.{mostBytesBefore, mostSpans, mostArcsEachWay}
 use Rattle.sheet.specs.Sections.{nodeCount, spanCount, arcsAt, arcCount, regionWords}
 use Rattle.sheet.specs.Arcs.{arcLength}
-use Rattle.answer.specs.Answer.{input, state, Answer, accepted, refused, Case, _when_, isRefused, lowest}
+use Rattle.answer.specs.Answer.{Refusal, input, state, Answer, accepted, refused, Case, _when_, isRefused, lowest}
 use Rattle.judgement.specs.Form.{wrongSizeUnder, wrongSize, wrongSections, bitSet}
-use Rattle.judgement.specs.Arcs.{endsOutside, lengthsOutside, tooManyAtNode}
-use Rattle.judgement.specs.Judgement.{countRefusals, divisionRefusals, refusalsUnder, judgementUnder, judgement, Accepted}
+use Rattle.judgement.specs.Arcs.{endsOutside, lengthsOutside, holdsOutside, tooManyAtNode, selfArcs}
+use Rattle.judgement.specs.Judgement.{formRefusals, countRefusals, divisionRefusals, refusalsUnder, judgementUnder, judgementBy, judgement}
+use Rattle.judgement.specs.Judgement.{otherRefusals, Accepted}
 use Rattle.procedure.specs.Graph.{Graph}
 use Rattle.procedure.specs.OfSheet.{graphWith, graphOf, divisionOf, spansOf}
 use Rattle.procedure.specs.State.{State, counts}
@@ -23,12 +25,12 @@ use Rattle.procedure.specs.Travel.{sumOver, travelTime}
 use Rattle.theory_shortest.specs.TableTest.{settled?}
 use Rattle.calls.specs.Calls.{Call, callAnswer, lentAfter}
 use Rattle.calls.specs.Tables.{isLong, wrongLength, statusSays, statusIn, countIn, labelsIn, predecessorsIn}
-use Rattle.calls.specs.Runs.{runTable, runAnswer, tableAfter}
-use Rattle.calls.specs.Routes.{nodeOutside, malformed, isPaused, foundRoute, leftBy, routeAnswer, bufferAfter}
+use Rattle.calls.specs.Runs.{runTable, runCall, runAnswer, tableAfter}
+use Rattle.calls.specs.Routes.{nodeOutside, malformed, isPaused, foundRoute, leftBy, routeCall, routeAnswer, bufferAfter}
 use Rattle.calls.specs.Canonical.{canonicalCall, canonicalAnswer, outAfter}
 use Rattle.calls.specs.LongTables.{longTable, stateIn}
 use Rattle.calls.specs.Possible.{possible?}
-use Rattle.calls.specs.Resume.{notLong, resumeAnswer, resumeTable}
+use Rattle.calls.specs.Resume.{notLong, resumeCall, resumeAnswer, resumeTable}
 
 -- 2026-01: "Every sheet accepted before gets the same table as before".
 -- Whether a node may have `few` arcs each way or `most`, the sheet is judged alike, and every call on it, whatever is lent to it, has the same answer and
@@ -68,7 +70,7 @@ unfoldable pub refusalsUnheld : List ℕ → List Case
 refusalsUnheld b =
     (input 1 when wrongSizeUnder mostBytesBefore b ∷ input 2 when wrongSections b ∷ input 3 when bitSet b ∷ [])
     ++ (countRefusals b
-    ++ ((input 8 when endsOutside b ∷ input 9 when lengthsOutside b ∷ input 10 when tooManyAtNode mostArcsEachWay b ∷ [])
+    ++ ((input 8 when endsOutside b ∷ input 9 when lengthsOutside b ∷ input 10 when tooManyAtNode mostArcsEachWay b ∷ input 35 when selfArcs b ∷ [])
     ++ divisionRefusals (regionWords b) (arcCount b) (spanCount b)))
 
 -- the graph before it: an arc's length is the one that is written
@@ -138,3 +140,34 @@ pub record Unheld (b : List ℕ) : Type 0 where
   pub same : wrongSize b ≡ wrongSizeUnder mostBytesBefore b → SameUnheld b
   -- whose byte count the old limit alone refuses: it was refused as 1, and is not accepted now, since it has too many words of some kind
   pub between : wrongSize b ≡ false → wrongSizeUnder mostBytesBefore b ≡ true → (lowest (refusalsUnheld b) accepted ≡ refused (input 1)) × (Accepted b → ⊥)
+
+-- 2026-09: "Sheets that draw one are refused". What the calls but the converter answer and leave, where the refusals of the sheet itself are these.
+pub record CallsBy (own : List Case) (b : List ℕ) : Type 0 where
+  pub judged : judgement b ≡ lowest own accepted
+  pub runs : (k : ℕ) (table : List ℕ) → let call = runCall b k table in
+      (runAnswer b k table ≡ callAnswer own call) × (tableAfter b k table ≡ lentAfter own call)
+  pub routes : (table : List ℕ) (node : ℕ) (buffer : List ℕ) → let call = routeCall b table node buffer in
+      (routeAnswer b table node buffer ≡ callAnswer own call) × (bufferAfter b table node buffer ≡ lentAfter own call)
+  pub resumes : (table : List ℕ) (k : ℕ) → let call = resumeCall b table k in
+      (resumeAnswer b table k ≡ callAnswer own call) × (resumeTable b table k ≡ lentAfter own call)
+  pub copies : (out : List ℕ) → let call = canonicalCall b out in (canonicalAnswer b out ≡ callAnswer own call) × (outAfter b out ≡ lentAfter own call)
+
+-- each of them is refused with r, and leaves what was lent
+abbrev pub AllRefused : Refusal → List ℕ → Type 0
+AllRefused r b = CallsBy (r when true ∷ []) b
+
+-- the refusals that are looked at before 35: 1 to 10, and 34
+unfoldable pub refusalsTo10 : List ℕ → List Case
+refusalsTo10 b =
+    formRefusals b
+    ++ (countRefusals b
+    ++ (input 8 when endsOutside b ∷ input 9 when lengthsOutside b ∷ input 34 when holdsOutside b ∷ input 10 when tooManyAtNode mostArcsEachWay b ∷ []))
+
+-- "35, an arc from a node to itself, after 10.": what is claimed of every sheet
+pub record Retired (b : List ℕ) : Type 0 where
+  -- where one of 1 to 10, or 34, applies: every call is refused as before
+  pub earlier : (r : Refusal) → lowest (refusalsTo10 b) accepted ≡ refused r → AllRefused r b × (judgementBy false b ≡ refused r)
+  -- where none of them does and a self-arc is drawn: every call is refused as 35, whatever 11 to 14 say
+  pub drawn : lowest (refusalsTo10 b) accepted ≡ accepted → selfArcs b ≡ true → AllRefused (input 35) b
+  -- where none is drawn: the sheet is judged as before, and every call on it, whatever is lent, answers and leaves the same
+  pub none-drawn : selfArcs b ≡ false → CallsBy (otherRefusals b) b

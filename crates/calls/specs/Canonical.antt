@@ -2,29 +2,22 @@
 use Prim.Native.Nat.{ℕ, _≤_, _<_}
 use mathlib.Core.Path.{_≡_}
 use mathlib.Core.Logic.{_↔_}
-use mathlib.Core.List.{List, [], _∷_, _++_}
+use mathlib.Core.List.{List, _++_}
 use lib.ListN.{length, drop}
-use lib.Dec.{ltb}
-use Rattle.indices.specs.Steps.{if_then_else_}
-use Rattle.answer.specs.Answer.{input, Answer, written, refused, _when_, isRefused}
+use Rattle.answer.specs.Answer.{input, Answer, written, refused}
 use Rattle.judgement.specs.Judgement.{refusals, Accepted}
 use Rattle.procedure.specs.OfSheet.{divisionOf}
 use Rattle.canonical_form.specs.Numbering.{Preorder}
 use Rattle.canonical_form.specs.Canonical.{canonical}
 use Rattle.canonical_form.specs.Alike.{Alike}
-use Rattle.calls.specs.Calls.{Call, callAnswer, lentAfter}
+use Rattle.calls.specs.Calls.{Call, callAnswer, lentAfter, writeCall}
 use Rattle.calls.specs.Tables.{statusIn}
 use Rattle.calls.specs.Runs.{runTable}
 use Rattle.calls.specs.Correct.{SameDistances}
 
--- "New numbers: 31, output buffer shorter than what is to be written, after 14. This and every later new number says input or state as the number it is placed
--- by does." "It fills the front of a lent byte buffer, the rest stays, and its byte length is returned."; of a refusal, "Nothing lent changes."
+-- "Write an accepted sheet anew"
 abbrev pub canonicalCall : List ℕ → List ℕ → Call
-canonicalCall b out = let form = canonical b in record {
-  later = input 31 when ltb (length out) (length form) ∷ [];
-  good = written (length form);
-  leaves = λ answer. if isRefused answer then out else form ++ drop (length form) out;
-}
+canonicalCall b out = writeCall (canonical b) out
 
 unfoldable pub canonicalAnswer : List ℕ → List ℕ → Answer
 canonicalAnswer b out = callAnswer (refusals b) (canonicalCall b out)

@@ -6,10 +6,10 @@ use lib.ListN.{length}
 use Rattle.sheet.specs.Words.{word}
 use Rattle.sheet.specs.Sections.{regionsAt, regionWords}
 use Rattle.sheet.specs.Regions.{leafWord, arcWord, regionWord}
+use Rattle.sheet_writer.specs.Words.{WordAt}
 use Rattle.judgement.specs.Judgement.{Accepted}
 use Rattle.procedure.specs.OfSheet.{divisionOf}
 use Rattle.canonical_numbers.specs.Numbers.{Numbers}
-use Rattle.canonical.specs.Words.{WordAt}
 
 -- the word of the region of word k, whose parent has the new number `above`
 abbrev pub newRegionWord : List ℕ → ℕ → ℕ → ℕ

@@ -38,7 +38,7 @@ fn fill_form(
         &mut nexts[..n],
         &mut numbers[..n],
     );
-    crate::words::write_front(sheet, e, out);
+    sheet_writer::write_words(sheet, 0, e, out, 0);
     crate::regions::write_regions(d, &numbers[..n], e, out);
 }
 

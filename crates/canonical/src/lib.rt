@@ -1,7 +1,6 @@
 // The call for the canonical form of a sheet, the paper's neat copy.
 pub mod form;
 pub mod regions;
-pub mod words;
 
 ghost use mathlib.Core.Path.{_≡_};
 ghost use lib.Dec.{ltb};

@@ -8,25 +8,16 @@ ghost use Rattle.sheet.specs.Words.{words};
 ghost use Rattle.canonical_form.specs.Canonical.{canonical};
 ghost use Rattle.canonical.specs.Writing.{newRegionWord, Writable};
 
-// The kinds of region words.
-const INNER_KIND: u32 = 6;
-
-const LEAF_KIND: u32 = 7;
-
-// How many numbers the field of an arc has.
-const ARCS: u32 = sheet::ARC_NUMBERS as u32;
-
 // The word of the region of word k, whose parent has the new number `above`.
 fn region_word(d: &[u8], k: usize, above: u16) -> u32
     requires { ⌜ (k < words (now d)) × (above < regionNumbers) ⌝ }
     ensures { λ w. ⌜ w ≡ newRegionWord (now (d .entry)) k above ⌝ }
 {
-    let parent = above as u32;
     if sheet::fields::leaf_word(d, k) {
-        let arc = sheet::fields::arc_word(d, k).0 as u32;
-        return sheet::word_of(LEAF_KIND, parent * ARCS + arc);
+        let arc = sheet::fields::arc_word(d, k);
+        return sheet_writer::leaf_word_of(above, arc.0);
     }
-    sheet::word_of(INNER_KIND, parent)
+    sheet_writer::inner_word_of(above)
 }
 
 // The region words, each at the place of its region's new number.
@@ -43,7 +34,7 @@ pub fn write_regions(d: &[u8], numbers: &[u16], e: usize, out: &mut [u8])
         let region = k + 1;
         let number = numbers[region] as usize;
         let place = e + number - 1;
-        crate::words::put_word(out, place, region_word(d, k, above));
+        sheet_writer::put_word(out, place, region_word(d, k, above));
         k += 1;
     }
 }

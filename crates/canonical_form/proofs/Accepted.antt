@@ -1,4 +1,4 @@
--- The canonical form of an accepted sheet is accepted: refusals 1 to 10 and 34 read what is the same in both, and 11 to 14 the nesting, which is the same.
+-- The canonical form of an accepted sheet is accepted: refusals 1 to 10, 34 and 35 read what is the same in both, and 11 to 14 the nesting, which is the same.
 use Prim.Native.Nat.{ℕ, zero, suc, _+_, _*_, _/_, _%_, _≤_, _<_}
 use mathlib.Core.Bool.{Bool, true, false, not, cond, _&&_, _||_}
 use mathlib.Core.Path.{_≡_, refl, sym, ap, _∙_}
@@ -20,7 +20,7 @@ use Rattle.sheet.proofs.Holds.{hold-same, taken-same}
 use Rattle.judgement.specs.Form.{wrongSize, noRegionWord, wrongFront, wrongSections, wrongHolds, outOfOrder, arcBits, leafBits, bitSet}
 use Rattle.judgement.specs.Form.{nodesOutside, sourceOutside, spanOutside, spansOutside, tooMany}
 use Rattle.judgement.specs.Arcs.{endOutside, endsOutside, tooLong, lengthsOutside, tooLongHeld, holdsOutside}
-use Rattle.judgement.specs.Arcs.{endsAt, crowded, crowdedNodes, tooManyAtNode}
+use Rattle.judgement.specs.Arcs.{endsAt, crowded, crowdedNodes, tooManyAtNode, selfArc, selfArcs}
 use Rattle.judgement.specs.Division.{wrongParent, wrongParents, noSuchArc, leafOfArc, notOneLeaf, wrongLeaves}
 use Rattle.judgement.specs.Division.{childOf, childless, childlessRegions, spansDiffer}
 use Rattle.judgement.specs.Judgement.{Accepted}
@@ -83,7 +83,7 @@ module _ (b : List ℕ) (ok : Accepted b) where
   every-arc : (p q : ℕ → Bool) → ((a : ℕ) → a < arcCount b → p a ≡ q a) → any p (arcCount c) ≡ any q (arcCount b)
   every-arc p q same = ap (any p) (same-arcs b ok) ∙ any-ext p q (arcCount b) same
 
-  -- REFUSALS 1 TO 10, AND 34
+  -- REFUSALS 1 TO 10, 34 AND 35
   size : wrongSize c ≡ false
   unfolding wrongSize
   size = ap (λ (n : ℕ). not (eqb (n % 4) 0) || ltb mostBytes n) (canonical-length b ok) ∙ none-applies b ok .size
@@ -133,6 +133,10 @@ module _ (b : List ℕ) (ok : Accepted b) where
   degrees : tooManyAtNode mostArcsEachWay c ≡ false
   unfolding tooManyAtNode
   degrees = rw (same-crowded false, same-crowded true) (none-applies b ok .degrees)
+
+  self-arcs : selfArcs c ≡ false
+  unfolding selfArc selfArcs
+  self-arcs = every-arc (selfArc c) (selfArc b) (λ a l. rw (same-tail a l, same-head a l)) ∙ none-applies b ok .self-arcs
 
   -- REGION WORDS: their kinds, and their bits
   -- what holds of the words of all regions
@@ -335,6 +339,7 @@ module _ (b : List ℕ) (ok : Accepted b) where
     lengths = lengths;
     holds = holds;
     degrees = degrees;
+    self-arcs = self-arcs;
     parents = parents;
     leaves = leaves;
     children = children;

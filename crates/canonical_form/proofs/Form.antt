@@ -1,21 +1,20 @@
 -- The canonical form of an accepted sheet, read as a sheet: as long, its sections where they were, its words up to the last arc the same, and its
 -- region words those of the regions under their new numbers. So its division is the same nesting.
-use Prim.Native.Nat.{ℕ, zero, suc, _+_, _-_, _*_, _/_, _%_, _≤_, _<_}
-use mathlib.Core.Bool.{Bool, true, false, not, cond, _||_}
+use Prim.Native.Nat.{ℕ, zero, suc, _+_, _-_, _*_, _/_, _≤_, _<_}
+use mathlib.Core.Bool.{Bool, true, false, cond, _||_}
 use mathlib.Core.Path.{_≡_, refl, sym, ap, _∙_}
 use mathlib.Core.Logic.{⊎-elim}
 use mathlib.Core.List.{List, _++_}
 use native.Mathlib.Omega.{arith}
-use borrow.Author.Tests.{eqb-true, not-false}
 use lib.ListN.{length, length-append, List·getD-append}
 use lib.Seq.{getD-append-add}
-use lib.Dec.{ltb, eqb}
+use lib.Dec.{eqb}
 use Rattle.indices.specs.Columns.{at}
 use Rattle.indices.specs.Tests.{lead}
 use Rattle.indices.proofs.Columns.{length-column, at-column}
 use Rattle.indices.proofs.Tests.{or-left, or-right, lead-ext}
 use Rattle.indices.proofs.Steps.{by-order, true-or-false}
-use Rattle.sheet.specs.Limits.{mostBytes, arcNumbers, regionNumbers}
+use Rattle.sheet.specs.Limits.{arcNumbers, regionNumbers}
 use Rattle.sheet.specs.Words.{words, word, kindOf, payloadOf, kind, payload}
 use Rattle.sheet.specs.Sections.{ofKind, isArc, kindFrom, arcsFrom, spanCount, holdsAt, holdCount, arcCount, arcsAt, regionsAt, regionWords}
 use Rattle.sheet.specs.Regions.{regionCount, leafWord, parentWord, arcWord, leafArc}
@@ -24,6 +23,7 @@ use Rattle.sheet.proofs.RegionWords.{word-kind, word-payload, payload-parent, p
 use Rattle.sheet.proofs.Bounds.{regions-inside, region-words, word-drop}
 use Rattle.judgement.specs.Form.{wrongSize}
 use Rattle.judgement.specs.Judgement.{Accepted}
+use Rattle.judgement.proofs.Clear.{whole-words}
 use Rattle.judgement.proofs.Accepted.{none-applies, front-there, few-arcs, few-region-words}
 use Rattle.judgement.proofs.Places.{region-word-kind}
 use Rattle.procedure.specs.Division.{Division, regions, parent, arcOf, isLeaf}
@@ -54,17 +54,12 @@ module _ (b : List ℕ) (ok : Accepted b) where
   pub size-right : wrongSize b ≡ false
   size-right = none-applies b ok .size
 
-  whole-words : length b % 4 ≡ 0
-  unfolding wrongSize
-  whole-words =
-      eqb-true (length b % 4) 0 (not-false (eqb (length b % 4) 0) (or-left (not (eqb (length b % 4) 0)) (ltb mostBytes (length b)) size-right))
-
   -- it is as long as the sheet
   pub canonical-length : length (canonical b) ≡ length b
   unfolding canonical
   canonical-length =
       length-bytes (frontWords b ++ newWords b)
-      ∙ omega (arith, length-append (frontWords b) (newWords b), length-front, length-new, region-words b two, regions-inside b two, whole-words)
+      ∙ omega (arith, length-append (frontWords b) (newWords b), length-front, length-new, region-words b two, regions-inside b two, whole-words b size-right)
 
   pub same-words : words (canonical b) ≡ words b
   same-words = ap (λ (n : ℕ). n / 4) canonical-length

@@ -1,8 +1,8 @@
 // Tries each case of standard input, a line of hexadecimal digits in which spaces are passed over: CALL NUMBER WORDS SIZE SHEET TABLE. The first four are
 // words of eight digits. CALL is 1 to judge, 2 to run to the end, 3 to run for at most NUMBER rounds, 4 for the route to node NUMBER, 5 for the listing,
-// 6 for the canonical form, 7 to go on for at most NUMBER rounds. WORDS words are lent, as the table of a run or the buffer of a route; for the canonical
-// form as many bytes. SHEET has SIZE bytes. TABLE, for a route and for going on alone, is the rest of the line; to go on the words lent hold it, as far as
-// they go. All others hold a filling.
+// 6 for the canonical form, 7 to go on for at most NUMBER rounds, 8 to convert. WORDS words are lent, as the table of a run or the buffer of a route; for the
+// canonical form and to convert as many bytes. SHEET has SIZE bytes. TABLE, for a route and for going on alone, is the rest of the line; to go on the words
+// lent hold it, as far as they go. All others hold a filling.
 // For a listing, what `marks` prints is printed; for another case the answer's word and, where what is lent holds something else than the filling after the
 // call, the lent words or bytes up to the last that does; for a line that is no case `unreadable`.
 ghost use Prim.Native.Nat.{_≤_};
@@ -195,21 +195,29 @@ fn print_copied(word: u32, lent: &[u8]) {
     io::write_all(STDOUT_FILENO, b"\n");
 }
 
-// Lends the first bytes.
-fn print_lent_bytes(bytes: usize, sheet: &[u8], lent: &mut [u8])
-    requires { ⌜ bytes ≤ length (now lent) ⌝ }
-{
-    let copied = canonical::canonical(sheet, &mut lent[0..bytes]);
-    print_copied(word_of_copied(copied), lent);
+// The word of what a call that writes a sheet answers: the canonical form or the converted sheet.
+fn copied_word(call: u32, sheet: &[u8], lent: &mut [u8]) -> u32 {
+    if call == 6 {
+        return word_of_copied(canonical::canonical(sheet, lent));
+    }
+    word_of_copied(convert::convert(sheet, lent))
 }
 
-// Prints what is answered to a case of the canonical form, and answers whether there is room for the bytes lent.
-fn print_canonical(bytes: usize, sheet: &[u8]) -> bool {
+// Lends the first bytes.
+fn print_lent_bytes(call: u32, bytes: usize, sheet: &[u8], lent: &mut [u8])
+    requires { ⌜ bytes ≤ length (now lent) ⌝ }
+{
+    let word = copied_word(call, sheet, &mut lent[0..bytes]);
+    print_copied(word, lent);
+}
+
+// Prints what is answered to a case of such a call, and answers whether there is room for the bytes lent.
+fn print_written(call: u32, bytes: usize, sheet: &[u8]) -> bool {
     if bytes > MOST_BYTES {
         return false;
     }
     let mut lent = [FILLING_BYTE; MOST_BYTES];
-    print_lent_bytes(bytes, sheet, &mut lent);
+    print_lent_bytes(call, bytes, sheet, &mut lent);
     true
 }
 
@@ -237,7 +245,7 @@ fn is_case(call: u32, bytes: usize) -> bool {
     if call == 4 || call == 7 {
         return bytes % 4 == 0 && bytes / 4 <= MOST_WORDS;
     }
-    1 <= call && call <= 6 && bytes == 0
+    1 <= call && call <= 8 && bytes == 0
 }
 
 // Prints what is answered to a case, given as its bytes, and answers whether it is one.
@@ -255,8 +263,8 @@ fn print_case(case: &[u8]) -> bool {
         return false;
     }
     let words = sheet::word_at(case, 2) as usize;
-    if call == 6 {
-        return print_canonical(words, &case[16..end]);
+    if call == 6 || call == 8 {
+        return print_written(call, words, &case[16..end]);
     }
     print_call(
         call,

@@ -3,7 +3,7 @@ use Prim.Native.Nat.{ℕ, zero, suc, _+_, _<_}
 use mathlib.Core.Bool.{Bool, true, false}
 use mathlib.Core.Path.{_≡_, refl, sym, ap, _∙_}
 use mathlib.Core.List.{List, [], _∷_, _++_, append-nil}
-use native.Mathlib.Nat.{zero-add, suc-add, le-of-suc-le-suc, not-suc-le-zero}
+use native.Mathlib.Nat.{add-zero, zero-add, suc-add, le-of-suc-le-suc, not-suc-le-zero}
 use native.Mathlib.Omega.{arith}
 use lib.ListN.{length}
 use lib.Seq.{ext-getD}
@@ -39,6 +39,11 @@ column-append (suc m) n f =
     (column-append m n (λ i. f (suc i))
     ∙ ap (λ (l : List ℕ). column m (λ i. f (suc i)) ++ l)
     (column-ext n (λ i. f (suc (m + i))) (λ i. f (suc m + i)) (λ i _. ap f (sym (suc-add m i))))))
+
+-- one entry more
+pub column-more : (n : ℕ) (f : ℕ → ℕ) → column (n + 1) f ≡ column n f ++ (f n ∷ [])
+unfolding column
+column-more n f = column-append n 1 f ∙ ap (λ (k : ℕ). column n f ++ (f k ∷ [])) (add-zero n)
 
 -- two columns that are the same have as many entries, and the same ones
 module _ (m n : ℕ) (f g : ℕ → ℕ) (e : column m f ≡ column n g) where

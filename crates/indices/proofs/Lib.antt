@@ -8,3 +8,5 @@ pub mod Pigeonhole
 pub mod Renumbering
 pub mod Columns
 pub mod Entries
+pub mod Selected
+pub mod Stores

@@ -1,10 +1,12 @@
 -- Laws of `most`, the largest value below a bound.
 use Prim.Native.Nat.{ℕ, zero, suc, max, _<_, _≤_}
+use mathlib.Core.Bool.{Bool, cond}
 use mathlib.Core.Path.{_≡_, refl, ap}
 use mathlib.Core.Logic.{⊎-elim}
 use native.Mathlib.Nat.{eq-or-lt-of-le, le-of-suc-le-suc, not-suc-le-zero}
 use native.Mathlib.Omega.{arith}
 use Rattle.indices.specs.Tests.{most}
+use Rattle.indices.proofs.Steps.{by-truth}
 
 pub most-ext : (f g : ℕ → ℕ) (n : ℕ) → ((k : ℕ) → k < n → f k ≡ g k) → most f n ≡ most g n
 unfolding most
@@ -37,3 +39,9 @@ unfolding most
 most-ge f zero k l = absurd (not-suc-le-zero l)
 most-ge f (suc n) k l =
     ⊎-elim (λ e. omega (arith, ap f e)) (λ lt. omega (arith, most-ge f n k lt)) (eq-or-lt-of-le (le-of-suc-le-suc l))
+
+-- one more at each index that passes is one more in all, where any passes
+pub most-suc : (p : ℕ → Bool) (h : ℕ → ℕ) (n : ℕ) → max 1 (most (λ c. cond (p c) (suc (h c)) 0) n) ≡ suc (most (λ c. cond (p c) (h c) 0) n)
+unfolding most
+most-suc p h zero = omega arith
+most-suc p h (suc n) = let ih = most-suc p h n in by-truth (p n) (λ e. rw e (omega arith)) (λ e. rw e (omega arith))

@@ -71,7 +71,7 @@ nth-found p n k l =
     (q .0, and-left (p (nth p n k)) _ (q .1), eqb-true (count p (nth p n k)) k (and-right (p (nth p n k)) _ (q .1)))
 
 -- how many pass before an index that passes tells it apart
-count-apart : (q : ℕ → Bool) (x y : ℕ) → q x ≡ true → q y ≡ true → count q x ≡ count q y → x ≡ y
+pub count-apart : (q : ℕ → Bool) (x y : ℕ) → q x ≡ true → q y ≡ true → count q x ≡ count q y → x ≡ y
 count-apart q x y hx hy e =
     let up : ¬ (x < y) = λ l. omega (arith, count-in q x hx, count-mono q (x + 1) y (omega arith)) in
     let down : ¬ (y < x) = λ l. omega (arith, count-in q y hy, count-mono q (y + 1) x (omega arith)) in

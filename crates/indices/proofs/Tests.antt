@@ -195,6 +195,18 @@ unfolding count
 count-out-all p zero h = refl
 count-out-all p (suc n) h = rw (count-out-all p n (λ i l. h i (omega arith)), h n (omega arith))
 
+-- where all pass, all are counted
+pub count-all : (p : ℕ → Bool) (n : ℕ) → ((i : ℕ) → i < n → p i ≡ true) → count p n ≡ n
+unfolding count
+count-all p zero h = refl
+count-all p (suc n) h = rw (count-all p n (λ i l. h i (omega arith)), h n (omega arith)) (add-one n)
+
+-- the first index, and then the others
+pub count-front : (p : ℕ → Bool) (n : ℕ) → count p (suc n) ≡ cond (p 0) 1 0 + count (λ i. p (suc i)) n
+unfolding count
+count-front p zero = omega arith
+count-front p (suc n) = omega (arith, count-front p n)
+
 -- an index that passes is counted
 pub count-hit : (p : ℕ → Bool) (i n : ℕ) → i < n → p i ≡ true → 0 < count p n
 count-hit p i n l h = omega (arith, count-in p i h, count-mono p (i + 1) n (omega arith))
@@ -312,6 +324,14 @@ lead-before p (suc n) (suc i) l h = at (p 0) (lead-before (λ k. p (suc k)) n i 
 pub lead-true : (p : ℕ → Bool) (n i : ℕ) → i < lead p n → p i ≡ true
 lead-true p n i l =
     by-truth (p i) (λ e. e) (λ e. absurd (let late = lead-before p n i (omega (arith, lead-le p n)) e in omega arith))
+
+-- the indices below i pass, and i, if it is below n, does not
+pub lead-is : (p : ℕ → Bool) (i n : ℕ) → i ≤ n → ((j : ℕ) → j < i → p j ≡ true) → (i < n → p i ≡ false) → lead p n ≡ i
+lead-is p i n l pass stop =
+    let few = lead-le p n in
+    let not-early : ¬ (lead p n < i) = λ early. true≢false (sym (pass (lead p n) early) ∙ lead-false p n (omega arith)) in
+    let not-late : ¬ (i < lead p n) = λ late. let soon = lead-before p n i (omega arith) (stop (omega arith)) in omega arith in
+    omega arith
 
 -- the first index that passes is found, where some index i passes
 pub first-passing : (p : ℕ → Bool) (n i : ℕ) → i < n → p i ≡ true → (lead (λ k. not (p k)) n < n) × (p (lead (λ k. not (p k)) n) ≡ true)

@@ -1,5 +1,6 @@
-// The refusals of a sheet's arcs: 8 to 10, 34 after 9, and of refusal 3 what it asks of an arc's words.
+// The refusals of a sheet's arcs: 8 to 10, 34 after 9 and 35 after 10, and of refusal 3 what it asks of an arc's words.
 pub mod degrees;
+pub mod self_arcs;
 
 ghost use mathlib.Core.Path.{_≡_};
 ghost use lib.Dec.{leb};
@@ -88,10 +89,10 @@ fn field_refusal(s: &[u8], sections: Sections) -> u8
     0
 }
 
-// Refusals 8 to 10, and 34 after 9: the number, or 0.
-pub fn arc_refusal(s: &[u8], sections: Sections) -> u8
+// Refusals 8 to 10, 34 after 9, and 35 after 10 where self-arcs are retired: the number, or 0.
+pub fn arc_refusal(s: &[u8], sections: Sections, retired: bool) -> u8
     requires { ⌜ Located (now s) sections × (arcCount (now s) ≤ mostArcs) × (nodeCount (now s) ≤ mostNodes) ⌝ }
-    ensures { λ r. ⌜ numbered r ≡ lowest (arcRefusals mostArcsEachWay (now (s .entry))) accepted ⌝ }
+    ensures { λ r. ⌜ numbered r ≡ lowest (arcRefusals mostArcsEachWay retired (now (s .entry))) accepted ⌝ }
 {
     let field = field_refusal(s, sections);
     if field != 0 {
@@ -99,6 +100,12 @@ pub fn arc_refusal(s: &[u8], sections: Sections) -> u8
     }
     if crate::degrees::too_many_at_node(s, sections) {
         return 10;
+    }
+    if !retired {
+        return 0;
+    }
+    if crate::self_arcs::self_arcs(s, sections) {
+        return 35;
     }
     0
 }

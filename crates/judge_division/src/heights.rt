@@ -12,7 +12,7 @@ use sheet::REGION_NUMBERS;
 use sheet::Region;
 
 // The larger of two numbers.
-fn larger(a: u16, b: u16) -> u16
+pub fn larger(a: u16, b: u16) -> u16
     ensures { λ r. ⌜ r ≡ max a b ⌝ }
 {
     if a < b {
@@ -22,7 +22,7 @@ fn larger(a: u16, b: u16) -> u16
 }
 
 // Region r holds the largest of what is handed to it.
-fn hand_to(heights: &mut [u16; REGION_NUMBERS], r: Region, x: u16)
+pub fn hand_to(heights: &mut [u16; REGION_NUMBERS], r: Region, x: u16)
     requires { ⌜ r .0 < regionNumbers ⌝ }
     ensures { λ _. ⌜ now (heights .exit) ≡ raised (now (heights .entry)) (r .0) x ⌝ }
 {

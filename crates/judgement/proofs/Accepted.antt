@@ -1,6 +1,7 @@
--- A sheet is accepted just where none of the refusals applies to it; and what each of them says then.
+-- A sheet is accepted just where none of the refusals applies to it; and what each of them says then. All but 35 are said of a sheet that is accepted with
+-- self-arcs retired, and of one that is accepted without, which is at fault in nothing else.
 use Prim.Native.Nat.{ℕ, suc, _<_, _≤_}
-use mathlib.Core.Bool.{Bool, true, false, _||_}
+use mathlib.Core.Bool.{Bool, true, false, _&&_, _||_, and-false}
 use mathlib.Core.List.{List}
 use mathlib.Core.Path.{_≡_}
 use borrow.Author.Tests.{ltb-false, leb-false, eqb-true, eqb-false, ne-eqb, not-false}
@@ -18,14 +19,15 @@ use Rattle.sheet.specs.Regions.{regionCount, leafWord, parentWord, arcWord, isL
 use Rattle.answer.proofs.Lowest.{clear-of}
 use Rattle.judgement.specs.Form.{wrongSize, wrongFront, noRegionWord, wrongSections, outOfOrder, bitSet, nodesOutside}
 use Rattle.judgement.specs.Form.{sourceOutside, spanOutside, spansOutside, tooMany}
-use Rattle.judgement.specs.Arcs.{endsOutside, tooLong, lengthsOutside, tooLongHeld, holdsOutside, endsAt, tooManyAtNode}
+use Rattle.judgement.specs.Arcs.{endsOutside, tooLong, lengthsOutside, tooLongHeld, holdsOutside, endsAt, tooManyAtNode, selfArcs}
 use Rattle.judgement.specs.Division.{wrongParents, noSuchArc, leafOfArc, notOneLeaf, wrongLeaves, childOf, childless, childlessRegions, spansDiffer}
-use Rattle.judgement.specs.Judgement.{formRefusals, countRefusals, arcRefusals, divisionRefusals, refusalsUnder, refusals, judgement, Accepted}
+use Rattle.judgement.specs.Judgement.{formRefusals, countRefusals, arcRefusals, divisionRefusals, refusalsBy, judgementBy}
+use Rattle.judgement.specs.Judgement.{AcceptedBy, Accepted, Convertible}
 use Rattle.judgement.proofs.Parents as parents
 use Rattle.judgement.proofs.Clear as clear
 
 -- no refusal applies, a field for each
-pub record NoRefusal (b : List ℕ) : Type 0 where
+pub record NoRefusal (retired : Bool) (b : List ℕ) : Type 0 where
   pub size : wrongSize b ≡ false
   pub order : outOfOrder b ≡ false
   pub bits : bitSet b ≡ false
@@ -37,14 +39,15 @@ pub record NoRefusal (b : List ℕ) : Type 0 where
   pub lengths : lengthsOutside b ≡ false
   pub holds : holdsOutside b ≡ false
   pub degrees : tooManyAtNode mostArcsEachWay b ≡ false
+  pub self-arcs : retired && selfArcs b ≡ false
   pub parents : wrongParents (regionWords b) ≡ false
   pub leaves : wrongLeaves (regionWords b) (arcCount b) ≡ false
   pub children : childlessRegions (regionWords b) ≡ false
   pub height : spansDiffer (regionWords b) (spanCount b) ≡ false
 
-pub none-applies : (b : List ℕ) → Accepted b → NoRefusal b
-unfolding judgement refusalsUnder formRefusals countRefusals arcRefusals divisionRefusals
-none-applies b ok = let free = clear-of (refusals b) ok in record {
+pub none-applies : (b : List ℕ) {retired : Bool} → AcceptedBy retired b → NoRefusal retired b
+unfolding judgementBy refusalsBy formRefusals countRefusals arcRefusals divisionRefusals
+none-applies b {retired} ok = let free = clear-of (refusalsBy mostArcsEachWay retired b) (ok .judged) in record {
   size = free 1;
   order = free 2;
   bits = free 3;
@@ -56,35 +59,70 @@ none-applies b ok = let free = clear-of (refusals b) ok in record {
   lengths = free 9;
   holds = free 34;
   degrees = free 10;
+  self-arcs = free 35;
   parents = free 11;
   leaves = free 12;
   children = free 13;
   height = free 14;
 }
 
-pub none-accepts : (b : List ℕ) → NoRefusal b → Accepted b
-unfolding judgement refusalsUnder formRefusals countRefusals arcRefusals divisionRefusals
-none-accepts b none =
-    rw (
-      none .size,
-      none .order,
-      none .bits,
-      none .nodes,
-      none .source,
-      none .spans,
-      none .many,
-      none .ends,
-      none .lengths,
-      none .holds,
-      none .degrees,
-      none .parents,
-      none .leaves,
-      none .children,
-      none .height,
-    )
+pub none-accepts : (b : List ℕ) {retired : Bool} → NoRefusal retired b → AcceptedBy retired b
+unfolding judgementBy refusalsBy formRefusals countRefusals arcRefusals divisionRefusals
+none-accepts b none = record {
+  judged =
+      rw (
+        none .size,
+        none .order,
+        none .bits,
+        none .nodes,
+        none .source,
+        none .spans,
+        none .many,
+        none .ends,
+        none .lengths,
+        none .holds,
+        none .degrees,
+        none .self-arcs,
+        none .parents,
+        none .leaves,
+        none .children,
+        none .height,
+      );
+}
 
-module _ (b : List ℕ) (ok : Accepted b) where
-  none : NoRefusal b
+-- the same of a sheet whose self-arcs are looked at, or not, where it draws none
+pub none-drawn : (b : List ℕ) {retired : Bool} → NoRefusal retired b → selfArcs b ≡ false → (other : Bool) → NoRefusal other b
+none-drawn b none clear other = record {
+  size = none .size;
+  order = none .order;
+  bits = none .bits;
+  nodes = none .nodes;
+  source = none .source;
+  spans = none .spans;
+  many = none .many;
+  ends = none .ends;
+  lengths = none .lengths;
+  holds = none .holds;
+  degrees = none .degrees;
+  self-arcs = rw clear (and-false other);
+  parents = none .parents;
+  leaves = none .leaves;
+  children = none .children;
+  height = none .height;
+}
+
+-- A sheet is accepted just where it is convertible and draws no self-arc.
+pub accepted-draws-none : (b : List ℕ) → Accepted b → selfArcs b ≡ false
+accepted-draws-none b ok = none-applies b ok .self-arcs
+
+pub accepted-convertible : (b : List ℕ) → Accepted b → Convertible b
+accepted-convertible b ok = none-accepts b (none-drawn b (none-applies b ok) (accepted-draws-none b ok) false)
+
+pub convertible-accepted : (b : List ℕ) → Convertible b → selfArcs b ≡ false → Accepted b
+convertible-accepted b ok clear = none-accepts b (none-drawn b (none-applies b ok) clear true)
+
+module _ (b : List ℕ) {retired : Bool} (ok : AcceptedBy retired b) where
+  none : NoRefusal retired b
   none = none-applies b ok
 
   -- 2. the first two words are there, and the words after the last arc are of kinds 6 and 7

@@ -1,5 +1,6 @@
--- Cases of refusals 2, 10 and 34, each computed from a sheet's bytes, so that an edit of their definitions is refused here.
+-- Cases of refusals 2, 10, 34 and 35, each computed from a sheet's bytes, so that an edit of their definitions is refused here.
 use Prim.Native.Nat.{ℕ}
+use mathlib.Core.Bool.{false}
 use mathlib.Core.Path.{_≡_, refl}
 use mathlib.Core.List.{List, [], _∷_, _++_, map}
 use lib.ListN.{drop}
@@ -14,13 +15,17 @@ use Rattle.sheet.specs.Regions.{leafWord, parentWord, arcWord}
 use Rattle.sheet.proofs.Samples.{hallAWith, heldA, andBack, turntable, fiveIn, fiveOut, flatHall}
 use Rattle.answer.specs.Answer.{input, Answer, accepted, refused}
 use Rattle.judgement.specs.Form.{wrongSize, wrongSections, wrongHolds, outOfOrder, bitSet, nodesOutside, sourceOutside, spansOutside, tooMany}
-use Rattle.judgement.specs.Arcs.{endsOutside, lengthsOutside, holdsOutside, crowdedNodes, tooManyAtNode}
+use Rattle.judgement.specs.Arcs.{endsOutside, lengthsOutside, holdsOutside, crowdedNodes, tooManyAtNode, selfArc, selfArcs}
 use Rattle.judgement.specs.Division.{wrongParents, wrongLeaves, childlessRegions, spansDiffer}
-use Rattle.judgement.specs.Judgement.{formRefusals, countRefusals, arcRefusals, divisionRefusals, refusalsUnder, judgementUnder, judgement}
+use Rattle.judgement.specs.Judgement.{formRefusals, countRefusals, arcRefusals, divisionRefusals, refusalsBy, judgementUnder, judgementBy, judgement}
 
 -- the judgements of sheets that are given by their words
 abbrev judged : List (List ℕ) → List Answer
 judged sheets = map (λ ws. judgement (bytesOf ws)) sheets
+
+-- a hall of one node, with an arc to itself whose leaf names itself as its parent
+abbrev leafOnItself : List ℕ
+leafOnItself = 0x10000001 ∷ 0x20000000 ∷ 0x30000001 ∷ 0x40000000 ∷ 0x50000001 ∷ 0x70000800 ∷ []
 
 -- so many holds of 0
 abbrev zeros : ℕ → List ℕ
@@ -47,11 +52,18 @@ record Cases : Type 0 where
   five-in : judgement (bytesOf fiveIn) ≡ refused (input 10)
   five-out : judgement (bytesOf fiveOut) ≡ refused (input 10)
   -- an arc from a node to itself is one out of it and one into it, and arcs with the same ends are counted each: node 0 has four arcs to itself, and one
-  -- more from node 1, or to it; or five to node 1
+  -- more from node 1, or to it; or five to node 1. 35 applies to the first two as well, and is looked at after 10
   own-and-in : judgement (bytesOf (flatHall 2 (0 ∷ 0 ∷ 0 ∷ 0 ∷ 0x400 ∷ []))) ≡ refused (input 10)
   own-and-out : judgement (bytesOf (flatHall 2 (0 ∷ 0 ∷ 0 ∷ 0 ∷ 1 ∷ []))) ≡ refused (input 10)
   parallel : judgement (bytesOf (flatHall 2 (1 ∷ 1 ∷ 1 ∷ 1 ∷ 1 ∷ []))) ≡ refused (input 10)
-  four-own : judgement (bytesOf (flatHall 1 (0 ∷ 0 ∷ 0 ∷ 0 ∷ []))) ≡ accepted
+  -- 2026-09: "35, an arc from a node to itself, after 10.": four of them keep the limit of 10; with 35 left out the sheet is at fault in nothing
+  four-own : judgement (bytesOf (flatHall 1 (0 ∷ 0 ∷ 0 ∷ 0 ∷ []))) ≡ refused (input 35)
+  four-own-left-out : judgementBy false (bytesOf (flatHall 1 (0 ∷ 0 ∷ 0 ∷ 0 ∷ []))) ≡ accepted
+  -- one behind another arc, at a node that is not the source; arcs from node 0 to node 1 and back are none
+  own-elsewhere : judged (flatHall 2 (1 ∷ 0x401 ∷ []) ∷ flatHall 2 (1 ∷ 0x400 ∷ []) ∷ []) ≡ refused (input 35) ∷ accepted ∷ []
+  -- before 11, which is found with 35 left out
+  own-before-parents : judgement (bytesOf leafOnItself) ≡ refused (input 35)
+  parents-left : judgementBy false (bytesOf leafOnItself) ≡ refused (input 11)
   -- "Such a sheet is refused as 10 today.": three arcs out of node 0, or into it; two of each were accepted
   three-out-before : judgementUnder mostArcsBefore (bytesOf (flatHall 4 (1 ∷ 2 ∷ 3 ∷ []))) ≡ refused (input 10)
   three-in-before : judgementUnder mostArcsBefore (bytesOf (flatHall 4 (0x400 ∷ 0x800 ∷ 0xc00 ∷ []))) ≡ refused (input 10)
@@ -60,9 +72,9 @@ record Cases : Type 0 where
 
 cases : Cases
 unfolding any count lead most column word kind payload top kindFrom arcsFrom regionWords tail head arcLength hold charged takenLength heightIn heightOf
-    leafWord parentWord arcWord judgement refusalsUnder formRefusals countRefusals arcRefusals divisionRefusals wrongSize wrongSections wrongHolds outOfOrder
-    bitSet nodesOutside sourceOutside spansOutside tooMany endsOutside lengthsOutside holdsOutside crowdedNodes tooManyAtNode wrongParents wrongLeaves
-    childlessRegions spansDiffer
+    leafWord parentWord arcWord judgementBy refusalsBy formRefusals countRefusals arcRefusals divisionRefusals wrongSize wrongSections wrongHolds outOfOrder
+    bitSet nodesOutside sourceOutside spansOutside tooMany endsOutside lengthsOutside holdsOutside crowdedNodes tooManyAtNode selfArc selfArcs
+    wrongParents wrongLeaves childlessRegions spansDiffer
 cases = record {
   held = refl;
   held-elsewhere = refl;
@@ -76,6 +88,10 @@ cases = record {
   own-and-out = refl;
   parallel = refl;
   four-own = refl;
+  four-own-left-out = refl;
+  own-elsewhere = refl;
+  own-before-parents = refl;
+  parents-left = refl;
   three-out-before = refl;
   three-in-before = refl;
   two-before = refl;

@@ -1,25 +1,30 @@
 -- What it means of a sheet that one refusal does not apply to it: the facts that the judge needs before the sheet is accepted.
 -- All that an accepted sheet ensures stands in `Accepted`.
-use Prim.Native.Nat.{ℕ, _/_, _%_, _<_, _≤_}
+use Prim.Native.Nat.{ℕ, _*_, _/_, _%_, _<_, _≤_}
 use mathlib.Core.Bool.{Bool, true, false, not, _||_}
 use mathlib.Core.List.{List}
 use mathlib.Core.Logic.{_↔_}
 use mathlib.Core.Path.{_≡_}
-use borrow.Author.Tests.{ltb-false, leb-false, le-ltb}
+use borrow.Author.Tests.{eqb-true, ltb-false, leb-false, le-ltb, not-false}
 use native.Mathlib.Omega.{arith}
 use lib.ListN.{length}
 use lib.Dec.{ltb, leb, eqb}
-use Rattle.indices.specs.Tests.{count}
+use Rattle.indices.specs.Tests.{any, count}
 use Rattle.indices.proofs.Tests.{any-at, any-false, or-left, or-right, neither}
-use Rattle.sheet.specs.Limits.{mostBytes, mostNodes, mostSpans, mostArcs, mostRegionWords}
-use Rattle.sheet.specs.Words.{words, kind}
+use Rattle.sheet.specs.Limits.{mostBytes, mostNodes, mostSpans, mostArcs, mostRegionWords, arcNumbers, regionNumbers}
+use Rattle.sheet.specs.Words.{words, kind, payload}
 use Rattle.sheet.specs.Sections.{nodeCount, spanCount, arcCount, regionWords}
 use Rattle.sheet.specs.Arcs.{tail, head, endOf}
-use Rattle.judgement.specs.Form.{wrongSize, wrongFront, wrongSections, wrongHolds, outOfOrder, nodesOutside, tooMany}
+use Rattle.sheet.specs.Regions.{leafWord}
+use Rattle.judgement.specs.Form.{wrongSize, wrongFront, wrongSections, wrongHolds, outOfOrder, arcBits, leafBits, bitSet, nodesOutside, tooMany}
 use Rattle.judgement.specs.Arcs.{endOutside, endsOutside, endsAt, crowded, crowdedNodes, tooManyAtNode}
 
 module _ (b : List ℕ) where
-  -- 1. a sheet of the right size has few words
+  -- 1. a sheet of the right size has whole words, and few of them
+  pub whole-words : wrongSize b ≡ false → length b % 4 ≡ 0
+  unfolding wrongSize
+  whole-words ok = eqb-true (length b % 4) 0 (not-false (eqb (length b % 4) 0) (or-left (not (eqb (length b % 4) 0)) (ltb mostBytes (length b)) ok))
+
   pub few-words : wrongSize b ≡ false → words b ≤ mostBytes / 4
   unfolding wrongSize
   few-words ok = omega (arith, ltb-false mostBytes (length b) (or-right (not (eqb (length b % 4) 0)) (ltb mostBytes (length b)) ok))
@@ -39,6 +44,15 @@ module _ (b : List ℕ) where
   front-there ok =
       ltb-false (words b) 2
       (or-left (ltb (words b) 2) _ (or-left (ltb (words b) 2 || not (eqb (kind b 0) 1)) _ (or-left (wrongFront b) _ ok)))
+
+  -- 3. a leaf's word has nothing above its parent
+  pub leaf-clear : bitSet b ≡ false → (k : ℕ) → k < words (regionWords b) → leafWord (regionWords b) k ≡ true
+      → payload (regionWords b) k < regionNumbers * arcNumbers
+  unfolding bitSet
+  leaf-clear ok k l leaf =
+      let d = regionWords b in
+      let here = any-at (leafBits d) (words d) k (or-right (any (arcBits b) (arcCount b)) (any (leafBits d) (words d)) ok) l in
+      leb-false 8388608 (payload d k) (rw leaf at here)
 
   -- 4. nodes
   pub few-nodes : nodesOutside b ≡ false → nodeCount b ≤ mostNodes

@@ -1,6 +1,6 @@
 -- The kinds of an accepted sheet, by place: the first two words, the spans, the holds, both words of each arc, the region words.
 use Prim.Native.Nat.{ℕ, _+_, _*_, _/_, _%_, _<_}
-use mathlib.Core.Bool.{true, not, _||_}
+use mathlib.Core.Bool.{Bool, true, not, _||_}
 use mathlib.Core.Path.{_≡_, sym, ap, _∙_}
 use mathlib.Core.Logic.{_⊎_, inl, inr}
 use mathlib.Core.List.{List}
@@ -14,7 +14,7 @@ use Rattle.sheet.specs.Sections.{ofKind, isArc, kindFrom, arcsFrom, spanCount, 
 use Rattle.sheet.specs.Sections.{regionWords}
 use Rattle.sheet.proofs.Bounds.{region-kind}
 use Rattle.judgement.specs.Form.{wrongFront, wrongSections}
-use Rattle.judgement.specs.Judgement.{Accepted}
+use Rattle.judgement.specs.Judgement.{AcceptedBy}
 use Rattle.judgement.proofs.Clear.{in-sections}
 use Rattle.judgement.proofs.Accepted.{none-applies, region-kinds}
 
@@ -33,7 +33,8 @@ module _ (b : List ℕ) where
   unfolding arcsFrom
   arc-there a l = lead-true (isArc b (arcsAt b)) _ a l
 
-  arc-kinds : (a : ℕ) → a < arcCount b → (kind b (arcsAt b + 2 * a) ≡ 4) × (kind b (arcsAt b + 2 * a + 1) ≡ 5)
+  -- both words of arc a
+  pub arc-kinds : (a : ℕ) → a < arcCount b → (kind b (arcsAt b + 2 * a) ≡ 4) × (kind b (arcsAt b + 2 * a + 1) ≡ 5)
   arc-kinds a l =
       let ends = eqb (kind b (arcsAt b + 2 * a)) 4 in
       let length = eqb (kind b (arcsAt b + 2 * a + 1)) 5 in
@@ -49,7 +50,7 @@ module _ (b : List ℕ) where
       (λ even. let place : arcsAt b + j ≡ arcsAt b + 2 * a = omega arith in inl (ap (kind b) place ∙ kinds .0))
       (λ odd. let place : arcsAt b + j ≡ arcsAt b + 2 * a + 1 = omega arith in inr (ap (kind b) place ∙ kinds .1))
 
-  module _ (ok : Accepted b) where
+  module _ {retired : Bool} (ok : AcceptedBy retired b) where
     -- "kind 1, once", "kind 2, once"
     pub front-kinds : (kind b 0 ≡ 1) × (kind b 1 ≡ 2)
     unfolding wrongSections

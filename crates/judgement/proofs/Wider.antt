@@ -8,8 +8,8 @@ use native.Mathlib.Omega.{arith}
 use Rattle.sheet.specs.Sections.{spanCount, arcCount, regionWords}
 use Rattle.answer.specs.Answer.{input, Answer, refused, _when_, lowest}
 use Rattle.answer.proofs.Lowest.{lowest-less}
-use Rattle.judgement.specs.Arcs.{endsOutside, lengthsOutside, holdsOutside, tooManyAtNode}
-use Rattle.judgement.specs.Judgement.{formRefusals, countRefusals, arcRefusals, divisionRefusals, refusalsUnder, judgementUnder}
+use Rattle.judgement.specs.Arcs.{endsOutside, lengthsOutside, holdsOutside, tooManyAtNode, selfArcs}
+use Rattle.judgement.specs.Judgement.{formRefusals, countRefusals, arcRefusals, divisionRefusals, refusalsBy, refusalsUnder, judgementUnder}
 use Rattle.judgement.proofs.Clear.{few-at-nodes}
 
 module _ (few most : ℕ) (wider : few ≤ most) (b : List ℕ) where
@@ -19,7 +19,7 @@ module _ (few most : ℕ) (wider : few ≤ most) (b : List ℕ) where
 
   -- whatever is looked at after the sheet's own refusals, the answer is the same
   pub same-lowest : judgementUnder few b ≢ refused (input 10) → (answer : Answer) → lowest (refusalsUnder most b) answer ≡ lowest (refusalsUnder few b) answer
-  unfolding refusalsUnder formRefusals countRefusals arcRefusals
+  unfolding refusalsBy formRefusals countRefusals arcRefusals
   same-lowest other answer =
-      lowest-less (divisionRefusals (regionWords b) (arcCount b) (spanCount b)) (input 10) none-too-many answer
+      lowest-less (input 35 when selfArcs b ∷ divisionRefusals (regionWords b) (arcCount b) (spanCount b)) (input 10) none-too-many answer
       (formRefusals b ++ (countRefusals b ++ (input 8 when endsOutside b ∷ input 9 when lengthsOutside b ∷ input 34 when holdsOutside b ∷ []))) other

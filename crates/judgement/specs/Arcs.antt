@@ -1,4 +1,4 @@
--- Refusals 8 to 10 of a sheet, and 34 after 9, those of its arcs, each beside its line of the paper. Definitions.
+-- Refusals 8 to 10 of a sheet, 34 after 9 and 35 after 10, those of its arcs, each beside its line of the paper. Definitions.
 use Prim.Native.Nat.{ℕ}
 use mathlib.Core.List.{List}
 use mathlib.Core.Bool.{Bool, true, false, _||_}
@@ -43,3 +43,10 @@ crowdedNodes limit heads b = any (crowded limit heads b) (nodeCount b)
 
 unfoldable pub tooManyAtNode : ℕ → List ℕ → Bool
 tooManyAtNode limit b = crowdedNodes limit false b || crowdedNodes limit true b
+
+-- 2026-09: "35, an arc from a node to itself, after 10."
+unfoldable pub selfArc : List ℕ → ℕ → Bool
+selfArc b a = eqb (tail b a) (head b a)
+
+unfoldable pub selfArcs : List ℕ → Bool
+selfArcs b = any (selfArc b) (arcCount b)

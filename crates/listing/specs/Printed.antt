@@ -1,26 +1,28 @@
--- What `marks` prints of a sheet, as bytes, and what a report of it leaves in what is lent. Definitions.
+-- What `marks` prints of a sheet, as bytes, and what a report of it leaves in what is lent; and what `converter` writes. Definitions.
 use Prim.Native.Nat.{ℕ}
+use mathlib.Core.Bool.{false}
 use mathlib.Core.Path.{_≡_}
 use mathlib.Core.List.{List, _++_}
 use lib.ListN.{length, drop}
 use Rattle.indices.specs.Steps.{if_then_else_}
 use Rattle.sheet.specs.Sections.{nodeCount, spanCount}
 use Rattle.answer.specs.Answer.{numberOf, Answer, accepted, ended, paused, route, noRoute, written, refused, isRefused}
-use Rattle.judgement.specs.Judgement.{judgement}
+use Rattle.judgement.specs.Judgement.{judgementBy, judgement}
 use Rattle.procedure.specs.Procedure.{enoughRounds}
+use Rattle.conversion.specs.Converted.{converted}
 use Rattle.calls.specs.Tables.{tableLength}
 use Rattle.calls.specs.Runs.{runTable}
 use Rattle.listing.specs.Listing.{listingOf, refusedLine}
 
--- the line of a refusal; of any other answer the listing
+-- the line of a refusal; of any other answer the text given
 abbrev pub textOf : Answer → List ℕ → List ℕ
-textOf (refused r) listing = refusedLine (numberOf r)
-textOf accepted listing = listing
-textOf ended listing = listing
-textOf paused listing = listing
-textOf (route n) listing = listing
-textOf noRoute listing = listing
-textOf (written n) listing = listing
+textOf (refused r) text = refusedLine (numberOf r)
+textOf accepted text = text
+textOf ended text = text
+textOf paused text = text
+textOf (route n) text = text
+textOf noRoute text = text
+textOf (written n) text = text
 
 -- the table of the run to its end
 abbrev pub endTable : List ℕ → List ℕ
@@ -51,3 +53,7 @@ wordsAfter b table = wordsBy (judgement b) b table
 pub record Reported (b table out tableAfter outAfter : List ℕ) (n : ℕ) : Type 0 where
   pub text : Filled out (printed b) outAfter n
   pub words : tableAfter ≡ wordsAfter b table
+
+-- 2026-09: "A converter takes a sheet at fault in nothing else": the bytes of the converted sheet, or the line of its refusal, 35 left out
+unfoldable pub convertedText : List ℕ → List ℕ
+convertedText b = textOf (judgementBy false b) (converted b)

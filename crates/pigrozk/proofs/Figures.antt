@@ -1,5 +1,5 @@
--- The figure in an answer is small: only an accepted sheet is answered with one, a route has no more arcs than the hall has nodes, and a canonical form
--- has as many bytes as the sheet.
+-- The figure in an answer is small: only a sheet that is accepted, with 35 or without it, is answered with one, a route has no more arcs than the hall has
+-- nodes, a canonical form has as many bytes as the sheet, and a converted sheet no more.
 use Prim.Native.Nat.{ℕ, zero, suc, _%_, _≤_, _<_}
 use native.Mathlib.Omega.{arith}
 use mathlib.Core.Bool.{Bool, true, false, not, cond}
@@ -12,24 +12,26 @@ use Rattle.indices.specs.Columns.{at}
 use Rattle.indices.specs.Steps.{if_then_else_}
 use Rattle.indices.proofs.Steps.{by-truth}
 use Rattle.indices.proofs.Tests.{or-right}
-use Rattle.sheet.specs.Limits.{mostNodes, mostBytes}
+use Rattle.sheet.specs.Limits.{mostNodes, mostBytes, mostArcsEachWay}
 use Rattle.sheet.specs.Sections.{nodeCount}
 use Rattle.sheet.specs.Words.{payloads, top}
 use Rattle.answer.specs.Answer.{state, Answer, accepted, route, noRoute, refused, Case, lowest}
 use Rattle.answer.specs.Inner.{figureOf}
 use Rattle.answer.proofs.Lowest.{refused≢accepted}
 use Rattle.judgement.specs.Form.{wrongSize}
-use Rattle.judgement.specs.Judgement.{refusals, judgement, Accepted}
+use Rattle.judgement.specs.Judgement.{refusalsBy, refusals, otherRefusals, judgementBy, AcceptedBy, Accepted, Convertible}
 use Rattle.judgement.proofs.Accepted.{none-applies, few-nodes}
 use Rattle.procedure.specs.Graph.{Graph, tail}
 use Rattle.procedure.specs.OfSheet.{graphOf}
 use Rattle.procedure.specs.Routes.{followed}
 use Rattle.procedure.proofs.OfSheet.{graph-nodes}
 use Rattle.canonical_form.proofs.Form.{canonical-length}
+use Rattle.conversion.proofs.Accepted.{no-longer}
 use Rattle.calls.specs.Calls.{Call, callRefusals}
 use Rattle.calls.specs.Tables.{labelIn, predecessorsIn}
 use Rattle.calls.specs.Routes.{routeTo, foundRoute, routeCall, routeAnswer}
 use Rattle.calls.specs.Canonical.{canonicalCall, canonicalAnswer}
+use Rattle.calls.specs.Convert.{convertCall, convertAnswer}
 
 -- where no case of a list applies, none of its front does
 front-clear : (xs ys : List Case) → lowest (xs ++ ys) accepted ≡ accepted → lowest xs accepted ≡ accepted
@@ -38,9 +40,10 @@ front-clear (x ∷ xs) ys e =
     by-truth (x .applies) (λ h. absurd (refused≢accepted (x .refusal) (rw h at e))) (λ h. rw h (front-clear xs ys (rw h at e)))
 
 -- where a call is answered, the sheet is accepted
-pub answered-accepted : (b : List ℕ) (call : Call) → lowest (callRefusals (refusals b) call) accepted ≡ accepted → Accepted b
-unfolding judgement
-answered-accepted b call e = front-clear (refusals b) (call .later) e
+pub answered-accepted : (b : List ℕ) {retired : Bool} (call : Call) → lowest (callRefusals (refusalsBy mostArcsEachWay retired b) call) accepted ≡ accepted
+    → AcceptedBy retired b
+unfolding judgementBy
+answered-accepted b {retired} call e = record { judged = front-clear (refusalsBy mostArcsEachWay retired b) (call .later) e }
 
 -- a refusal has no figure
 figure-below : (n : ℕ) → 0 < n → (cs : List Case) (a : Answer) → (lowest cs accepted ≡ accepted → figureOf a < n) → figureOf (lowest cs a) < n
@@ -84,12 +87,21 @@ module _ (b table : List ℕ) (node : ℕ) (buffer : List ℕ) where
       figure-below payloads (omega arith) (callRefusals (refusals b) call) (foundRoute b table node buffer)
       (λ clear. omega (arith, found-within, way-within (answered-accepted b call clear)))
 
+-- an accepted sheet has few bytes
+short-sheet : (b : List ℕ) {retired : Bool} → AcceptedBy retired b → length b ≤ mostBytes
+unfolding wrongSize
+short-sheet b ok = ltb-false mostBytes (length b) (or-right (not (eqb (length b % 4) 0)) (ltb mostBytes (length b)) (none-applies b ok .size))
+
 pub few-bytes : (b out : List ℕ) → figureOf (canonicalAnswer b out) < payloads
-unfolding canonicalAnswer wrongSize
+unfolding canonicalAnswer
 few-bytes b out =
     let call = canonicalCall b out in
     figure-below payloads (omega arith) (callRefusals (refusals b) call) (call .good)
-    (λ clear.
-    let ok = answered-accepted b call clear in
-    let few = ltb-false mostBytes (length b) (or-right (not (eqb (length b % 4) 0)) (ltb mostBytes (length b)) (none-applies b ok .size)) in
-    omega (arith, canonical-length b ok))
+    (λ clear. let ok : Accepted b = answered-accepted b call clear in omega (arith, canonical-length b ok, short-sheet b ok))
+
+pub few-converted : (b out : List ℕ) → figureOf (convertAnswer b out) < payloads
+unfolding convertAnswer
+few-converted b out =
+    let call = convertCall b out in
+    figure-below payloads (omega arith) (callRefusals (otherRefusals b) call) (call .good)
+    (λ clear. let ok : Convertible b = answered-accepted b call clear in omega (arith, no-longer b ok, short-sheet b ok))

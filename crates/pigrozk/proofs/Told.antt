@@ -12,14 +12,16 @@ use Rattle.indices.proofs.Steps.{by-truth}
 use Rattle.indices.proofs.Tests.{and-left, and-right}
 use Rattle.sheet.specs.Words.{top}
 use Rattle.answer.specs.Answer.{Refusal, input, state, Answer, accepted, ended, paused, route, noRoute, written, refused, Case, lowest}
-use Rattle.judgement.specs.Judgement.{formRefusals, countRefusals, arcRefusals, divisionRefusals, refusalsUnder, refusals, judgement}
+use Rattle.judgement.specs.Judgement.{formRefusals, countRefusals, arcRefusals, divisionRefusals, refusalsBy, refusals, otherRefusals, judgementBy, judgement}
 use Rattle.calls.specs.Calls.{callRefusals}
 use Rattle.calls.specs.Tables.{statusIn, labelIn}
 use Rattle.calls.specs.Runs.{runCall, runAnswer, runTable}
 use Rattle.calls.specs.Routes.{tableRefusals, routeTo, foundRoute, routeCall, routeAnswer}
 use Rattle.answer.specs.Codes.{codeOf, fromState, answerOf}
 use Rattle.canonical_form.specs.Canonical.{canonical}
+use Rattle.conversion.specs.Converted.{converted}
 use Rattle.calls.specs.Canonical.{canonicalCall, canonicalAnswer}
+use Rattle.calls.specs.Convert.{convertCall, convertAnswer}
 use Rattle.calls.specs.Resume.{resumeCall, resumeAnswer, resumedTable}
 use Rattle.pigrozk.proofs.Figures.{answered-accepted, way-within}
 
@@ -89,7 +91,7 @@ lowest-told (c ∷ cs) a rows told =
     (λ h. rw h (lowest-told cs a (and-right row _ rows) (λ clear. told (rw h clear))))
 
 pub judge-told : (b : List ℕ) → Told (judgement b)
-unfolding judgement refusalsUnder formRefusals countRefusals arcRefusals divisionRefusals answerOf
+unfolding judgementBy refusalsBy formRefusals countRefusals arcRefusals divisionRefusals answerOf
 judge-told b = lowest-told (refusals b) accepted refl (λ _. refl)
 
 status-told : (over : Bool) → Told (if over then ended else paused)
@@ -98,7 +100,7 @@ status-told true = refl
 status-told false = refl
 
 pub run-told : (b : List ℕ) (k : ℕ) (table : List ℕ) → Told (runAnswer b k table)
-unfolding runAnswer refusalsUnder formRefusals countRefusals arcRefusals divisionRefusals answerOf
+unfolding runAnswer refusalsBy formRefusals countRefusals arcRefusals divisionRefusals answerOf
 run-told b k table = lowest-told (callRefusals (refusals b) (runCall b k table)) _ refl (λ _. status-told (eqb (statusIn (runTable b k)) 1))
 
 module _ (b table : List ℕ) (node : ℕ) (buffer : List ℕ) where
@@ -112,16 +114,20 @@ module _ (b table : List ℕ) (node : ℕ) (buffer : List ℕ) where
       at false false = route-figure-told (length (routeTo b table node)) few
 
   pub route-told : Told (routeAnswer b table node buffer)
-  unfolding routeAnswer tableRefusals refusalsUnder formRefusals countRefusals arcRefusals divisionRefusals
+  unfolding routeAnswer tableRefusals refusalsBy formRefusals countRefusals arcRefusals divisionRefusals
   route-told =
       let call = routeCall b table node buffer in
       lowest-told (callRefusals (refusals b) call) _ refl
       (λ clear. found-told (omega (arith, way-within b table node buffer (answered-accepted b call clear))))
 
 pub canonical-told : (b out : List ℕ) → Told (canonicalAnswer b out)
-unfolding canonicalAnswer refusalsUnder formRefusals countRefusals arcRefusals divisionRefusals
+unfolding canonicalAnswer refusalsBy formRefusals countRefusals arcRefusals divisionRefusals
 canonical-told b out = lowest-told (callRefusals (refusals b) (canonicalCall b out)) _ refl (λ _. written-figure-told (length (canonical b)))
 
+pub convert-told : (b out : List ℕ) → Told (convertAnswer b out)
+unfolding convertAnswer refusalsBy formRefusals countRefusals arcRefusals divisionRefusals
+convert-told b out = lowest-told (callRefusals (otherRefusals b) (convertCall b out)) _ refl (λ _. written-figure-told (length (converted b)))
+
 pub resume-told : (b table : List ℕ) (k : ℕ) → Told (resumeAnswer b table k)
-unfolding resumeAnswer refusalsUnder formRefusals countRefusals arcRefusals divisionRefusals
+unfolding resumeAnswer refusalsBy formRefusals countRefusals arcRefusals divisionRefusals
 resume-told b table k = lowest-told (callRefusals (refusals b) (resumeCall b table k)) _ refl (λ _. status-told (eqb (statusIn (resumedTable b table k)) 1))

@@ -1,4 +1,4 @@
-// The library for C and Rust: the six calls, each answered by one number.
+// The library for C and Rust: the seven calls, each answered by one number.
 ghost use mathlib.Core.Path.{_≡_};
 ghost use mathlib.Core.Bool.{false};
 ghost use lib.ListN.{length};
@@ -10,6 +10,7 @@ ghost use Rattle.calls.specs.Tables.{tableLength, longLength, statusSays, statu
 ghost use Rattle.calls.specs.Runs.{runAnswer, tableAfter, Delivered, DeliveredLong};
 ghost use Rattle.calls.specs.Routes.{routeAnswer, bufferAfter, TableKnown};
 ghost use Rattle.calls.specs.Canonical.{canonicalAnswer, outAfter};
+ghost use Rattle.calls.specs.Convert.{convertAnswer, convertOut};
 ghost use Rattle.calls.specs.Resume.{resumeAnswer, resumeTable, StateKnown, Carried};
 ghost use Rattle.answer.specs.Codes.{codeOf};
 
@@ -67,6 +68,15 @@ pub extern "C" fn pigrozk_canonical(sheet: &[u8], out: &mut [u8]) -> u32
         × (now (out .exit) ≡ outAfter (now (sheet .entry)) (now (out .entry))) ⌝ }
 {
     answer::codes::copied_code(canonical::canonical(sheet, out))
+}
+
+// Writes the converted sheet at the front of `out`: the answer's code, and every byte of `out` afterwards.
+#[no_mangle]
+pub extern "C" fn pigrozk_convert(sheet: &[u8], out: &mut [u8]) -> u32
+    ensures { λ r. ⌜ (r ≡ codeOf (convertAnswer (now (sheet .entry)) (now (out .entry))))
+        × (now (out .exit) ≡ convertOut (now (sheet .entry)) (now (out .entry))) ⌝ }
+{
+    answer::codes::copied_code(convert::convert(sheet, out))
 }
 
 // Resumes a run from a longer table: the answer's code, every word of the table afterwards, and what the answer says of the table. Where the call is not

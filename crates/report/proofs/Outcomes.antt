@@ -24,7 +24,7 @@ module _ (b : List ℕ) {table out outAfter : List ℕ} {n : ℕ} where
   pub reported-listing : {spans nodes : ℕ} {words : List ℕ} → Accepted b → spans ≡ spanCount b → nodes ≡ nodeCount b → words ≡ endTable b
       → Filled out (listingOf (endTable b) spans nodes) outAfter n → Reported b table out (words ++ drop (tableLength nodes) table) outAfter n
   unfolding printed wordsAfter
-  reported-listing ok spanned same made lines = record { text = rw (ok, ← spanned, ← same) lines; words = rw (ok, same, made) }
+  reported-listing ok spanned same made lines = record { text = rw (ok .judged, ← spanned, ← same) lines; words = rw (ok .judged, same, made) }
 
 -- what a run of an accepted sheet leaves in a table of the usual length
 pub run-leaves : (b table : List ℕ) {nodes : ℕ} {after : List ℕ} → Accepted b → nodes ≡ nodeCount b → length table ≡ tableLength nodes

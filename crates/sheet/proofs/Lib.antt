@@ -6,3 +6,4 @@ pub mod Regions
 pub mod Samples
 pub mod Bytes
 pub mod RegionWords
+pub mod Assembled

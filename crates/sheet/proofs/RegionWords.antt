@@ -1,11 +1,15 @@
--- The fields of the word of a region are those that it is made of.
+-- The fields of the word of a region are those that it is made of, and a region word is made of its fields.
 use Prim.Native.Nat.{ℕ, _+_, _*_, _/_, _%_, _<_}
-use mathlib.Core.Bool.{Bool, true, false, cond}
+use mathlib.Core.Bool.{Bool, true, false, cond, _||_}
+use mathlib.Core.List.{List}
 use mathlib.Core.Path.{_≡_, refl}
+use borrow.Author.Tests.{eqb-true}
 use native.Mathlib.Omega.{arith}
+use lib.Dec.{eqb}
+use Rattle.indices.proofs.Steps.{by-truth}
 use Rattle.sheet.specs.Limits.{arcNumbers, regionNumbers}
-use Rattle.sheet.specs.Words.{kindOf, payloadOf}
-use Rattle.sheet.specs.Regions.{regionWord}
+use Rattle.sheet.specs.Words.{word, kindOf, payloadOf, kind, payload}
+use Rattle.sheet.specs.Regions.{leafWord, parentWord, arcWord, regionWord}
 use Rattle.sheet.proofs.Bytes.{payload-word, kind-word}
 
 module _ (p a : ℕ) (few : p < regionNumbers) where
@@ -24,3 +28,23 @@ module _ (p a : ℕ) (few : p < regionNumbers) where
 
   pub payload-arc : a < arcNumbers → (p * arcNumbers + a) % arcNumbers ≡ a
   payload-arc la = omega arith
+
+-- a leaf's word and an inner region's, from their fields
+leaf-again : (w : ℕ) → kindOf w ≡ 7 → payloadOf w < regionNumbers * arcNumbers
+    → regionWord true (payloadOf w / arcNumbers % regionNumbers) (payloadOf w % arcNumbers) ≡ w
+leaf-again w e l = omega arith
+
+inner-again : (w a : ℕ) → kindOf w ≡ 6 → regionWord false (payloadOf w) a ≡ w
+inner-again w a e = omega arith
+
+pub own-fields : (d : List ℕ) (k : ℕ) → eqb (kind d k) 6 || eqb (kind d k) 7 ≡ true → (leafWord d k ≡ true → payload d k < regionNumbers * arcNumbers)
+    → regionWord (leafWord d k) (parentWord d k) (arcWord d k) ≡ word d k
+unfolding leafWord parentWord arcWord kind payload
+own-fields d k kinds clear =
+    let w = word d k in
+    by-truth (eqb (kindOf w) 7) (λ e. rw e (leaf-again w (eqb-true (kindOf w) 7 e) (clear e)))
+    (λ e. rw e (inner-again w (payloadOf w % arcNumbers) (eqb-true (kindOf w) 6 (six (eqb (kindOf w) 6) (rw e at kinds)))))
+  where
+    six : (b : Bool) → b || false ≡ true → b ≡ true
+    six true h = refl
+    six false h = h

@@ -1,25 +1,18 @@
 -- Words written one after the other: the pairs of words passed so far, those of the counts and of the nodes, and header and nodes together.
-use Prim.Native.Nat.{ℕ, suc, _+_, _*_, _<_, _≤_}
+use Prim.Native.Nat.{ℕ, _+_, _*_, _<_, _≤_}
 use mathlib.Core.Bool.{Bool}
 use mathlib.Core.Path.{_≡_, refl, sym, ap, _∙_}
 use mathlib.Core.List.{List, [], _∷_, _++_, append-nil}
-use native.Mathlib.Nat.{add-zero}
 use native.Mathlib.Numerals.{add-one}
 use native.Mathlib.Omega.{arith}
-use lib.ListN.{length, set, take, drop-of-length-le, length-append}
+use lib.ListN.{length, take, drop-of-length-le, length-append}
 use lib.Seq.{sets, length-sets, sets-eq, take-suc, take-all, length-take-le}
 use Rattle.indices.specs.Columns.{at}
+use Rattle.indices.proofs.Stores.{sets-append}
 use Rattle.procedure.specs.Table.{statusWord, countWords, nodeWords, tableOf, headerLength}
 use Rattle.calls.proofs.Reading.{countPair, count-words-length, nodePair, next-node-words, node-words-length}
 use Rattle.table.specs.Countable.{Countable}
 use Rattle.table.specs.Writable.{Listed}
-
--- words, and then the words after them
-pub sets-append : (l : List ℕ) (i : ℕ) (xs ys : List ℕ) → sets l i (xs ++ ys) ≡ sets (sets l i xs) (i + length xs) ys
-sets-append l i [] ys = ap (λ (k : ℕ). sets l k ys) (sym (add-zero i))
-sets-append l i (x ∷ xs) ys =
-    let next : suc i + length xs ≡ i + suc (length xs) = omega arith in
-    sets-append (set l i x) (suc i) xs ys ∙ ap (λ (k : ℕ). sets (sets (set l i x) (suc i) xs) k ys) next
 
 -- words that fill a list are what it then holds
 pub sets-whole : (l vs : List ℕ) → length vs ≡ length l → sets l 0 vs ≡ vs

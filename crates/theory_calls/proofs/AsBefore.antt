@@ -8,7 +8,7 @@ use native.Mathlib.Omega.{arith}
 use Rattle.sheet.specs.Limits.{mostArcsEachWay, mostArcsBefore}
 use Rattle.answer.specs.Answer.{input, Answer, accepted, refused, lowest}
 use Rattle.answer.proofs.Lowest.{lowest-append, refused≢accepted}
-use Rattle.judgement.specs.Judgement.{refusalsUnder, judgementUnder, judgement, Accepted}
+use Rattle.judgement.specs.Judgement.{refusalsUnder, judgementUnder, judgementBy, judgement, Accepted}
 use Rattle.judgement.proofs.Wider.{same-lowest}
 use Rattle.calls.specs.Calls.{Call, callAnswer, lentAfter}
 use Rattle.calls.specs.Runs.{runCall, runAnswer, tableAfter}
@@ -34,7 +34,7 @@ module _ (b : List ℕ) (other : judgementUnder mostArcsBefore b ≢ refused (in
 
   -- and so for the judge, a run of any number of rounds and the route reader
   pub judged-as-before : judgement b ≡ judgementUnder mostArcsBefore b
-  unfolding judgement
+  unfolding judgementBy
   judged-as-before = as-before .judged
 
   pub run-as-before : (k : ℕ) (table : List ℕ) → let call = runCall b k table in
@@ -63,7 +63,7 @@ module _ (b : List ℕ) (was : judgementUnder mostArcsBefore b ≡ accepted) whe
   not-ten ten = refused≢accepted (input 10) (sym ten ∙ was)
 
   pub accepted-before : Accepted b
-  accepted-before = judged-as-before b not-ten ∙ was
+  accepted-before = record { judged = judged-as-before b not-ten ∙ was }
 
   pub table-as-before : (k : ℕ) (table : List ℕ) → tableAfter b k table ≡ lentAfter (refusalsUnder mostArcsBefore b) (runCall b k table)
   table-as-before k table = run-as-before b not-ten k table .1

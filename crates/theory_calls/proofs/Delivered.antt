@@ -1,14 +1,14 @@
 -- Every table that a run of an accepted sheet leaves, in either form, says what its rounds have reached, with small counts and labels, and where it is left as
 -- ended it is shortest, and shows as much work as request 2026-03 says; and the run to its end has ended.
 use Prim.Native.Nat.{ℕ, _^_, _<_}
-use mathlib.Core.Bool.{true}
+use mathlib.Core.Bool.{Bool, true}
 use mathlib.Core.Path.{_≡_, refl}
 use mathlib.Core.List.{List}
 use lib.ListN.{length}
 use Rattle.indices.specs.Columns.{at}
 use Rattle.sheet.specs.Limits.{mostArcsEachWay}
 use Rattle.sheet.specs.Sections.{nodeCount, arcCount}
-use Rattle.judgement.specs.Judgement.{Accepted}
+use Rattle.judgement.specs.Judgement.{AcceptedBy}
 use Rattle.procedure.specs.OfSheet.{graphOf, divisionOf, spansOf}
 use Rattle.procedure.specs.Procedure.{enoughRounds, final}
 use Rattle.procedure.specs.Table.{keyWords}
@@ -26,7 +26,7 @@ use Rattle.theory_calls.specs.Tabled.{Tabled}
 use Rattle.theory_calls.proofs.Formed.{each-count, usual-long, said-status, said-counts, said-levels, said-updates, said-unused}
 use Rattle.theory_calls.proofs.Formed.{said-labels, said-predecessors, said-bounded, said-shortest}
 
-module _ (b : List ℕ) (ok : Accepted b) where
+module _ (b : List ℕ) {retired : Bool} (ok : AcceptedBy retired b) where
   pub well : WellFormed mostArcsEachWay (graphOf b) (divisionOf b) (spansOf b)
   well = accepted-well-formed b ok
 

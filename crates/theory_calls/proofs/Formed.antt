@@ -16,7 +16,7 @@ use Rattle.indices.proofs.Tests.{neither, or-if, right-kind, any-false}
 use Rattle.sheet.specs.Limits.{mostSpans, mostArcsEachWay}
 use Rattle.sheet.specs.Words.{top}
 use Rattle.sheet.specs.Sections.{nodeCount, arcCount, spanCount}
-use Rattle.judgement.specs.Judgement.{Accepted}
+use Rattle.judgement.specs.Judgement.{AcceptedBy}
 use Rattle.procedure.specs.Graph.{arcs}
 use Rattle.procedure.specs.OfSheet.{graphOf, divisionOf, spansOf}
 use Rattle.procedure.specs.State.{State, counts}
@@ -43,7 +43,7 @@ use Rattle.calls.proofs.LongReading.{same-status, same-count, same-labels, same
 pub each-count : (s : State) → length (s .inner) ≡ mostSpans → (n : ℕ) → Below n s → (i : ℕ) → i < countsLength → at (counts s) i < n
 each-count s fifteen n below = each-place s fifteen (λ _ c. c < n) (below .rounds) (below .leaves) (λ i _. below .inner i) (below .updates)
 
-module _ (b : List ℕ) (ok : Accepted b) (s : State) (T : Tabled b s) where
+module _ (b : List ℕ) {retired : Bool} (ok : AcceptedBy retired b) (s : State) (T : Tabled b s) where
   abbrev well : WellFormed mostArcsEachWay (graphOf b) (divisionOf b) (spansOf b)
   well = accepted-well-formed b ok
 

@@ -8,6 +8,7 @@ pub mod Correct
 pub mod Work
 pub mod Marked
 pub mod Canonical
+pub mod Convert
 pub mod AsBefore
 pub mod WithoutHolds
 pub mod AddsUp

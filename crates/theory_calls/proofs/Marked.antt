@@ -1,11 +1,11 @@
 -- The marked cases of the paper as a table, and cases of change requests with them, computed from the definitions: a call, what it answers, and what is then in
 -- what was lent or is printed.
 use Prim.Native.Nat.{ℕ}
-use mathlib.Core.Bool.{Bool}
+use mathlib.Core.Bool.{Bool, false}
 use mathlib.Core.List.{List, [], _∷_, _++_, map}
 use mathlib.Core.Path.{_≡_, refl}
 use lib.ListN.{take, drop, set, replicate}
-use Rattle.indices.specs.Columns.{column}
+use Rattle.indices.specs.Columns.{column, selected}
 use Rattle.indices.specs.Steps.{if_then_else_, upTo, times}
 use Rattle.indices.specs.Tests.{all, any, count, lead, most, least}
 use Rattle.sheet.specs.Words.{word, kind, payload, top, bytesOf}
@@ -17,9 +17,9 @@ use Rattle.sheet.proofs.Samples.{mostOfHallA, hallA, hallAWith, heldA, andBack,
 use Rattle.sheet.proofs.Samples.{turntable, fiveIn, fiveOut}
 use Rattle.answer.specs.Answer.{input, state, Answer, accepted, ended, paused, route, written, refused}
 use Rattle.judgement.specs.Form.{wrongSize, wrongSections, wrongHolds, outOfOrder, bitSet, nodesOutside, sourceOutside, spansOutside, tooMany}
-use Rattle.judgement.specs.Arcs.{endsOutside, lengthsOutside, holdsOutside, crowdedNodes, tooManyAtNode}
+use Rattle.judgement.specs.Arcs.{endsOutside, lengthsOutside, holdsOutside, crowdedNodes, tooManyAtNode, selfArc, selfArcs}
 use Rattle.judgement.specs.Division.{wrongParents, wrongLeaves, childlessRegions, spansDiffer}
-use Rattle.judgement.specs.Judgement.{formRefusals, countRefusals, arcRefusals, divisionRefusals, refusalsUnder, judgement}
+use Rattle.judgement.specs.Judgement.{formRefusals, countRefusals, arcRefusals, divisionRefusals, refusalsBy, judgementBy, judgement, Accepted}
 use Rattle.procedure.specs.Division.{leafOf}
 use Rattle.procedure.specs.OfSheet.{graphOf, divisionOf, spansOf}
 use Rattle.procedure.specs.Queues.{before, choose, minItemBelow, minItem, minKey, write, updateFor, update, updateArc, updateOutgoing}
@@ -46,6 +46,9 @@ use Rattle.procedure.specs.Table.{nodeWords, tableOf, keyWords}
 use Rattle.procedure.specs.Routes.{followed}
 use Rattle.canonical_form.specs.Numbering.{sooner, ancestor, holds, lowestArc, pathFor, path, newNumber, oldNumber}
 use Rattle.canonical_form.specs.Canonical.{newWord, frontWords, newWords, canonical}
+use Rattle.conversion.specs.Kept.{leftAfter, left}
+use Rattle.conversion.specs.Converted.{newArc, keptLeaf, keptRegion, newRegion, arcPair, convertedArcs, newWord as renumberedWord, convertedRegions}
+use Rattle.conversion.specs.Converted.{newHeight, convertedSpans, convertedHolds, convertedWords, converted}
 use Rattle.canonical_form.proofs.Cases.{neatHallA, renumbered, tied, tiedRenumbered}
 use Rattle.theory_shortest.specs.TableTest.{leadsBack, sourceTest, unfedTest, fedBy, relaxedTest, ledTest, settled?}
 use Rattle.calls.specs.Tables.{tableLength, longLength, isUsual, isLong, wrongLength, statusSays, statusIn, roundsIn, leavesIn, predecessorIn}
@@ -59,15 +62,17 @@ use Rattle.calls.specs.Possible.{boundTest, keylessTest, doneTest, soundTest, c
 use Rattle.calls.specs.Resume.{notLong, notPossible, resumed, resumedTable, resumeAnswer, resumeTable}
 use Rattle.calls.specs.AsBefore.{tableBefore}
 use Rattle.calls.specs.Canonical.{canonicalAnswer, outAfter}
+use Rattle.calls.specs.Convert.{convertAnswer, convertOut}
 use Rattle.calls.proofs.Cases.{header, byTwosEnded, patientPaused}
 use Rattle.calls.proofs.ResumeCases.{usualA, pausedA, endedA}
 use Rattle.listing.specs.Text.{ascii, lastDigits, decimal}
 use Rattle.listing.specs.Listing.{cell, spaced, status, counted, levels, inner, statusLine, nodeLine, nodeLines, listingOf, refusedLine}
-use Rattle.listing.specs.Printed.{printed}
+use Rattle.listing.specs.Printed.{printed, convertedText}
 
 -- a call as a case names it: to judge a sheet, given by its words; to run it for at most so many rounds, with a table lent; to read the route to a node
 -- out of a table, with a buffer lent; what `marks` does, to run a sheet to its end and print; to run it as it was before request 2026-02; to run it and
--- look at the work done; to write its canonical form into a buffer of bytes; to resume it for at most so many rounds, with a table lent
+-- look at the work done; to write its canonical form into a buffer of bytes; to convert it into one; what `converter` does, to write what it is converted
+-- to; to resume it for at most so many rounds, with a table lent
 pub data Task : Type 0 where
   judge : List ℕ → Task
   run : List ℕ → ℕ → List ℕ → Task
@@ -76,6 +81,8 @@ pub data Task : Type 0 where
   runBefore : List ℕ → ℕ → Task
   work : List ℕ → ℕ → Task
   copy : List ℕ → List ℕ → Task
+  convert : List ℕ → List ℕ → Task
+  writeConverted : List ℕ → Task
   resume : List ℕ → ℕ → List ℕ → Task
 
 -- a condition as a figure: 1 where it holds
@@ -97,6 +104,8 @@ outcome (run ws k table) = record { answer = runAnswer (bytesOf ws) k table; wor
 outcome (runBefore ws k) = let table = tableBefore (bytesOf ws) k in record { answer = statusSays (statusIn table); words = table }
 outcome (work ws k) = let table = runTable (bytesOf ws) k in record { answer = statusSays (statusIn table); words = workIn (bytesOf ws) table }
 outcome (copy ws out) = record { answer = canonicalAnswer (bytesOf ws) out; words = outAfter (bytesOf ws) out }
+outcome (convert ws out) = record { answer = convertAnswer (bytesOf ws) out; words = convertOut (bytesOf ws) out }
+outcome (writeConverted ws) = record { answer = judgementBy false (bytesOf ws); words = convertedText (bytesOf ws) }
 outcome (resume ws k table) = record { answer = resumeAnswer (bytesOf ws) table k; words = resumeTable (bytesOf ws) table k }
 outcome (print ws) = record { answer = judgement (bytesOf ws); words = printed (bytesOf ws) }
 outcome (readRoute ws table node buffer) =
@@ -113,12 +122,26 @@ t is a = record { task = t; expected = record { answer = a; words = [] } }
 abbrev _is_leaving_ : Task → Answer → List ℕ → Row
 t is a leaving ws = record { task = t; expected = record { answer = a; words = ws } }
 
--- a sheet whose first word is the given one; one node with an arc to itself whose second word is the given one; the one-node hall without its third word
+-- a sheet whose first word is the given one; two nodes with an arc whose second word is the given one; one node with an arc to itself, and the same without a
+-- leaf; the one-node hall without its third word
 abbrev startingWith : ℕ → List ℕ
 startingWith nodeWord = nodeWord ∷ 0x20000000 ∷ 0x30000001 ∷ []
 
-abbrev selfArc : ℕ → List ℕ
-selfArc lengthWord = 0x10000001 ∷ 0x20000000 ∷ 0x30000001 ∷ 0x40000000 ∷ lengthWord ∷ 0x70000000 ∷ []
+abbrev oneArc : ℕ → List ℕ
+oneArc lengthWord = 0x10000002 ∷ 0x20000000 ∷ 0x30000001 ∷ 0x40000001 ∷ lengthWord ∷ 0x70000000 ∷ []
+
+abbrev oneSelfArc : List ℕ
+oneSelfArc = 0x10000001 ∷ 0x20000000 ∷ 0x30000001 ∷ 0x40000000 ∷ 0x50000003 ∷ 0x70000000 ∷ []
+
+abbrev leafless : List ℕ
+leafless = take 5 oneSelfArc
+
+-- hall A with an arc from node 3 to itself before its arcs, whose leaf is alone in region 4, which is alone in region 3, in region 1; with an arc from node 1
+-- to itself behind them, whose leaf is in region 0; and with other words between its spans and its arcs
+abbrev recirculating : List ℕ → List ℕ
+recirculating ws =
+    take 4 hallA ++ ((0x30000009 ∷ 0x30000008 ∷ ws) ++ ((0x40000c03 ∷ 0x50000007 ∷ []) ++ (take 8 (drop 4 hallA) ++ (0x40000401 ∷ 0x50000009
+    ∷ 0x60000000 ∷ 0x60000000 ∷ 0x60000001 ∷ 0x60000003 ∷ 0x70002000 ∷ 0x70000801 ∷ 0x70000804 ∷ 0x70001002 ∷ 0x70001003 ∷ 0x70000005 ∷ []))))
 
 abbrev spanless : List ℕ
 spanless = 0x10000001 ∷ 0x20000000 ∷ []
@@ -208,8 +231,8 @@ rows =
     ∷ judge (startingWith 0x10000400) is accepted
     ∷ judge (startingWith 0x10000401) is refused (input 4)
     -- "Length 262,144: 9. 262,143 keeps the limit."
-    ∷ judge (selfArc 0x50040000) is refused (input 9)
-    ∷ judge (selfArc 0x5003ffff) is accepted
+    ∷ judge (oneArc 0x50040000) is refused (input 9)
+    ∷ judge (oneArc 0x5003ffff) is accepted
     -- "A with last word `70001001`: 12." "A with `60000000` added: 13."
     ∷ judge (mostOfHallA ++ (0x70001001 ∷ [])) is refused (input 12)
     ∷ judge (hallA ++ (0x60000000 ∷ [])) is refused (input 13)
@@ -356,15 +379,36 @@ rows =
     ∷ print (hallAWith (0xd0000000 ∷ 0xd0000000 ∷ 0xd0000000 ∷ [])) is refused (input 2) leaving ascii "refused 2\n"
     ∷ print (andBack 262140 0 4 0) is refused (input 34) leaving ascii "refused 34\n"
     ∷ judge (andBack 262140 4 3 4) is accepted
+    -- 2026-09: "Sheets that draw one are refused", "35, an arc from a node to itself", in every call
+    ∷ judge oneSelfArc is refused (input 35)
+    ∷ run oneSelfArc enoughRounds (replicate (tableLength 1) 7) is refused (input 35) leaving replicate (tableLength 1) 7
+    ∷ readRoute oneSelfArc (replicate (tableLength 1) 7) 0 (7 ∷ []) is refused (input 35) leaving (7 ∷ [])
+    ∷ copy oneSelfArc (7 ∷ []) is refused (input 35) leaving (7 ∷ [])
+    ∷ resume oneSelfArc 1 (replicate (longLength 1 1) 7) is refused (input 35) leaving replicate (longLength 1 1) 7
+    ∷ print oneSelfArc is refused (input 35) leaving ascii "refused 35\n"
+    -- "A converter takes a sheet at fault in nothing else, drops those arcs and their leaves", "Its byte length is returned; the rest of the output buffer
+    -- stays; a short one is 31."
+    ∷ convert oneSelfArc (replicate 14 7) is written 12 leaving (bytesOf oneNode ++ (7 ∷ 7 ∷ []))
+    ∷ convert oneSelfArc (replicate 11 7) is refused (input 31) leaving replicate 11 7
+    ∷ convert hallA (replicate 72 7) is written 72 leaving bytesOf hallA
+    -- two arcs go, and two regions one after the other: arcs and regions have the numbers of hall A; with the holds of hall A, which stay
+    ∷ convert (recirculating []) (replicate 91 7) is written 72 leaving (bytesOf hallA ++ replicate 19 7)
+    ∷ convert (recirculating (take 4 (drop 4 heldA))) (replicate 88 7) is written 88 leaving bytesOf heldA
+    -- and one at fault in something else, an arc without a leaf: 12, which the judge looks at after 35
+    ∷ convert leafless (7 ∷ []) is refused (input 12) leaving (7 ∷ [])
+    ∷ judge leafless is refused (input 35)
+    -- what the program writes
+    ∷ writeConverted oneSelfArc is accepted leaving bytesOf oneNode
+    ∷ writeConverted leafless is refused (input 12) leaving ascii "refused 12\n"
     ∷ []
 
 -- Where ties decide (2026-04): hall A and the same nesting under other numbers, and both with arc 0 shortened, all accepted; how many rounds the first two
 -- take, and which arc feeds node 1 in the others.
 pub record Ties : Type 0 where
-  pub hall-a-accepted : judgement (bytesOf hallA) ≡ accepted
-  pub renumbered-accepted : judgement (bytesOf renumbered) ≡ accepted
-  pub tied-accepted : judgement (bytesOf tied) ≡ accepted
-  pub tied-renumbered-accepted : judgement (bytesOf tiedRenumbered) ≡ accepted
+  pub hall-a-accepted : Accepted (bytesOf hallA)
+  pub renumbered-accepted : Accepted (bytesOf renumbered)
+  pub tied-accepted : Accepted (bytesOf tied)
+  pub tied-renumbered-accepted : Accepted (bytesOf tiedRenumbered)
   pub rounds : roundsIn (runTable (bytesOf hallA) enoughRounds) ≡ 3
   pub rounds-renumbered : roundsIn (runTable (bytesOf renumbered) enoughRounds) ≡ 2
   pub feeding : predecessorIn (runTable (bytesOf tied) enoughRounds) 1 ≡ 0
@@ -377,23 +421,25 @@ record Computed : Type 0 where
 
 computed : Computed
 unfolding any count lead most upTo times column word kind payload top kindFrom arcsFrom regionWords tail head arcLength hold charged takenLength heightIn
-    heightOf leafWord parentWord arcWord judgement refusalsUnder formRefusals countRefusals arcRefusals divisionRefusals wrongSize wrongSections wrongHolds
-    outOfOrder bitSet nodesOutside sourceOutside spansOutside tooMany endsOutside lengthsOutside holdsOutside crowdedNodes tooManyAtNode wrongParents
-    wrongLeaves childlessRegions spansDiffer leafOf graphOf divisionOf spansOf before choose minItemBelow minItem minKey write updateFor update updateArc
-    updateOutgoing relax clearKey processLeaf rewriteKey countAt countInner countInnerBefore countRound processChild alive hasEnded start processForBy
-    processBy roundBy afterBy nodeWords tableOf keyWords isUsual isLong wrongLength runAnswer runTable longRunTable filledTable tableAfter tableBefore all
-    labelsIn predecessorsIn followed leadsBack sourceTest unfedTest fedBy relaxedTest ledTest settled? nodeOutside wrongNode wrongKeys isPaused malformed
-    notShortest tableRefusals routeTo foundRoute routeAnswer leftBy bufferAfter lastDigits decimal cell spaced status counted levels inner statusLine nodeLine
-    nodeLines listingOf refusedLine printed allSpansOne leavesOnRoot reachedArcs least sooner ancestor holds lowestArc pathFor path newNumber oldNumber
-    newWord frontWords newWords canonical canonicalAnswer outAfter longTable hasKey ownIn keysOf stateIn boundTest keylessTest doneTest soundTest countsTest
-    statusTest possible? notLong notPossible resumed resumedTable resumeAnswer resumeTable
+    heightOf leafWord parentWord arcWord judgementBy refusalsBy formRefusals countRefusals arcRefusals divisionRefusals wrongSize wrongSections wrongHolds
+    outOfOrder bitSet nodesOutside sourceOutside spansOutside tooMany endsOutside lengthsOutside holdsOutside crowdedNodes tooManyAtNode selfArc selfArcs
+    wrongParents wrongLeaves childlessRegions spansDiffer leafOf graphOf divisionOf spansOf before choose minItemBelow minItem minKey write updateFor update
+    updateArc updateOutgoing relax clearKey processLeaf rewriteKey countAt countInner countInnerBefore countRound processChild alive hasEnded start
+    processForBy processBy roundBy afterBy nodeWords tableOf keyWords isUsual isLong wrongLength runAnswer runTable longRunTable filledTable tableAfter
+    tableBefore all labelsIn predecessorsIn followed leadsBack sourceTest unfedTest fedBy relaxedTest ledTest settled? nodeOutside wrongNode wrongKeys
+    isPaused malformed notShortest tableRefusals routeTo foundRoute routeAnswer leftBy bufferAfter lastDigits decimal cell spaced status counted levels inner
+    statusLine nodeLine nodeLines listingOf refusedLine printed allSpansOne leavesOnRoot reachedArcs least sooner ancestor holds lowestArc pathFor path
+    newNumber oldNumber newWord frontWords newWords canonical canonicalAnswer outAfter selected leftAfter left newArc keptLeaf keptRegion newRegion arcPair
+    convertedArcs renumberedWord convertedRegions newHeight convertedSpans convertedHolds convertedWords converted convertAnswer convertOut convertedText
+    longTable hasKey ownIn keysOf stateIn boundTest keylessTest doneTest soundTest countsTest statusTest possible? notLong notPossible resumed resumedTable
+    resumeAnswer resumeTable
 computed = record {
   each-row = refl;
   tied-halls = record {
-    hall-a-accepted = refl;
-    renumbered-accepted = refl;
-    tied-accepted = refl;
-    tied-renumbered-accepted = refl;
+    hall-a-accepted = record { judged = refl };
+    renumbered-accepted = record { judged = refl };
+    tied-accepted = record { judged = refl };
+    tied-renumbered-accepted = record { judged = refl };
     rounds = refl;
     rounds-renumbered = refl;
     feeding = refl;

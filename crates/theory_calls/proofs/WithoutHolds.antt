@@ -19,8 +19,8 @@ use Rattle.sheet.proofs.Holds.{taken-none}
 use Rattle.answer.specs.Answer.{input, Answer, accepted, refused, _when_, isRefused, lowest}
 use Rattle.answer.proofs.Lowest.{lowest-append, lowest-twice}
 use Rattle.judgement.specs.Form.{wrongSize, wrongSizeUnder, wrongSections, wrongHolds, outOfOrder, bitSet}
-use Rattle.judgement.specs.Arcs.{endsOutside, tooLong, lengthsOutside, tooLongHeld, holdsOutside, tooManyAtNode}
-use Rattle.judgement.specs.Judgement.{formRefusals, countRefusals, arcRefusals, divisionRefusals, refusalsUnder, refusals, judgement, Accepted}
+use Rattle.judgement.specs.Arcs.{endsOutside, tooLong, lengthsOutside, tooLongHeld, holdsOutside, tooManyAtNode, selfArcs}
+use Rattle.judgement.specs.Judgement.{formRefusals, countRefusals, arcRefusals, divisionRefusals, refusalsBy, refusals, judgementBy, judgement, Accepted}
 use Rattle.judgement.proofs.Accepted.{front-there, few-spans, few-arcs, few-region-words}
 use Rattle.procedure.specs.Graph.{Graph}
 use Rattle.procedure.specs.OfSheet.{graphOf}
@@ -75,11 +75,12 @@ module _ (b : List ℕ) (none : holdCount b ≡ 0) where
   -- so, where 1 applies as before, does the lowest of all
   module _ (size : wrongSize b ≡ wrongSizeUnder mostBytesBefore b) where
     same-lowest : (answer : Answer) → lowest (refusals b) answer ≡ lowest (refusalsUnheld b) answer
-    unfolding refusalsUnder refusalsUnheld formRefusals countRefusals arcRefusals
+    unfolding refusalsBy refusalsUnheld formRefusals countRefusals arcRefusals
     same-lowest answer =
         rw (size, same-order, same-lengths)
-        (lowest-twice (input 10 when tooManyAtNode mostArcsEachWay b ∷ divisionRefusals (regionWords b) (arcCount b) (spanCount b)) (input 9) (input 34)
-        (lengthsOutside b) answer
+        (lowest-twice
+        (input 10 when tooManyAtNode mostArcsEachWay b ∷ input 35 when selfArcs b ∷ divisionRefusals (regionWords b) (arcCount b) (spanCount b)) (input 9)
+        (input 34) (lengthsOutside b) answer
         (input 1 when wrongSizeUnder mostBytesBefore b ∷ input 2 when wrongSections b ∷ input 3 when bitSet b ∷ countRefusals b
         ++ (input 8 when endsOutside b ∷ [])))
 
@@ -116,7 +117,7 @@ module _ (b : List ℕ) (none : holdCount b ≡ 0) where
     copies out = same-on (λ g. canonicalCall b out) refl
 
     judged : judgement b ≡ lowest (refusalsUnheld b) accepted
-    unfolding judgement
+    unfolding judgementBy
     judged = same-lowest accepted
 
     same-unheld : SameUnheld b

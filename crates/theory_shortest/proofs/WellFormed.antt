@@ -1,4 +1,5 @@
--- The graph, the division and the spans of an accepted sheet are well formed: each field is the sheet's, of which the judgement tells.
+-- The graph, the division and the spans of an accepted sheet are well formed: each field is the sheet's, of which the judgement tells. 35 plays no part, so the
+-- same holds of a sheet that is at fault in nothing else.
 use Prim.Native.Nat.{ℕ, zero, suc, _≤_, _<_}
 use native.Mathlib.Omega.{arith}
 use mathlib.Core.Bool.{Bool, true, false, not, cond, _&&_}
@@ -15,7 +16,7 @@ use Rattle.sheet.specs.Regions.{regionCount, leafWord, arcWord, leafArc}
 use Rattle.sheet.proofs.Heights.{nesting-ext}
 use Rattle.judgement.specs.Arcs.{endsAt}
 use Rattle.judgement.specs.Division.{leafOfArc}
-use Rattle.judgement.specs.Judgement.{Accepted}
+use Rattle.judgement.specs.Judgement.{AcceptedBy}
 use Rattle.judgement.proofs.Accepted.{few-nodes, source-in, few-arcs, tail-in, head-in, taken-short, few-ends, few-region-words, nesting, leaf-arc, one-leaf, few-spans, span-positive, span-below, spans-height}
 use Rattle.procedure.specs.Graph.{arcs, tail}
 use Rattle.procedure.specs.Division.{Division, regions, arcOf, isLeaf, leafOf}
@@ -44,7 +45,7 @@ arc-word d a (suc k) l e = (k, refl, at-word (leafWord d k) e)
     at-word true e = eq-eqb (arcWord d k) a e
     at-word false e = absurd (omega arith)
 
-module _ (b : List ℕ) (ok : Accepted b) where
+module _ (b : List ℕ) {retired : Bool} (ok : AcceptedBy retired b) where
   is-arc : (a : ℕ) → a < arcs (graphOf b) → a < arcCount b
   is-arc a l = omega (arith, graph-arcs b)
 

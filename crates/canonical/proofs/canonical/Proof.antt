@@ -19,7 +19,7 @@ canonical-spec =
     (λ c κs. search needs)
     (λ c. search needs)
     (λ c. search needs)
-    (λ c κs. let told : tie.After-judge = search needs in sym (told .judge .ensures) ∙ ap judgeSaid (c .before .enum-told .given .1))
+    (λ c κs. let told : tie.After-judge = search needs in record { judged = sym (told .judge .ensures) ∙ ap judgeSaid (c .before .enum-told .given .1) })
     returns
     (λ c. search needs)
     (λ c. search needs))

@@ -3,7 +3,7 @@
 use Prim.Native.Nat.{ℕ, suc, _+_, _-_, _*_, _≤_, _<_}
 use mathlib.Core.Bool.{Bool, true, false, cond}
 use mathlib.Core.Path.{_≡_, refl, sym, ap, subst, _∙_}
-use mathlib.Core.List.{List, _++_}
+use mathlib.Core.List.{List, [], _∷_, _++_}
 use native.Mathlib.Omega.{arith}
 use lib.ListN.{length, drop, length-append}
 use Rattle.indices.specs.Columns.{at}
@@ -14,6 +14,8 @@ use Rattle.sheet.specs.Sections.{regionsAt, regionWords}
 use Rattle.sheet.specs.Regions.{regionCount, leafWord, parentWord, arcWord, regionWord}
 use Rattle.sheet.proofs.Bytes.{length-bytes}
 use Rattle.sheet.proofs.Bounds.{region-words, regions-inside}
+use Rattle.sheet_writer.specs.Words.{wordsPut, WordAt}
+use Rattle.sheet_writer.proofs.Words.{put-length, put-here, put-other, put-behind, words-written}
 use Rattle.judgement.proofs.Accepted.{front-there, few-region-words}
 use Rattle.judgement.proofs.Clear.{few-words}
 use Rattle.procedure.specs.Division.{Division, regions, parent}
@@ -24,9 +26,7 @@ use Rattle.canonical_form.specs.Canonical.{newWord, frontWords, newWords, canon
 use Rattle.canonical_form.proofs.Numbering.{new-in, new-apart, new-old, parent-first}
 use Rattle.canonical_form.proofs.Proper.{proper}
 use Rattle.canonical_form.proofs.Form.{length-front, length-new, canonical-length, size-right, front-entry, back-entry, region-in, region-later, number-in}
-use Rattle.canonical.specs.Words.{wordPut, WordAt}
 use Rattle.canonical.specs.Writing.{newRegionWord, Writable}
-use Rattle.canonical.proofs.words.Words.{put-length, put-here, put-other, put-outside, words-written}
 
 -- the arc of an inner region is in no word
 same-word : (leaf : Bool) (p a : ℕ) → regionWord leaf p (cond leaf a top) ≡ regionWord leaf p a
@@ -128,11 +128,11 @@ module _ {b d numbers : List ℕ} {e : ℕ} {before : List ℕ} (W : Writable b 
 
     -- the next one is placed: the word of its region with the new number of the parent
     pub placing-more : (i w p : ℕ) → i ≡ e + at numbers (k + 1) - 1 → w ≡ newRegionWord d k p → p ≡ at numbers (parentWord d k)
-        → Placing b numbers e before (wordPut out i w) (k + 1)
+        → Placing b numbers e before (wordsPut out i (w ∷ [])) (k + 1)
     placing-more i w p here made anew =
         let f = placing-bounds in
         record {
-          long = put-length out i w ∙ B .long;
+          long = put-length out i (w ∷ []) ∙ B .long;
           front = λ j lj. put-other out i w j (word b j) (λ same. omega (arith, f .number-some)) (B .front j lj);
           placed =
               λ j lj.
@@ -141,7 +141,7 @@ module _ {b d numbers : List ℕ} {e : ℕ} {before : List ℕ} (W : Writable b 
               (λ ne.
               put-other out i w (e + at numbers (j + 1) - 1) (newWord D (suc j)) (λ same. ne (places-apart j k (omega arith) l (same ∙ here)))
               (B .placed j (omega arith)));
-          kept = λ m lm. put-outside out i w m (λ same. omega (arith, whole)) ∙ B .kept m lm;
+          kept = λ m lm. put-behind out i (w ∷ []) m (omega (arith, whole)) ∙ B .kept m lm;
         }
 
   -- all region words are placed

@@ -7,7 +7,7 @@ use borrow.Author.Needs.{needs}
 use Rattle.indices.proofs.Tests.{neither}
 use Rattle.judgement.specs.Form.{wrongSize, outOfOrder}
 use Rattle.judgement.specs.Kinds.{wrongKinds}
-use Rattle.judgement.specs.Judgement.{formRefusals, refusalsUnder, judgement}
+use Rattle.judgement.specs.Judgement.{formRefusals, refusalsBy, judgementBy}
 use Rattle.judgement.proofs.Clear.{front-there}
 use Rattle.judgement.proofs.Order.{by-kinds, by-cases-or-holds}
 use Rattle.judge.proofs.lowest_refusal.Statement.{statement}
@@ -31,7 +31,7 @@ ordered : (c : tie.Else3) → outOfOrder (sheet (kinds-passed c .before .before)
 ordered c = by-cases-or-holds _ ∙ neither _ _ (kinds-right (kinds-passed c)) (sym (c .before .wrong-holds .ensures) ∙ c .if3 .left)
 
 pub lowest-refusal-spec : {M : Type 1} → statement M
-unfolding judgement refusalsUnder formRefusals
+unfolding judgementBy refusalsBy formRefusals
 lowest-refusal-spec =
     tie.close (tie.spec
     (λ c κs. search needs)

@@ -1,18 +1,13 @@
 -- Laws of writing into a buffer: a text written after another makes the two written as one, where both have room.
-use Prim.Native.Nat.{ℕ, suc, _+_, _≤_, _<_}
+use Prim.Native.Nat.{ℕ, _+_, _≤_, _<_}
 use mathlib.Core.Path.{_≡_, refl, sym, ap, _∙_}
 use mathlib.Core.List.{List, [], _∷_, _++_}
-use native.Mathlib.Nat.{add-suc, suc-add}
 use native.Mathlib.Numerals.{add-one}
 use native.Mathlib.Omega.{arith}
 use lib.ListN.{length, getD, set, take, length-append}
 use lib.Seq.{sets, length-sets, take-suc, take-all, length-take-le}
+use Rattle.indices.proofs.Stores.{sets-append}
 use Rattle.listing.specs.Inner.{Room, Wrote}
-
-sets-sets : (l s t : List ℕ) (i : ℕ) → sets (sets l i s) (i + length s) t ≡ sets l i (s ++ t)
-sets-sets l [] t i = ap (λ (k : ℕ). sets l k t) (omega arith)
-sets-sets l (x ∷ s) t i =
-    ap (λ (k : ℕ). sets (sets (set l i x) (suc i) s) k t) (add-suc i (length s) ∙ sym (suc-add i (length s))) ∙ sets-sets (set l i x) s t (suc i)
 
 module _ {before : List ℕ} {at : ℕ} {text after : List ℕ} {next : ℕ} (w : Wrote before at text after next) where
   pub length-wrote : length after ≡ length before
@@ -25,7 +20,7 @@ module _ {before : List ℕ} {at : ℕ} {text after : List ℕ} {next : ℕ} (w 
         bytes = v .bytes
             ∙ ap (λ (l : List ℕ). sets l next more) (w .bytes)
             ∙ ap (λ (k : ℕ). sets (sets before at text) k more) (w .place)
-            ∙ sets-sets before text more at;
+            ∙ sym (sets-append before at text more);
         place = omega (arith, v .place, w .place, length-append text more);
       }
 

@@ -11,7 +11,7 @@ use Rattle.report.proofs.report.Tie as tie
 report-accepted-requires : tie.Need-report-accepted-requires
 report-accepted-requires c κs =
     let heard : tie.After-judge = search needs in
-    (sym (heard .judge .ensures) ∙ ap judgeSaid (c .before .before .enum-told .given .1), search needs, search needs)
+    (record { judged = sym (heard .judge .ensures) ∙ ap judgeSaid (c .before .before .enum-told .given .1) }, search needs, search needs)
 
 returns : tie.Need-returns
 returns c =

@@ -41,7 +41,7 @@ resume-spec =
     (λ c κs. search needs)
     (λ c. search needs)
     (λ c. search needs)
-    (λ c κs. sym (c .before .before .before .judge .ensures) ∙ ap judgeSaid (c .before .enum-told .given .1))
+    (λ c κs. record { judged = sym (c .before .before .before .judge .ensures) ∙ ap judgeSaid (c .before .enum-told .given .1) })
     returns
     (λ c. search needs)
     returns-2)

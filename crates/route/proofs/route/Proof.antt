@@ -25,7 +25,7 @@ route-spec =
     (tie.spec
     (λ c κs. search needs)
     (λ c. search needs)
-    (λ c κs. sym (c .before .before .before .judge .ensures) ∙ ap judgeSaid (c .before .enum-told .given .1))
+    (λ c κs. record { judged = sym (c .before .before .before .judge .ensures) ∙ ap judgeSaid (c .before .enum-told .given .1) })
     (λ c. search needs)
     (λ c. search needs)
     returns

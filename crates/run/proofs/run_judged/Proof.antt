@@ -7,7 +7,7 @@ use Rattle.run.proofs.run_judged.Statement.{statement}
 use Rattle.run.proofs.run_judged.Tie as tie
 
 run-accepted-requires : tie.Need-run-accepted-requires
-run-accepted-requires c κs = sym (c .before .before .before .judge .ensures) ∙ ap judgeSaid (c .before .enum-told .given .1)
+run-accepted-requires c κs = record { judged = sym (c .before .before .before .judge .ensures) ∙ ap judgeSaid (c .before .enum-told .given .1) }
 
 returns : tie.Need-returns
 returns c =

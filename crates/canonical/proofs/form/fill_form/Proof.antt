@@ -44,16 +44,16 @@ slice-aggregate-write-regions c =
 write-regions-requires : tie.Need-write-regions-requires
 write-regions-requires c κs =
     let now : tie.After-number-regions = search needs in
-    let fronted : tie.After-write-front = search needs in
-    (_, writable (entry (found now) .pre) (found now .region-words .ensures) (numbered now) _ (fronted .write-front .ensures))
+    let fronted : tie.After-write-words = search needs in
+    (_, writable (entry (found now) .pre) (found now .region-words .ensures) (numbered now) _ (fronted .write-words .ensures))
 
 returns : tie.Need-returns
 returns c =
     let now : tie.After-number-regions = search needs in
-    let fronted : tie.After-write-front = search needs in
+    let fronted : tie.After-write-words = search needs in
     let placed : tie.After-write-regions = search needs in
     let lent = entry (found now) .pre in
-    let front = fronted .write-front .ensures in
+    let front = fronted .write-words .ensures in
     form-written lent front (placed .write-regions .ensures _ (writable lent (found now .region-words .ensures) (numbered now) _ front))
 
 pub fill-form-spec : {M : Type 1} → statement M

@@ -10,13 +10,13 @@ returns c =
     let told : tie.After-leaf-word = search needs in
     let leaf : tie.Then1 = search needs in
     let read : tie.After-arc-word = search needs in
-    rw (sym (told .leaf-word .ensures) ∙ leaf .if1 .taken) (omega (arith, c .word-of .ensures, read .arc-word .ensures .0))
+    rw (sym (told .leaf-word .ensures) ∙ leaf .if1 .taken) (omega (arith, c .leaf-word-of .ensures, read .arc-word .ensures .0))
 
 returns-2 : tie.Need-returns-2
 returns-2 c =
     let told : tie.After-leaf-word = search needs in
     let inner : tie.Else1 = search needs in
-    rw (sym (told .leaf-word .ensures) ∙ inner .if1 .left) (c .word-of2 .ensures)
+    rw (sym (told .leaf-word .ensures) ∙ inner .if1 .left) (c .inner-word-of .ensures)
 
 pub region-word-spec : {M : Type 1} → statement M
 region-word-spec =
@@ -24,9 +24,6 @@ region-word-spec =
     (tie.spec
     (λ c κs. search needs)
     (λ c κs. search needs)
-    (λ c. search needs)
-    (λ c. search needs)
-    (λ c. search needs)
     (λ c κs. search needs)
     returns
     (λ c κs. search needs)

@@ -1,0 +1,10 @@
+pub mod Cases
+pub mod Kept
+pub mod Regions
+pub mod Division
+pub mod Heights
+pub mod Sections
+pub mod Accepted
+pub mod Graph
+pub mod Distances
+pub mod Unchanged

@@ -1,0 +1,4 @@
+pub mod Kept
+pub mod Converted
+pub mod Graph
+pub mod Inner
