@@ -101,6 +101,17 @@ def names_map():
     return turned, kept
 
 
+def brought_in(text):
+    """The names that a file imports from elsewhere than the repository."""
+    own = set(os.listdir("crates"))
+    found = set()
+    for path, names in re.findall(r"^(?:ghost )?use ([^\s{]*)\.\{([^}]*)\}", text, re.M):
+        parts = path.split(".")
+        if parts[0] != "Rattle" or parts[1] not in own:
+            found.update(n.split(" as ")[0].strip() for n in names.split(","))
+    return found
+
+
 def turn(text, turned):
     return TOKEN.sub(lambda m: turned.get(m.group(0), m.group(0)), text)
 
@@ -120,7 +131,8 @@ def main():
         return
     for path in files("crates", (".antt", ".rt", ".edit")):
         text = read(path)
-        new = turn(text, turned)
+        foreign = brought_in(text)
+        new = turn(text, {old: to for old, to in turned.items() if old not in foreign})
         if new != text:
             with open(path, "w", encoding="utf-8") as f:
                 f.write(new)

@@ -1,6 +1,6 @@
 -- Sums and counts over the indices below a bound, and how one index changes them.
 use Prim.Native.Nat.{ℕ, zero, suc, ◌+◌, ◌*◌, ◌≤◌, ◌<◌}
-use mathlib.Core.Bool.{Bool, true, false, cond, ◌||◌, or-true, or_false}
+use mathlib.Core.Bool.{Bool, true, false, cond, ◌||◌, or-true, or-false}
 use mathlib.Core.Path.{◌≡◌, refl, sym, ap, ◌∙◌}
 use mathlib.Core.Logic.{◌≢◌, ◌⊎◌, inl, ⊎_elim}
 use native.Mathlib.Omega.{arith}
@@ -69,7 +69,7 @@ count_within p p' n e = omega (arith, count_join p (λ _. false) p' n (λ i l t.
 pub count_less : (p p' : ℕ → Bool) (k n : ℕ) → k < n → ((i : ℕ) → i < n → p' i ≡ true → p i ≡ true) → p' k ≡ false → p k ≡ true → count p' n < count p n
 count_less p p' k n l more out here =
     let q : ℕ → Bool = λ i. p' i || eqb i k in
-    let same : (i : ℕ) → i < n → i ≢ k → q i ≡ p' i = λ i li ne. ap (λ (x : Bool). p' i || x) (ne_eqb i k ne) ∙ or_false (p' i) in
+    let same : (i : ℕ) → i < n → i ≢ k → q i ≡ p' i = λ i li ne. ap (λ (x : Bool). p' i || x) (ne_eqb i k ne) ∙ or-false (p' i) in
     let added : q k ≡ true = ap (λ (x : Bool). p' k || x) (eq-eqb k k refl) ∙ or-true (p' k) in
     let within : count q n ≤ count p n =
     count_within p q n (λ i li t. by_truth (p' i) (more i li) (λ e. ap p (eqb-true i k (or_then (p' i) (eqb i k) t e)) ∙ here)) in

@@ -1,7 +1,7 @@
 -- Request 2026-08: a sheet without holds is answered in every call as before. No hold is charged, so an arc takes its length and the graph is the one of
 -- before; 34 applies only where 9 does, and 2 just where the sections are out of order.
 use Prim.Native.Nat.{ℕ, ◌%◌}
-use mathlib.Core.Bool.{true, false, not, or_false}
+use mathlib.Core.Bool.{true, false, not, or-false}
 use mathlib.Core.List.{List, [], ◌∷◌, ◌++◌}
 use mathlib.Core.Path.{◌≡◌, refl, sym, ap, ◌∙◌}
 use native.Mathlib.Omega.{arith}
@@ -55,7 +55,7 @@ module _ (b : List ℕ) (none : hold_count b ≡ 0) where
   -- the number of holds is right, so 2 is a matter of the sections
   same_order : out_of_order b ≡ wrong_sections b
   unfolding out_of_order wrong_holds
-  same_order = rw (eq-eqb (hold_count b) 0 none) (or_false (wrong_sections b))
+  same_order = rw (eq-eqb (hold_count b) 0 none) (or-false (wrong_sections b))
 
   -- 34 applies just where 9 does
   same_lengths : holds_outside b ≡ lengths_outside b

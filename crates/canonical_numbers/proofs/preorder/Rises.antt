@@ -1,6 +1,6 @@
 -- The climb from an arc's leaf: a region has its turn with its lowest arc, after the siblings that hold a lower one.
 use Prim.Native.Nat.{ℕ, suc, ◌+◌, ◌≤◌, ◌<◌}
-use mathlib.Core.Bool.{Bool, true, false, cond, ◌&&◌, and-false, or-true, or_false}
+use mathlib.Core.Bool.{Bool, true, false, cond, ◌&&◌, and-false, or-true, or-false}
 use mathlib.Core.Path.{◌≡◌, sym, ap, ◌∙◌}
 use mathlib.Core.Logic.{◌≢◌}
 use mathlib.Core.List.{List}
@@ -27,8 +27,8 @@ module _ (d : Division) (a r c : ℕ) where
   pub passed_before : (lowest_arc d c ≡ a → r < c → ⊥) → passed d a r c ≡ ltb (lowest_arc d c) a
   passed_before h =
       by_equal (lowest_arc d c) a
-      (λ e. by_order r c (λ l. absurd (h e l)) (λ l. rw (le-ltb r c l, and-false (eqb (lowest_arc d c) a)) (or_false (ltb (lowest_arc d c) a))))
-      (λ ne. rw (ne_eqb (lowest_arc d c) a ne) (or_false (ltb (lowest_arc d c) a)))
+      (λ e. by_order r c (λ l. absurd (h e l)) (λ l. rw (le-ltb r c l, and-false (eqb (lowest_arc d c) a)) (or-false (ltb (lowest_arc d c) a))))
+      (λ ne. rw (ne_eqb (lowest_arc d c) a ne) (or-false (ltb (lowest_arc d c) a)))
 
   passed_now : lowest_arc d c ≡ a → r < c → passed d a r c ≡ true
   passed_now e l = rw (eq-eqb (lowest_arc d c) a e, lt-ltb r c l) (or-true (ltb (lowest_arc d c) a))
