@@ -5,7 +5,7 @@ ghost use Rattle.answer.specs.Said.{judge_said};
 
 use crate::Fault;
 
-#[derive(Drop)]
+#[derive(Clone, Copy)]
 pub enum Judged {
     Accepted,
     Refused(Fault),

@@ -1,4 +1,6 @@
 // What a call answers: accepted, ended, paused, a route or none, bytes written, or refused, by fault of the input or of the state.
+#![tactic(auto)]
+
 pub mod codes;
 pub mod copied;
 pub mod judged;
@@ -6,7 +8,7 @@ pub mod ran;
 pub mod routed;
 
 // Whether the input or the state was at fault, and the number alone.
-#[derive(Drop)]
+#[derive(Clone, Copy)]
 pub enum Fault {
     Input(u8),
     State(u8),

@@ -6,7 +6,7 @@ ghost use Rattle.answer.specs.Said.{run_said};
 
 use crate::Fault;
 
-#[derive(Drop)]
+#[derive(Clone, Copy)]
 pub enum Ran {
     Ended,
     Paused,

@@ -1,7 +1,7 @@
 // What the route reader answers.
 use crate::Fault;
 
-#[derive(Drop)]
+#[derive(Clone, Copy)]
 pub enum Routed {
     Route(u32),
     NoRoute,

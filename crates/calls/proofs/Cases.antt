@@ -99,7 +99,7 @@ cases = record {
   waiting = refl;
 }
 
--- 2026-04: the call on the one_node_lem hall, whose canonical form has twelve bytes: a buffer that is a byte short, one that fits, one with a byte more; what is
+-- 2026-04: the call on the one-node hall, whose canonical form has twelve bytes: a buffer that is a byte short, one that fits, one with a byte more; what is
 -- written leaves the rest, a refusal leaves all
 record CopyCases : Type 0 where
   short : lowest (canonical_call (bytes_of one_node) (replicate 11 7)).later accepted ≡ refused (input 31)

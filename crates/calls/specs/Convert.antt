@@ -64,7 +64,7 @@ pub record NoneChildless (b : List ℕ) : Type 0 where
   pub no_more : (k r : ℕ) → region_count (region_words b) ≤ k → r < region_count (region_words b)
       → let d = region_words b in left_after (is_leaf d) (parent d) (kept_leaf b) (region_count d) k r ≡ kept_region b r
 
--- a run before request 2026-09, when self_arcs_lem were not refused: its answer, and the table at exit
+-- a run before request 2026-09, when self-arcs were not refused: its answer, and the table at exit
 abbrev pub run_answer_then : List ℕ → ℕ → List ℕ → Answer
 run_answer_then b k table = call_answer (other_refusals b) (run_call b k table)
 
@@ -83,10 +83,10 @@ pub record SameAsThen (b : List ℕ) : Type 0 where
   -- every two tables left as ended, of the sheet then and of the converted one now, have the same distances, and the same nodes unreached
   pub distances : (k k' : ℕ) (table table' : List ℕ) → Delivered b k table → Delivered (converted b) k' table' → status_in table ≡ 1 → status_in table' ≡ 1
       → SameDistances b table (converted b) table'
-  -- and so have every two tables that are shortest, of true routes in both halls, self_arcs_lem among them in the old one
+  -- and so have every two tables that are shortest, of true routes in both halls, self-arcs among them in the old one
   pub shortest : (table table' : List ℕ) → ShortestTable b table → ShortestTable (converted b) table' → SameDistances b table (converted b) table'
 
--- What is claimed of every sheet that is at fault in nothing, or in nothing but self_arcs_lem.
+-- What is claimed of every sheet that is at fault in nothing, or in nothing but self-arcs.
 pub record Converts (b : List ℕ) : Type 0 where
   -- the converted sheet stands at the front of the buffer, and its byte length is answered; a shorter buffer is 31
   pub leaves : (out : List ℕ) → length (converted b) ≤ length out
@@ -96,11 +96,11 @@ pub record Converts (b : List ℕ) : Type 0 where
   pub no_longer : length (converted b) ≤ length b
   -- it is accepted, so it draws no self-arc
   pub accepted : Accepted (converted b)
-  -- its graph is the old one without its self_arcs_lem, arcs in their old order, each with the length that the procedure took
+  -- its graph is the old one without its self-arcs, arcs in their old order, each with the length that the procedure took
   pub graph : graph_of (converted b) ≡ without_self_arcs (graph_of b)
   pub fields : KeptFields b
   pub dropped : NoneChildless b
   pub same : SameAsThen b
-  -- a sheet without self_arcs_lem, given as bytes, is its own conversion; to convert twice changes nothing
+  -- a sheet without self-arcs, given as bytes, is its own conversion; to convert twice changes nothing
   pub own : ((i : ℕ) → i < length b → get_or b i 0 < 256) → self_arcs b ≡ false → converted b ≡ b
   pub again : converted (converted b) ≡ converted b

@@ -1,4 +1,6 @@
 // The call for the canonical form of a sheet, the paper's neat copy.
+#![tactic(auto)]
+
 pub mod form;
 pub mod regions;
 

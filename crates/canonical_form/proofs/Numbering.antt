@@ -19,7 +19,7 @@ use Rattle.canonical_form.specs.Numbering.{sooner, above, ancestor, holds, lowes
 use Rattle.canonical_form.specs.Inner.{Proper}
 use Rattle.canonical_form.proofs.Dictionary.{nothing_sooner, sooner_irreflexive, sooner_onward, onward_apart, rank_rises, rank_apart}
 
--- a value under a test, below `top`, has the test held_value
+-- a value under a test, below `top`, has the test held-value
 held_value : (b : Bool) (x y : ℕ) → cond b x top ≡ y → y < top → (b ≡ true) × (x ≡ y)
 held_value true x y e l = (refl, e)
 held_value false x y e l = absurd (omega arith)

@@ -1,4 +1,6 @@
 // The new numbers of the regions of an accepted sheet, as its neat copy has them. Every pass is linear in regions and arcs.
+#![tactic(auto)]
+
 pub mod preorder;
 
 ghost use Rattle.std.specs.Prelude.{List, ℕ};

@@ -5,6 +5,8 @@
 // lent hold it, as far as they go. All others hold a filling.
 // For a listing, what `marks` prints is printed; for another case the answer's word and, where what is lent holds something else than the filling after the
 // call, the lent words or bytes up to the last that does; for a line that is no case `unreadable`.
+#![tactic(auto)]
+
 ghost use Rattle.std.specs.Prelude.{◌≤◌, length};
 ghost use Rattle.io.specs.Counts.{IsPrefixLen};
 

@@ -1,4 +1,6 @@
 // The words and the bytes that the test program lends to a call.
+#![tactic(auto)]
+
 pub mod bytes;
 
 ghost use Rattle.std.specs.Prelude.{◌≡◌, ◌≤◌, length};

@@ -1,4 +1,4 @@
--- Without its self_arcs_lem a graph has the same distances: a route without them is a route, and every route has one without them that is no longer. So the
+-- Without its self-arcs a graph has the same distances: a route without them is a route, and every route has one without them that is no longer. So the
 -- converted sheet has the distances that the old one had.
 use Prim.Native.Nat.{ℕ, ◌≤◌, ◌<◌}
 use mathlib.Core.Bool.{true, false}
@@ -57,7 +57,7 @@ module _ (g : Graph) where
   leads_back_lem a e = eqb-true (tail g a) (head g a) (not-false _ e)
 
   -- ROUTES
-  -- a route, and one without self_arcs_lem that is no longer
+  -- a route, and one without self-arcs that is no longer
   pub route_without : (u : ℕ) (way : List ℕ) (v : ℕ) → Route g u way v → (way' : List ℕ) × Route g' u way' v × (route_length g' way' ≤ route_length g way)
   unfolding Route route_length
   route_without u [] v r = ([], r, omega arith)
@@ -71,7 +71,7 @@ module _ (g : Graph) where
       ))
       (λ back. (q.0, rw (sym r.1 ∙ leads_back_lem a back) q.1, omega (arith, q.2)))
 
-  -- a route without self_arcs_lem is a route, of the same length
+  -- a route without self-arcs is a route, of the same length
   pub route_with : (u : ℕ) (way : List ℕ) (v : ℕ) → Route g' u way v → (way' : List ℕ) × Route g u way' v × (route_length g way' ≡ route_length g' way)
   unfolding Route route_length
   route_with u [] v r = ([], r, refl)

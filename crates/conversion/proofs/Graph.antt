@@ -1,4 +1,4 @@
--- The graph of the converted sheet is the old one without its self_arcs_lem.
+-- The graph of the converted sheet is the old one without its self-arcs.
 use Prim.Native.Nat.{ℕ, ◌<◌}
 use mathlib.Core.Bool.{true}
 use mathlib.Core.List.{List, [], ◌∷◌}

@@ -1,4 +1,4 @@
--- A sheet without self_arcs_lem is its own conversion: every region is kept, from the last one back, so all numbers are the old ones, and the sheet's sections
+-- A sheet without self-arcs is its own conversion: every region is kept, from the last one back, so all numbers are the old ones, and the sheet's sections
 -- together are its words. The converted sheet has none, so to convert it again changes nothing.
 use Prim.Native.Nat.{ℕ, zero, suc, ◌+◌, ◌*◌, ◌<◌, ◌≤◌}
 use mathlib.Core.Bool.{true, false, not}

@@ -1,4 +1,4 @@
--- The converted sheet (request 2026-09): a sheet without its self_arcs_lem, as a list of bytes. Definitions.
+-- The converted sheet (request 2026-09): a sheet without its self-arcs, as a list of bytes. Definitions.
 use Rattle.std.specs.Prelude.{ℕ, suc, ◌+◌, Bool, not, List, [], ◌∷◌, ◌++◌}
 use Rattle.indices.specs.Columns.{column, selected}
 use Rattle.indices.specs.Tests.{count}

@@ -1,4 +1,6 @@
-// What is kept of a sheet without its self_arcs_lem, under new numbers.
+// What is kept of a sheet without its self-arcs, under new numbers.
+#![tactic(auto)]
+
 pub mod arcs;
 pub mod regions;
 
@@ -13,7 +15,7 @@ use sheet::{ARC_NUMBERS, REGION_NUMBERS, Sections};
 pub const DROPPED: u16 = 65535;
 
 // How many spans, holds, arcs and region words are kept.
-#[derive(Drop)]
+#[derive(Clone, Copy)]
 pub struct Kept {
     pub spans: usize,
     pub holds: usize,

@@ -1,4 +1,6 @@
 // The words of a converted sheet, written into a lent buffer. Every part is linear in the words that it reads.
+#![tactic(auto)]
+
 pub mod arcs;
 pub mod regions;
 

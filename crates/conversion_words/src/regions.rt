@@ -12,7 +12,7 @@ use conversion_numbers::DROPPED;
 use sheet::{ARC_NUMBERS, REGION_NUMBERS};
 
 // The word of the region of word k, which is kept, under new numbers.
-fn new_word_lem(d: &[u8], arcs: &[u16; ARC_NUMBERS], regions: &[u16; REGION_NUMBERS], k: usize) -> u32
+fn new_word(d: &[u8], arcs: &[u16; ARC_NUMBERS], regions: &[u16; REGION_NUMBERS], k: usize) -> u32
     requires { ((b : List ℕ) × Numbered b d.now arcs.now regions.now × (kept_region b (suc k) ≡ true)) × (k < words d.now) }
     ensures { (b : List ℕ) → Numbered b d.now arcs.now regions.now → kept_region b (suc k) ≡ true
         → result ≡ new_word b k }
@@ -46,7 +46,7 @@ fn write_region(
         return;
     }
     let i = place + number as usize - 1;
-    sheet_writer::put_word(out, i, new_word_lem(d, arcs, regions, k));
+    sheet_writer::put_word(out, i, new_word(d, arcs, regions, k));
 }
 
 // The region words that are kept, from word `place` on.

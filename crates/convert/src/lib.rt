@@ -1,4 +1,6 @@
-// The call that converts a sheet: its self_arcs_lem are dropped, and what goes with them.
+// The call that converts a sheet: its self-arcs are dropped, and what goes with them.
+#![tactic(auto)]
+
 ghost use Rattle.std.specs.Prelude.{◌≡◌, ltb, length};
 ghost use Rattle.answer.specs.Said.{copied_said};
 ghost use Rattle.judgement.specs.Judgement.{Convertible};

@@ -1,4 +1,6 @@
 // Reads a sheet on standard input and writes the converted one, or its refusal.
+#![tactic(auto)]
+
 ghost use Rattle.std.specs.Prelude.{◌≤◌, length};
 ghost use Rattle.io.specs.Counts.{IsPrefixLen};
 ghost use Rattle.sheet.specs.Limits.{most_bytes};

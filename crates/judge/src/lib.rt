@@ -1,4 +1,6 @@
-// Judges a sheet: accepted, or the lowest number of a refusal that applies to it; with self_arcs_lem retired (35), or as one that may be converted.
+// Judges a sheet: accepted, or the lowest number of a refusal that applies to it; with self-arcs retired (35), or as one that may be converted.
+#![tactic(auto)]
+
 ghost use Rattle.std.specs.Prelude.{◌≡◌, false, ◌<◌};
 ghost use Rattle.sheet.specs.Words.{words};
 ghost use Rattle.sheet.specs.Inner.{Located};
@@ -32,7 +34,7 @@ fn bit_set(s: &[u8], sections: Sections) -> bool
     judge_division::leaves::leaf_bits_set(sheet_reader::region_words(s, sections))
 }
 
-// Refusals 3 to 14, 34 after 9, and 35 after 10 where self_arcs_lem are retired, of a sheet to which neither 1 nor 2 applies: the number, or 0.
+// Refusals 3 to 14, 34 after 9, and 35 after 10 where self-arcs are retired, of a sheet to which neither 1 nor 2 applies: the number, or 0.
 fn later_refusal(s: &[u8], sections: Sections, retired: bool) -> u8
     requires { InOrder s.now sections }
     ensures { numbered result ≡ judgement_by retired s.now }

@@ -1,4 +1,6 @@
 // The refusals of a sheet's arcs: 8 to 10, 34 after 9 and 35 after 10, and of refusal 3 what it asks of an arc's words.
+#![tactic(auto)]
+
 pub mod degrees;
 pub mod self_arcs;
 
@@ -87,7 +89,7 @@ fn field_refusal(s: &[u8], sections: Sections) -> u8
     0
 }
 
-// Refusals 8 to 10, 34 after 9, and 35 after 10 where self_arcs_lem are retired: the number, or 0.
+// Refusals 8 to 10, 34 after 9, and 35 after 10 where self-arcs are retired: the number, or 0.
 pub fn arc_refusal(s: &[u8], sections: Sections, retired: bool) -> u8
     requires { Located s.now sections × (arc_count s.now ≤ most_arcs) × (node_count s.now ≤ most_nodes) }
     ensures { numbered result ≡ lowest (arc_refusals most_arcs_each_way retired s.now) accepted }

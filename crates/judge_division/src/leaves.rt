@@ -10,7 +10,7 @@ ghost use Rattle.judgement.specs.Form.{leaf_bits};
 use sheet::ARC_NUMBERS;
 
 // A counter for each arc number of 11 bits.
-#[derive(Drop)]
+#[derive(Clone, Copy)]
 struct Counters {
     pub n: [u16; ARC_NUMBERS],
 }

@@ -1,5 +1,7 @@
 // The division checker: refusals 11 to 14, over the part of the sheet after the last arc. Word k of that part is region k + 1. Every check is linear
 // in the words.
+#![tactic(auto)]
+
 pub mod heights;
 pub mod leaves;
 pub mod parents;

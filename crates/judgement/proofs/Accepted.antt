@@ -1,5 +1,5 @@
 -- A sheet is accepted just where none of the refusals applies to it; and what each of them says then. All but 35 are said of a sheet that is accepted with
--- self_arcs_lem retired, and of one that is accepted without, which is at fault in nothing else.
+-- self-arcs retired, and of one that is accepted without, which is at fault in nothing else.
 use Prim.Native.Nat.{ℕ, suc, ◌<◌, ◌≤◌}
 use mathlib.Core.Bool.{Bool, true, false, ◌&&◌, ◌||◌, and-false, true≢false}
 use mathlib.Core.List.{List}
@@ -91,7 +91,7 @@ none_accepts b none = record {
       );
 }
 
--- the same of a sheet whose self_arcs_lem are looked at, or not, where it draws none
+-- the same of a sheet whose self-arcs are looked at, or not, where it draws none
 pub none_drawn : (b : List ℕ) {retired : Bool} → NoRefusal retired b → self_arcs b ≡ false → (other : Bool) → NoRefusal other b
 none_drawn b none clear other = record {
   size = none.size;

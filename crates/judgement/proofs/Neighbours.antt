@@ -58,7 +58,7 @@ in_order_lem b e =
       order = by_cases_or_holds b ∙ not-true (wrong_kinds b || wrong_holds b) (and_right (not (wrong_size b)) _ rest);
     }
 
--- the sheets: hall A and the one_node_lem hall, a hall with an arc on region 0, and short ones, most of which a later number refuses
+-- the sheets: hall A and the one-node hall, a hall with an arc on region 0, and short ones, most of which a later number refuses
 record Sheets : Type 0 where
   hall_a_lem : Ordered (bytes_of hall_a)
   inner_last : Ordered (bytes_of (hall_a ++ (0x60000000 ∷ [])))

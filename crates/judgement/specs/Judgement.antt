@@ -15,7 +15,7 @@ unfoldable pub count_refusals : List ℕ → List Case
 count_refusals b =
     input 4 when nodes_outside b ∷ input 5 when source_outside b ∷ input 6 when spans_outside b ∷ input 7 when too_many b ∷ []
 
--- where a node may have so many arcs each way, and self_arcs_lem are `retired` or not: "35, an arc from a node to itself, after 10." (2026-09)
+-- where a node may have so many arcs each way, and self-arcs are `retired` or not: "35, an arc from a node to itself, after 10." (2026-09)
 unfoldable pub arc_refusals : ℕ → Bool → List ℕ → List Case
 arc_refusals limit retired b =
     input 8 when ends_outside b ∷ input 9 when lengths_outside b ∷ input 34 when holds_outside b ∷ input 10 when too_many_at_node limit b

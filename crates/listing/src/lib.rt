@@ -1,4 +1,6 @@
 // The text that `marks` prints, written into a lent buffer: the listing of an answer table, or a refusal.
+#![tactic(auto)]
+
 pub mod cells;
 pub mod node_lines;
 pub mod status_line;

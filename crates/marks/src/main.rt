@@ -1,4 +1,6 @@
 // Reads a sheet on standard input, runs it to its end and prints its listing, or its refusal.
+#![tactic(auto)]
+
 ghost use Rattle.std.specs.Prelude.{◌≤◌, length};
 ghost use Rattle.calls.specs.Tables.{table_length};
 ghost use Rattle.listing.specs.Listing.{most_listing};

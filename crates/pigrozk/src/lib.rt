@@ -1,4 +1,6 @@
 // The library for C and Rust: the seven calls, each answered by one number.
+#![tactic(auto)]
+
 ghost use Rattle.std.specs.Prelude.{◌≡◌, false, length};
 ghost use Rattle.sheet.specs.Sections.{node_count, arc_count};
 ghost use Rattle.answer.specs.Answer.{ended, is_refused};

@@ -1,4 +1,4 @@
--- The first_chosen child: the fold over the regions keeps the best child so far, by the order's laws alone; by the order itself this is the child of lowest
+-- The first-chosen child: the fold over the regions keeps the best child so far, by the order's laws alone; by the order itself this is the child of lowest
 -- key, among those the one of lowest height, among those the one of lowest number.
 use Prim.Native.Nat.{ℕ, suc, ◌≤◌, ◌<◌}
 use mathlib.Core.Bool.{Bool, true, false, ◌&&◌, ◌||◌, false≢true}
@@ -21,7 +21,7 @@ use Rattle.procedure.specs.Choice.{ChildOf, FirstChosen, Chooses}
 use Rattle.procedure.proofs.Children.{child_later, child_parent, is_child_lem}
 use Rattle.procedure.proofs.Order.{NoBetter, no_better, before_irreflexive, before_asymmetric, before_transitive, before_antisymmetric, before_key}
 
--- x is the first_chosen child of r among the regions below n, or 0 if there is none
+-- x is the first-chosen child of r among the regions below n, or 0 if there is none
 pub record FirstBelow (d : Division) (keys : List ℕ) (r n x : ℕ) : Type 0 where
   pub child : 0 < x → (x < n) × (parent d x ≡ r)
   pub some : (c : ℕ) → c < n → 0 < c → parent d c ≡ r → 0 < x
@@ -57,7 +57,7 @@ module _ (d : Division) where
           taken e (λ b l l' u. before_transitive d keys b best c (p.least b l l' u) (before_asymmetric d keys c best h))
       go true e false f false h = kept (λ l u. (let n : best ≢ 0 = eqb-false best 0 f in omega arith, h))
 
-  -- min_item is the first_chosen child
+  -- min_item is the first-chosen child
   pub min_item_first : (keys : List ℕ) (r : ℕ) → FirstBelow d keys r (regions d) (min_item d keys r)
   unfolding min_item min_item_below
   min_item_first keys r =
@@ -65,7 +65,7 @@ module _ (d : Division) where
       (record { child = λ l. absurd (omega arith); some = λ c l. absurd (omega arith); least = λ c l. absurd (omega arith) })
       (λ c best l p. first_step keys r c best p)
 
-  -- there is only one first_chosen child
+  -- there is only one first-chosen child
   pub first_one : (keys : List ℕ) (r n x y : ℕ) → FirstBelow d keys r n x → FirstBelow d keys r n y → x ≡ y
   first_one keys r n x y p q =
       by_equal x 0
@@ -82,7 +82,7 @@ module _ (d : Division) where
 -- THE SMALLEST KEY of an inner region
 
 module _ (d : Division) (q : Queues) (r : ℕ) (inner : is_leaf d r ≡ false) where
-  -- it is that of the first_chosen child
+  -- it is that of the first-chosen child
   pub min_key_item : 0 < min_item d q.keys r → at q.keys (min_item d q.keys r) ≡ min_key d q r
   unfolding min_key
   min_key_item l = rw (inner, ne_eqb (min_item d q.keys r) 0 (omega arith))
@@ -92,7 +92,7 @@ module _ (d : Division) (q : Queues) (r : ℕ) (inner : is_leaf d r ≡ false) w
   unfolding min_key
   min_key_none e = rw (inner, eq-eqb (min_item d q.keys r) 0 e)
 
-  -- so a region whose smallest key isn't none has a first_chosen child
+  -- so a region whose smallest key isn't none has a first-chosen child
   pub min_key_some : min_key d q r < top → 0 < min_item d q.keys r
   min_key_some l = by_equal (min_item d q.keys r) 0 (λ e. absurd (omega (arith, min_key_none e))) (λ n. omega arith)
 
@@ -102,7 +102,7 @@ module _ (d : Division) (keys : List ℕ) (r : ℕ) where
   child_of_lem : (c : ℕ) → c < regions d → 0 < c → parent d c ≡ r → ChildOf d r c
   child_of_lem c l pos under = (l, is_child_lem d r c pos under)
 
-  -- no child is before the first_chosen one
+  -- no child is before the first-chosen one
   none_before : (b : ℕ) → ChildOf d r b → before d keys b (min_item d keys r) ≡ false
   none_before b h = (min_item_first d keys r).least b h.0 (child_later d r b h.1) (child_parent d r b h.1)
 
@@ -129,7 +129,7 @@ module _ (d : Division) (keys : List ℕ) (r : ℕ) where
   first_chosen : (b : ℕ) → ChildOf d r b → FirstChosen d keys r (min_item d keys r)
   first_chosen b h = positive_chosen ((min_item_first d keys r).some b h.0 (child_later d r b h.1) (child_parent d r b h.1))
 
-  -- two first_chosen children have one key, one height and one number
+  -- two first-chosen children have one key, one height and one number
   chosen_one : (b c : ℕ) → FirstChosen d keys r b → FirstChosen d keys r c → b ≡ c
   chosen_one b c p q =
       let keyed : at keys b ≡ at keys c = omega (arith, p.lowest_key c q.child, q.lowest_key b p.child) in

@@ -1,5 +1,5 @@
 -- The order among the items of a region, by key, height and number, one figure after the other. What the procedure's theory rests on are the five laws and
--- `before_key`; behind them look, by `no_better` and `not_before`, what the first_chosen child is (Choice) and the comparison of entries (crates/run_queue).
+-- `before_key`; behind them look, by `no_better` and `not_before`, what the first-chosen child is (Choice) and the comparison of entries (crates/run_queue).
 use Prim.Native.Nat.{ℕ, ◌≤◌, ◌<◌}
 use mathlib.Core.Bool.{Bool, true, false, false≢true}
 use mathlib.Core.Path.{◌≡◌, refl, sym, ◌∙◌}

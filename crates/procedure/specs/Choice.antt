@@ -25,7 +25,7 @@ pub record Chooses (g : Graph) (d : Division) (s : State) (r : ℕ) : Type 0 whe
   pub first : (b : ℕ) → ChildOf d r b → FirstChosen d s.queues.keys r (min_item d s.queues.keys r)
   pub only : (c : ℕ) → FirstChosen d s.queues.keys r c → c ≡ min_item d s.queues.keys r
   pub none : ((b : ℕ) → ChildOf d r b → ⊥) → min_item d s.queues.keys r ≡ 0
-  -- "The smallest key of a region is the key of its first_chosen item"
+  -- "The smallest key of a region is the key of its first-chosen item"
   pub smallest : is_leaf d r ≡ false → (c : ℕ) → FirstChosen d s.queues.keys r c → min_key d s.queues r ≡ at s.queues.keys c
   -- "while its smallest key isn't none, an inner region hands the turn to its child": to this one, whose working is `process`
   pub turn : is_leaf d r ≡ false → alive g d r s ≡ true → (process : ℕ → State → State)

@@ -1,4 +1,6 @@
 // What `marks` prints of a sheet, written into a lent buffer: the sheet judged and run to its end.
+#![tactic(auto)]
+
 ghost use Rattle.std.specs.Prelude.{◌≡◌, ◌≤◌, length};
 ghost use Rattle.io.specs.Counts.{IsPrefixLen};
 ghost use Rattle.judgement.specs.Judgement.{Accepted};

@@ -1,4 +1,6 @@
 // Resuming: so many rounds more from the state that a longer table stands for, with the spans of the sheet that is lent.
+#![tactic(auto)]
+
 pub mod arrays;
 pub mod entered;
 pub mod laid;

@@ -1,4 +1,6 @@
 // Reads the route to a node out of a finished table, in either form.
+#![tactic(auto)]
+
 pub mod arcs;
 pub mod found;
 

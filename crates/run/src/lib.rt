@@ -1,4 +1,6 @@
 // The two run calls: a sheet run to its end, or for at most so many rounds.
+#![tactic(auto)]
+
 pub mod arrays;
 pub mod laid;
 

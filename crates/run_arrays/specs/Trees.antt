@@ -1,6 +1,6 @@
 -- One priority queue for each inner region, as winner trees in one list: a tree for each region, one after the other. The tree of a region with n children has
 -- 2n places, and a place holds a key, a height and a region as one number, its entry. The children stand at the places n to 2n - 1; a place p below n holds the
--- lower of places 2p and 2p + 1; so place 1 holds the first_chosen child and its key. Place 0 of a tree and the places behind the last tree are not read, and
+-- lower of places 2p and 2p + 1; so place 1 holds the first-chosen child and its key. Place 0 of a tree and the places behind the last tree are not read, and
 -- nothing is said of them. Definitions.
 use Rattle.std.specs.Prelude.{ℕ, min, ◌+◌, ◌*◌, ◌/◌, ◌%◌, ◌≤◌, ◌<◌, Bool, false, ◌&&◌, ◌≡◌, ◌≢◌, List, length, set, ltb}
 use Rattle.indices.specs.Columns.{at}

@@ -1,12 +1,14 @@
 // The four counts of a run. "The four counts travel with the run and grow as it goes": they are lent to thin functions, one for each count. The
 // borrow checker covers no function over a struct that is lent, so these are proved by hand, and so are those below, by which `array` counts.
+#![tactic(auto)]
+
 pub mod array;
 
 ghost use Rattle.std.specs.Prelude.{◌≡◌, ◌+◌, ◌<◌};
 ghost use Rattle.run_counts.specs.Counted.{round_counted, leaf_added, inner_counted, updates_set, leaf_counted};
 
 // How much a run has done so far, with the inner regions of one height.
-#[derive(Drop)]
+#[derive(Clone, Copy)]
 pub struct Counts {
     pub rounds: u64,
     pub leaves: u64,

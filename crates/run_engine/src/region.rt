@@ -52,7 +52,7 @@ fn process_region(
     crate::leaf::process_leaf(fixed, weights, state, winners, r, counts);
 }
 
-// Works the inner region r: up to span times, while its smallest key isn't none, its first_chosen child is worked and gets its key anew.
+// Works the inner region r: up to span times, while its smallest key isn't none, its first-chosen child is worked and gets its key anew.
 #[cycle(process_inner_process_region)]
 pub fn process_inner(
     fixed: &[u16; FIXED],

@@ -1,5 +1,7 @@
 // From an accepted sheet to the two arrays that a run reads: rows and arcs of the regions, rows, first arcs and number of the arcs; lengths, spans and heights,
 // each part in its section. Behind the front of a section nothing is promised. Every pass is linear in the sheet's words.
+#![tactic(auto)]
+
 pub mod arcs;
 pub mod lengths;
 pub mod regions;

@@ -1,4 +1,6 @@
 // One priority queue for each inner region, as winner trees in one slice.
+#![tactic(auto)]
+
 pub mod building;
 pub mod planning;
 
@@ -10,7 +12,7 @@ ghost use Rattle.run_queue.specs.First.{FirstEntry};
 
 use sheet::{NONE, Region};
 
-// The root of r's tree, the entry of its first_chosen child; where it has none, key none and region 0, which is nobody's child.
+// The root of r's tree, the entry of its first-chosen child; where it has none, key none and region 0, which is nobody's child.
 fn first_entry(rows: &[u16], winners: &[u64], r: Region) -> u64
     requires { SomeQueue rows.now winners.now r.0 }
     ensures { (d : Division) (keys : List ℕ) → QueuesOk d rows.now keys winners.now → r.0 < regions d
@@ -23,7 +25,7 @@ fn first_entry(rows: &[u16], winners: &[u64], r: Region) -> u64
     winners[start + 1]
 }
 
-// The first_chosen child of r; 0 where it has none.
+// The first-chosen child of r; 0 where it has none.
 pub fn min_item(rows: &[u16], winners: &[u64], r: Region) -> Region
     requires { SomeQueue rows.now winners.now r.0 }
     ensures { (d : Division) (keys : List ℕ) → QueuesOk d rows.now keys winners.now → r.0 < regions d

@@ -1,4 +1,6 @@
 // From arrays that represent a state to the table of the state that so many rounds more reach, in the form whose length the table has.
+#![tactic(auto)]
+
 ghost use Rattle.std.specs.Prelude.{◌≡◌, List, ◌++◌, ℕ, ◌-◌, length, take};
 ghost use Rattle.procedure.specs.OfSheet.{graph_of, division_of, spans_of};
 ghost use Rattle.procedure.specs.State.{State};

@@ -111,7 +111,7 @@ pub fn arc_word(d: &[u8], k: usize) -> Arc
 }
 
 // Whether a region is a leaf: region 0 is none and has no word.
-pub fn is_leaf_lem(d: &[u8], r: Region) -> bool
+pub fn is_leaf(d: &[u8], r: Region) -> bool
     requires { r.0 ≤ words d.now }
     ensures { result ≡ is_leaf d.now r.0 }
 {

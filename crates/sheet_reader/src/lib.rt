@@ -1,5 +1,7 @@
 // How a sheet is read: a struct that holds the sheet and a place in it, and thin functions over it. The borrow checker covers none of these, so
 // each takes the struct apart for a function of `sheet::scan`, which does the work, and is proved by hand; callers use the functions below them.
+#![tactic(auto)]
+
 ghost use Rattle.std.specs.Prelude.{◌≡◌, ◌≤◌};
 ghost use Rattle.sheet.specs.Words.{words};
 ghost use Rattle.sheet.specs.Sections.{part_after, region_words};
@@ -9,7 +11,7 @@ ghost use Rattle.sheet_reader.specs.Places.{reader_standing, place_held};
 use sheet::{Cursor, Sections, Step};
 
 // "A sheet is read word by word from its front": `place` words have been read.
-#[derive(Drop)]
+#[derive(Clone, Copy)]
 pub struct Reader<'a> {
     pub sheet: &'a [u8],
     pub place: usize,

@@ -1,4 +1,6 @@
 // Words of a sheet, made and written into a lent buffer of bytes.
+#![tactic(auto)]
+
 ghost use Rattle.std.specs.Prelude.{◌≡◌, true, false, [], ◌∷◌, ◌+◌, ◌*◌, ◌≤◌, ◌<◌, length};
 ghost use Rattle.sheet.specs.Limits.{arc_numbers, region_numbers};
 ghost use Rattle.sheet.specs.Words.{words};

@@ -1,4 +1,6 @@
 // The answer table: its words, its length (21), what is read of it, and the table of a state written whole.
+#![tactic(auto)]
+
 pub mod header;
 pub mod keys;
 pub mod length;

@@ -1,4 +1,6 @@
 // Refusals 22 and 23 of a lent table: its form, and its status.
+#![tactic(auto)]
+
 pub mod keys;
 pub mod kinds;
 

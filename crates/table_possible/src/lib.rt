@@ -1,4 +1,6 @@
 // The test of a possible state, 33, of a longer table, in time linear in sheet and table.
+#![tactic(auto)]
+
 pub mod arcs;
 pub mod bound;
 pub mod counts;

@@ -8,7 +8,7 @@ ghost use Rattle.table_shortest.specs.ArcChecks.{source_fits, arc_relaxed};
 use sheet::{Arc, Node, Sections};
 
 // Whether the source has label 0 and no predecessor.
-pub fn source_fits_lem(s: &[u8], sections: Sections, table: &[u32]) -> bool
+pub fn source_fits(s: &[u8], sections: Sections, table: &[u32]) -> bool
     requires { Fitting s.now sections table.now }
     ensures { result ≡ source_fits s.now table.now }
 {

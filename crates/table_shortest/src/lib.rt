@@ -1,4 +1,6 @@
 // The test of a lent table, 24, in time linear in sheet and table, after 22 and 23.
+#![tactic(auto)]
+
 pub mod arcs;
 pub mod nodes;
 pub mod walk;

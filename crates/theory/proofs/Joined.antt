@@ -89,7 +89,7 @@ module _ (g : Graph) {m : ℕ} {d : Division} (ok : DivisionOk m d) (spans : Lis
   unfolding alive
   same_alive r s = refl
 
-  -- the first_chosen child of a region that is alive
+  -- the first-chosen child of a region that is alive
   chosen_in : (r : ℕ) (s : State) → is_leaf d r ≡ false → T (alive g d r s) → min_item d s.queues.keys r < regions d
   chosen_in r s inner live = (chosen_of_key d s.queues r inner (alive_key g d s r live)).child.in_range
 

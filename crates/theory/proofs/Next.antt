@@ -1,4 +1,4 @@
--- The next leaf: region 0's smallest key is the smallest of all, the first_chosen child of a region that has it has it too, and the working of a leaf that
+-- The next leaf: region 0's smallest key is the smallest of all, the first-chosen child of a region that has it has it too, and the working of a leaf that
 -- has it keeps the order. A run that works none but such leaves has worked, at its end, as many as there are arcs with a reached tail.
 use Prim.Native.Nat.{ℕ, ◌<◌}
 use mathlib.Core.Bool.{true, false}
@@ -47,7 +47,7 @@ module _ {most : ℕ} {g : Graph} {d : Division} {spans : List ℕ} (ok : WellFo
   pub next_worked_in_order : (r : ℕ) (s : State) → r < regions d → is_leaf d r ≡ true → Next g d r s → InOrder g (process_leaf g d r s)
   next_worked_in_order r s lr leaf p = leaf_in_order ok r s lr leaf (leaf_keyed r s leaf p) p.shape p.sound (leaf_least r s leaf p) p.in_order_lem
 
-  -- the first_chosen child of an inner region that is next is next
+  -- the first-chosen child of an inner region that is next is next
   pub child_next : (r : ℕ) (s : State) → is_leaf d r ≡ false → Next g d r s → Next g d (min_item d s.queues.keys r) s
   child_next r s inner p =
       let c = min_item d s.queues.keys r in

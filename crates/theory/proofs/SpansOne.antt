@@ -49,7 +49,7 @@ module _ (g : Graph) (d : Division) (rounds : ℕ → ℕ) (inner : List ℕ →
       }
 
 module _ {most : ℕ} {g : Graph} {d : Division} {spans : List ℕ} (ok : WellFormed most g d spans) (one : (i : ℕ) → i < length spans → at spans i ≡ 1) where
-  -- an inner region hands the turn to its first_chosen child, once
+  -- an inner region hands the turn to its first-chosen child, once
   process_once : (r : ℕ) (s : State) → r < regions d → is_leaf d r ≡ false → min_key d s.queues r < top
       → process g d spans r s ≡ process_child g d (process g d spans) r (count_inner g d r s)
   unfolding count_at count_inner
@@ -80,7 +80,7 @@ module _ {most : ℕ} {g : Graph} {d : Division} {spans : List ℕ} (ok : WellFo
   abbrev WorksBelow : ℕ → (ℕ → State → State) → Type 0
   WorksBelow r go = (c : ℕ) (s : State) → c < regions d → height d c < height d r → Next g d c s → WorksLeast g d s.rounds s (go c s)
 
-  -- so does the turn of the next region r, which is its first_chosen child's
+  -- so does the turn of the next region r, which is its first-chosen child's
   child_works : (r : ℕ) (s : State) (go : ℕ → State → State) → is_leaf d r ≡ false → Next g d r s → WorksBelow r go
       → WorksLeast g d s.rounds s (process_child g d go r s)
   unfolding process_child rewrite_key

@@ -1,4 +1,4 @@
--- What is claimed of the converted sheet, of every sheet that is at fault in nothing but self_arcs_lem. The theory of runs asks for no more than that, so the old
+-- What is claimed of the converted sheet, of every sheet that is at fault in nothing but self-arcs. The theory of runs asks for no more than that, so the old
 -- sheet's tables were shortest where they were left as ended; and no shortest route needs a self-arc, so the converted sheet has the same distances. And what
 -- 35 changes in the other calls.
 use Prim.Native.Nat.{ℕ, ◌<◌}

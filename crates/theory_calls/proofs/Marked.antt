@@ -124,7 +124,7 @@ abbrev ◌is◌leaving◌ : Task → Answer → List ℕ → Row
 t is a leaving ws = record { task = t; expected = record { answer = a; words = ws } }
 
 -- a sheet whose first word is the given one; two nodes with an arc whose second word is the given one; one node with an arc to itself, and the same without a
--- leaf; the one_node_lem hall without its third word
+-- leaf; the one-node hall without its third word
 abbrev starting_with : ℕ → List ℕ
 starting_with nodeWord = nodeWord ∷ 0x20000000 ∷ 0x30000001 ∷ []
 
@@ -196,7 +196,7 @@ held_ended =
 
 abbrev rows : List Row
 rows =
-    -- hall A, and the one_node_lem hall
+    -- hall A, and the one-node hall
     judge hall_a is accepted
     ∷ judge one_node is accepted
     -- "A to its end, as printed.", and 2026-02: "hall A shows `inner 3 3`"; 2026-07: "hall A prints as before"

@@ -1,4 +1,4 @@
--- `arc_refusal` meets its contract: each stage where none before it refuses, and the last only where self_arcs_lem are retired.
+-- `arc_refusal` meets its contract: each stage where none before it refuses, and the last only where self-arcs are retired.
 use Prim.Native.Nat.{ℕ}
 use mathlib.Core.Bool.{Bool, true, false, not, ◌&&◌}
 use mathlib.Core.List.{List, [], ◌∷◌}
@@ -25,7 +25,7 @@ retired c = c.before.before.before.args.retired
 abbrev fields-passed : tie.Else2 → tie.Else1
 fields-passed c = c.before.before
 
--- 35, of a sheet whose self_arcs_lem are retired or not
+-- 35, of a sheet whose self-arcs are retired or not
 abbrev lastAnswer : Bool → List ℕ → Answer
 lastAnswer retired b = lowest (input 35 when (retired && self_arcs b) ∷ []) accepted
 

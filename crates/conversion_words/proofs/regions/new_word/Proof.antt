@@ -1,4 +1,4 @@
--- `new_word_lem` meets its contract: by the two kinds of region words.
+-- `new_word` meets its contract: by the two kinds of region words.
 use borrow.Author.Rules.{rules}
 use borrow.Author.Tests.{not-true, not-false}
 use Prim.Native.Nat.{◌<◌}

@@ -207,7 +207,7 @@ module _ (t : ℕ) where
   some_left : (c : Found) → 0 < (looped c).loop.left
   some_left c = search rules
 
-  -- and its first_chosen child is found, for any graph, division and state that the loop began with
+  -- and its first-chosen child is found, for any graph, division and state that the loop began with
   abbrev Turn : Found → Graph → Division → List ℕ → State → State → Type 0
   Turn c g d spans s₀ s =
       let loop = (looped c).loop in

@@ -1,4 +1,4 @@
--- `is_leaf_lem` meets its contract: region 0 is inner, another region is as its word says.
+-- `is_leaf` meets its contract: region 0 is inner, another region is as its word says.
 use mathlib.Core.Path.{◌∙◌}
 use borrow.Author.Rules.{rules}
 use Rattle.sheet.proofs.Regions.{leaf_of_word}

@@ -1,4 +1,4 @@
--- `source_fits_lem` meets its contract: the source's label, and then its predecessor.
+-- `source_fits` meets its contract: the source's label, and then its predecessor.
 use Prim.Native.Nat.{◌<◌}
 use borrow.Author.Rules.{rules}
 use native.Mathlib.Omega.{arith}
