@@ -114,7 +114,7 @@ module _ {b spans holds arcs regions : List ℕ} (A : Assembled b spans holds ar
   pub assembled_holds : hold_count b ≡ length holds
   unfolding kind_from kind
   assembled_holds =
-      let Spans-all = assembled_spans in
+      let spans_all = assembled_spans in
       lead_is (of_kind 13 b (holds_at b)) (length holds) (words b - holds_at b) (omega (arith, all_words))
       (λ v l. eq-eqb (kind_of (word b (holds_at b + v))) 13 (ap kind_of (assembled_hold v l) ∙ A.hold_kind_lem v l))
       (λ l.

@@ -14,7 +14,7 @@ returns c =
     let start : tie.Start = search rules in
     let length : tie.After-length-at = search rules in
     length.length_at.ensures
-    ∙ sym (taken_none start.args.s.now (omega (arith, start.pre.0.Spans-all, start.pre.0.arcs_from_lem)) start.args.a.0)
+    ∙ sym (taken_none start.args.s.now (omega (arith, start.pre.0.spans_all, start.pre.0.arcs_from_lem)) start.args.a.0)
 
 add-result : tie.Need-overflow-add-result
 add-result c =
@@ -43,7 +43,7 @@ taken-length-at-spec =
     tie.close (tie.spec
     (λ c κs. search rules)
     (λ c. let start : tie.Start = search rules in
-    omega (arith, regions_inside start.args.s.now start.pre.0.front, start.pre.0.Spans-all))
+    omega (arith, regions_inside start.args.s.now start.pre.0.front, start.pre.0.spans_all))
     returns
     (λ c κs. search rules)
     (λ c κs. search rules)
