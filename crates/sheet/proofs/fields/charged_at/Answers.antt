@@ -1,0 +1,13 @@
+-- `charged_at` meets its contract: nothing at the source, the hold elsewhere.
+use mathlib.Core.Path.{sym, ◌∙◌}
+use native.Mathlib.Omega.{arith}
+use Rattle.sheet.proofs.Holds.{charged_source, charged_other}
+use Rattle.sheet.proofs.fields.charged_at.Goals as goal
+
+-- the node is the source
+pub returns-then-v-source_number : goal.returns-then-v-source_number
+returns-then-v-source_number c = sym (charged_source c.args.s.now c.args.v.0 (omega arith))
+
+-- or another
+pub returns : goal.returns
+returns c = c.hold_at.ensures ∙ sym (charged_other c.args.s.now c.args.v.0 (λ e. c.if-v-source_number.false (omega arith)))

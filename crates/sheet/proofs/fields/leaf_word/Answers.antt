@@ -1,0 +1,7 @@
+-- `leaf_word` meets its contract: the kind is 7.
+use Rattle.sheet.specs.Regions.{leaf_word}
+use Rattle.sheet.proofs.fields.leaf_word.Goals as goal
+
+pub returns : goal.returns
+unfolding leaf_word
+returns c = rw (← c.kind_at.ensures)
