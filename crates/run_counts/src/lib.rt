@@ -1,5 +1,5 @@
-// The four counts of a run. "The four counts travel with the run and grow as it goes": they are lent to thin functions, one for each count. The
-// borrow checker covers no function over a struct that is lent, so these are proved by hand, and so are those below, by which `array` counts.
+// The four counts of a run. "The four counts travel with the run and grow as it goes": they are lent to thin functions, one for each count, and the functions
+// below them, by which `array` counts, lend them.
 #![tactic(auto)]
 
 pub mod array;

@@ -1,5 +1,5 @@
-// How a sheet is read: a struct that holds the sheet and a place in it, and thin functions over it. The borrow checker covers none of these, so
-// each takes the struct apart for a function of `sheet::scan`, which does the work, and is proved by hand; callers use the functions below them.
+// How a sheet is read: a struct that holds the sheet and a place in it, and thin functions over it. Each takes the struct apart for a function of
+// `sheet::scan`, which does the work; callers use the functions below them.
 #![tactic(auto)]
 
 ghost use Rattle.std.specs.Prelude.{◌≡◌, ◌≤◌};
