@@ -59,7 +59,7 @@ returns-then-not-retired c =
     let after-fields : lowest (arc_refusals most_arcs_each_way retired sheet) accepted ≡ lowest (input 10 when too_many_at_node most_arcs_each_way sheet ∷ []) (lastAnswer retired sheet) = lowest_clear (field_refusals _) _ clear in
     -- where the second does neither, 35 is, if it is looked at
     let after-degrees : lowest (arc_refusals most_arcs_each_way retired sheet) accepted ≡ lastAnswer retired sheet = rw (after-fields, sym c.too_many_at_node.ensures ∙ c.if-too_many_at_node.false) in
-    sym (after-degrees ∙ not-looked-at retired sheet c.if-not-retired.true)
+    sym (after-degrees ∙ not-looked-at retired sheet (ap not c.if-not-retired.true))
 
 pub returns-then-self_arcs : goal.returns-then-self_arcs
 unfolding arc_refusals
@@ -72,7 +72,7 @@ returns-then-self_arcs c =
     let after-fields : lowest (arc_refusals most_arcs_each_way retired sheet) accepted ≡ lowest (input 10 when too_many_at_node most_arcs_each_way sheet ∷ []) (lastAnswer retired sheet) = lowest_clear (field_refusals _) _ clear in
     -- where the second does neither, 35 is, if it is looked at
     let after-degrees : lowest (arc_refusals most_arcs_each_way retired sheet) accepted ≡ lastAnswer retired sheet = rw (after-fields, sym c.too_many_at_node.ensures ∙ c.if-too_many_at_node.false) in
-    let self-arcs-decide : lowest (arc_refusals most_arcs_each_way retired sheet) accepted ≡ lowest (input 35 when self_arcs sheet ∷ []) accepted = after-degrees ∙ looked-at retired sheet c.if-not-retired.false in
+    let self-arcs-decide : lowest (arc_refusals most_arcs_each_way retired sheet) accepted ≡ lowest (input 35 when self_arcs sheet ∷ []) accepted = after-degrees ∙ looked-at retired sheet (ap not c.if-not-retired.false) in
     rw (self-arcs-decide, sym c.self_arcs.ensures ∙ c.if-self_arcs.true)
 
 pub returns : goal.returns
@@ -86,5 +86,5 @@ returns c =
     let after-fields : lowest (arc_refusals most_arcs_each_way retired sheet) accepted ≡ lowest (input 10 when too_many_at_node most_arcs_each_way sheet ∷ []) (lastAnswer retired sheet) = lowest_clear (field_refusals _) _ clear in
     -- where the second does neither, 35 is, if it is looked at
     let after-degrees : lowest (arc_refusals most_arcs_each_way retired sheet) accepted ≡ lastAnswer retired sheet = rw (after-fields, sym c.too_many_at_node.ensures ∙ c.if-too_many_at_node.false) in
-    let self-arcs-decide : lowest (arc_refusals most_arcs_each_way retired sheet) accepted ≡ lowest (input 35 when self_arcs sheet ∷ []) accepted = after-degrees ∙ looked-at retired sheet c.if-not-retired.false in
+    let self-arcs-decide : lowest (arc_refusals most_arcs_each_way retired sheet) accepted ≡ lowest (input 35 when self_arcs sheet ∷ []) accepted = after-degrees ∙ looked-at retired sheet (ap not c.if-not-retired.false) in
     rw (self-arcs-decide, sym c.self_arcs.ensures ∙ c.if-self_arcs.false)

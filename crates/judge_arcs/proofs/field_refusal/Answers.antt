@@ -22,9 +22,9 @@ pub loop-a-preserved : goal.loop-a-preserved
 loop-a-preserved c =
     let sheet : List ℕ = c.args.s.now in
     -- each flag tells of one arc more
-    let ends-told : c.if-arc_outside.outside ≡ any (end_outside sheet) (c.loop-a.a + 1) = let loop = c.loop-a in let seen = sym c.arc_outside.ensures in ⊎_elim (λ w. flag_set _ loop.a _ w.1 (seen ∙ w.0.taken)) (λ w. flag_kept _ loop.a _ (w.1 ∙ loop.inv.1) (seen ∙ w.0.left)) c.if-arc_outside.branch in
-    let length-told : c.if-length_at-gt-MOST_LENGTH.long ≡ any (too_long sheet) (c.loop-a.a + 1) = let loop = c.loop-a in let seen = ap (ltb most_length) (sym c.length_at.ensures) in ⊎_elim (λ w. flag_set _ loop.a _ w.1 (seen ∙ lt-ltb _ _ w.0.taken)) (λ w. flag_kept _ loop.a _ (w.1 ∙ loop.inv.2) (seen ∙ le-ltb _ _ w.0.left)) c.if-length_at-gt-MOST_LENGTH.branch in
-    let hold-told : c.if-taken_length_at-gt-MOST_LENGTH.held ≡ any (too_long_held sheet) (c.loop-a.a + 1) = let loop = c.loop-a in let seen = ap (ltb most_length) (sym c.taken_length_at.ensures) in ⊎_elim (λ w. flag_set _ loop.a _ w.1 (seen ∙ lt-ltb _ _ w.0.taken)) (λ w. flag_kept _ loop.a _ (w.1 ∙ loop.inv.3) (seen ∙ le-ltb _ _ w.0.left)) c.if-taken_length_at-gt-MOST_LENGTH.branch in
+    let ends-told : c.if-arc_outside.outside ≡ any (end_outside sheet) (c.loop-a.a + 1) = let loop = c.loop-a in let seen = sym c.arc_outside.ensures in ⊎_elim (λ w. flag_set _ loop.a _ w.1 (seen ∙ w.0.true)) (λ w. flag_kept _ loop.a _ (w.1 ∙ loop.invariant.1) (seen ∙ w.0.false)) c.if-arc_outside.branch in
+    let length-told : c.if-length_at-gt-MOST_LENGTH.long ≡ any (too_long sheet) (c.loop-a.a + 1) = let loop = c.loop-a in let seen = ap (ltb most_length) (sym c.length_at.ensures) in ⊎_elim (λ w. flag_set _ loop.a _ w.1 (seen ∙ lt-ltb _ _ w.0.true)) (λ w. flag_kept _ loop.a _ (w.1 ∙ loop.invariant.2) (seen ∙ le-ltb _ _ w.0.false)) c.if-length_at-gt-MOST_LENGTH.branch in
+    let hold-told : c.if-taken_length_at-gt-MOST_LENGTH.held ≡ any (too_long_held sheet) (c.loop-a.a + 1) = let loop = c.loop-a in let seen = ap (ltb most_length) (sym c.taken_length_at.ensures) in ⊎_elim (λ w. flag_set _ loop.a _ w.1 (seen ∙ lt-ltb _ _ w.0.true)) (λ w. flag_kept _ loop.a _ (w.1 ∙ loop.invariant.3) (seen ∙ le-ltb _ _ w.0.false)) c.if-taken_length_at-gt-MOST_LENGTH.branch in
     (omega arith, ends-told, length-told, hold-told)
 
 pub returns-then-outside : goal.returns-then-outside

@@ -1,5 +1,4 @@
 -- `count_leaves` meets its contract: the counters say how many of the words passed are a leaf of each arc.
-use Prim.Native.Nat.{◌-◌}
 use mathlib.Core.Path.{◌≡◌, refl}
 use native.Mathlib.Omega.{arith}
 use lib.ListN.{length-set}

@@ -1,11 +1,8 @@
 -- `leaf_bits_set` meets its contract: a scan for `any`. While it goes on, the leaves passed have no such bit.
-use Prim.Native.Nat.{◌-◌}
 use mathlib.Core.Path.{sym, ◌∙◌}
-use mathlib.Core.Bool.{false}
 use borrow.Author.Rules.{rules}
 use native.Mathlib.Omega.{arith}
 use Rattle.indices.proofs.Tests.{any_none, any_more, any_hit, any_end}
-use Rattle.judgement.specs.Form.{leaf_bits}
 use Rattle.judge_division.proofs.leaves.leaf_bits_set.Goals as goal
 
 pub loop-k-init : goal.loop-k-init

@@ -1,6 +1,4 @@
 -- `wrong_leaves` meets its contract: a scan for `any`. While it goes on, the numbers passed have as many leaves as they should.
-use Prim.Native.Nat.{◌-◌}
-use mathlib.Core.Bool.{false}
 use mathlib.Core.Path.{◌≡◌, sym, ◌∙◌}
 use borrow.Author.Rules.{rules}
 use native.Mathlib.Omega.{arith}

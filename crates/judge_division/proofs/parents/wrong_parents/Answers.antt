@@ -1,11 +1,9 @@
 -- `wrong_parents` meets its contract: a scan for `any`. While it goes on, no word passed is wrong.
-use Prim.Native.Nat.{◌-◌}
 use mathlib.Core.Path.{sym, ◌∙◌}
-use mathlib.Core.Bool.{false}
 use borrow.Author.Rules.{rules}
 use native.Mathlib.Omega.{arith}
 use Rattle.indices.proofs.Tests.{any_none, any_more, any_hit, any_end}
-use Rattle.judgement.specs.Division.{wrong_parent, wrong_parents}
+use Rattle.judgement.specs.Division.{wrong_parents}
 use Rattle.judge_division.proofs.parents.wrong_parents.Goals as goal
 
 pub loop-k-init : goal.loop-k-init
