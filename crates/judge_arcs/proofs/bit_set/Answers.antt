@@ -1,7 +1,5 @@
 -- `bit_set` meets its contract: a scan for `any`. While it goes on, the arcs passed have no such bit.
-use Prim.Native.Nat.{◌-◌}
 use mathlib.Core.Path.{sym}
-use mathlib.Core.Bool.{false}
 use borrow.Author.Rules.{rules}
 use borrow.Author.Tests.{le-leb, lt-leb}
 use native.Mathlib.Omega.{arith}

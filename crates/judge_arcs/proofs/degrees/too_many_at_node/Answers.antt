@@ -1,5 +1,5 @@
 -- `too_many_at_node` meets its contract: the counters say how many of the arcs passed each node has, each way.
-use Prim.Native.Nat.{ℕ, ◌-◌}
+use Prim.Native.Nat.{ℕ}
 use mathlib.Core.Bool.{true, false}
 use mathlib.Core.List.{List}
 use mathlib.Core.Path.{◌≡◌, refl, sym}

@@ -1,11 +1,9 @@
 -- `self_arcs` meets its contract: a scan for `any`. While it goes on, none of the arcs passed leads from a node to itself.
-use Prim.Native.Nat.{◌-◌}
-use mathlib.Core.Bool.{false}
 use mathlib.Core.Path.{sym, ◌∙◌}
 use borrow.Author.Rules.{rules}
 use native.Mathlib.Omega.{arith}
 use Rattle.indices.proofs.Tests.{any_none, any_more, any_hit, any_end}
-use Rattle.judgement.specs.Arcs.{self_arc, self_arcs}
+use Rattle.judgement.specs.Arcs.{self_arcs}
 use Rattle.judge_arcs.proofs.self_arcs.self_arcs.Goals as goal
 
 pub loop-a-init : goal.loop-a-init
