@@ -1,5 +1,5 @@
 -- `write_words` meets its contract: the words passed are written.
-use Prim.Native.Nat.{ℕ, ◌+◌, ◌-◌}
+use Prim.Native.Nat.{ℕ, ◌+◌}
 use mathlib.Core.Path.{◌≡◌, sym, ap, ◌∙◌}
 use mathlib.Core.List.{List, [], ◌∷◌}
 use native.Mathlib.Omega.{arith}
@@ -30,6 +30,5 @@ loop-k-preserved c =
 
 pub returns : goal.returns
 returns c =
-    -- the buffer keeps its length
-    let long : length c.loop-k.out ≡ length c.args.out.now = ap length c.loop-k.invariant.1 ∙ put_length _ _ _ in
-    long
+    let all : c.args.count ≡ c.loop-k.k = omega arith in
+    rw all c.loop-k.invariant.1
