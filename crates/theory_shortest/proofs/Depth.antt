@@ -41,7 +41,7 @@ module _ (g : Graph) (predecessors : List ℕ) where
   unfolding node_back
   depth_back {v} {d} zero k p e = let here : d ≡ k = omega arith in subst (λ (n : ℕ). Depth g predecessors v n) here p
   depth_back (suc i) k (home l h) e = absurd (omega arith)
-  depth_back (suc i) k (back l n p) e = depth_back i k p (omega arith)
+  depth_back {v = v} (suc i) k (back l n p) e = depth_back {v = tail g (at predecessors v)} i k p (omega arith)
 
   -- a node is less deep than there are nodes
   pub depth_below : {v d : ℕ} → Depth g predecessors v d → d < g.nodes

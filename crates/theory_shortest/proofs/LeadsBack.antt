@@ -21,7 +21,7 @@ module _ (g : Graph) (predecessors : List ℕ) where
   depth_leads {v} zero (home l e) m = eq-eqb v g.source e
   depth_leads {v} (suc n) (home l e) m = or_if (eqb v g.source) _ (λ f. absurd (eqb-false v g.source f e))
   depth_leads zero (back l e p) m = absurd (omega arith)
-  depth_leads {v} (suc n) (back l e p) m = or_if (eqb v g.source) _ (λ f. depth_leads n p (omega arith))
+  depth_leads {v} (suc n) (back l e p) m = or_if (eqb v g.source) _ (λ f. depth_leads {v = tail g (at predecessors v)} n p (omega arith))
 
   -- A node that leads back has a depth, if a predecessor leads from each node in P but the source to one in P.
   pub leads_depth : (P : ℕ → Type 0) → ((v : ℕ) → P v → v < g.nodes) → ((v : ℕ) → P v → v ≢ g.source → P (tail g (at predecessors v)))

@@ -5,7 +5,6 @@ use native.Mathlib.Omega.{arith}
 use mathlib.Core.Path.{◌≡◌, refl, sym, ap, ◌∙◌}
 use mathlib.Core.Logic.{◌↔◌}
 use mathlib.Core.List.{List, [], ◌∷◌}
-use Rattle.indices.specs.Columns.{at}
 use Rattle.sheet.specs.Sections.{hold_count, arc_count}
 use Rattle.sheet.specs.Arcs.{arc_length, charged, taken_length}
 use Rattle.sheet.proofs.Holds.{charged_source, charged_none}
