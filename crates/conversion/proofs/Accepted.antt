@@ -14,7 +14,7 @@ use Rattle.indices.proofs.Totals.{count_within}
 use Rattle.indices.proofs.Selected.{count_left}
 use Rattle.sheet.specs.Limits.{most_bytes, most_nodes, most_spans, most_arcs, most_region_words, most_arcs_each_way}
 use Rattle.sheet.specs.Words.{words, word, kind_of, kind, payload, bytes_of}
-use Rattle.sheet.specs.Sections.{source, span_count, arc_count, region_words}
+use Rattle.sheet.specs.Sections.{span_count, arc_count, region_words}
 use Rattle.sheet.specs.Arcs.{end_of}
 use Rattle.sheet.specs.Regions.{leaf_word, height}
 use Rattle.sheet.proofs.Bounds.{region_words_lem, regions_inside}
