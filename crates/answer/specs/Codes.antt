@@ -1,6 +1,5 @@
 -- The number by which the library for C and Rust gives an answer. Definitions.
-use Rattle.std.specs.Prelude.{ℕ, ◌+◌, ◌-◌, Bool, ◌||◌, ltb, eqb}
-use Rattle.indices.specs.Steps.{if◌then◌else◌}
+use Rattle.std.specs.Prelude.{ℕ, ◌+◌, ◌-◌, Bool, ◌||◌, ltb, eqb, if◌then◌else◌}
 use Rattle.answer.specs.Answer.{input, state, number_of, Answer, accepted, ended, paused, route, no_route, written, refused}
 
 -- 1 to 99 a refusal, 256 to 259 what has no number of its own, from 65,536 on a route with the count of its arcs, from 131,072 on what is written with the

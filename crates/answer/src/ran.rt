@@ -1,6 +1,5 @@
 // What a run call answers.
-ghost use Rattle.std.specs.Prelude.{◌≡◌};
-ghost use Rattle.indices.specs.Steps.{if◌then◌else◌};
+ghost use Rattle.std.specs.Prelude.{◌≡◌, if◌then◌else◌};
 ghost use Rattle.answer.specs.Answer.{ended, paused};
 ghost use Rattle.answer.specs.Said.{run_said};
 

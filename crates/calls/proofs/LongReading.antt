@@ -1,4 +1,5 @@
 -- Words behind a table: what is read in its front is what the front says, and the key words behind it are read back.
+use Rattle.std.specs.Prelude.{if◌then◌else◌}
 use Prim.Native.Nat.{ℕ, ◌+◌, ◌*◌, ◌<◌}
 use mathlib.Core.Bool.{Bool, true, false, ◌&&◌}
 use mathlib.Core.Path.{◌≡◌, refl, sym, ap, ◌∙◌}
@@ -9,7 +10,6 @@ use lib.ListN.{length, length-append, get_or-append}
 use lib.Seq.{get_or-append-add}
 use lib.Dec.{ltb, eqb}
 use Rattle.indices.specs.Columns.{at, column}
-use Rattle.indices.specs.Steps.{if◌then◌else◌}
 use Rattle.indices.proofs.Columns.{length_column, at_column, column_ext}
 use Rattle.indices.proofs.Steps.{by_equal}
 use Rattle.indices.proofs.Tests.{neither, right_kind, any_ext, any_false}

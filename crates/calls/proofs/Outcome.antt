@@ -1,4 +1,5 @@
 -- What a run answers and leaves, case by case: a refused sheet, a table of the wrong length, a run that is made, in either form.
+use Rattle.std.specs.Prelude.{if◌then◌else◌}
 use Prim.Native.Nat.{ℕ, ◌-◌, ◌≤◌}
 use mathlib.Core.Bool.{Bool, true, false, true≢false, cond, not, ◌||◌}
 use mathlib.Core.Path.{◌≡◌, refl, sym, ap, ◌∙◌}
@@ -8,7 +9,6 @@ use native.Mathlib.Omega.{arith}
 use borrow.Author.Tests.{eq-eqb, eqb-true, not-false}
 use lib.ListN.{length}
 use Rattle.indices.specs.Columns.{column}
-use Rattle.indices.specs.Steps.{if◌then◌else◌}
 use Rattle.sheet.specs.Sections.{node_count, arc_count}
 use Rattle.answer.specs.Answer.{Refusal, state, Answer, ended, paused, refused, ◌when◌, is_refused, lowest}
 use Rattle.answer.specs.Codes.{code_of}

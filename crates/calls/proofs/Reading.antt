@@ -1,4 +1,5 @@
 -- What is read out of a table is what was written into it: status, counts, labels and predecessors.
+use Rattle.std.specs.Prelude.{if◌then◌else◌}
 use Prim.Native.Nat.{ℕ, zero, suc, ◌+◌, ◌*◌, ◌/◌, ◌%◌, ◌^◌, ◌≤◌, ◌<◌}
 use mathlib.Core.Bool.{Bool, true, false}
 use mathlib.Core.Path.{◌≡◌, refl, sym, ap, ◌∙◌}
@@ -9,7 +10,6 @@ use native.Mathlib.Omega.{arith}
 use lib.ListN.{length, drop, length-append, get_or-append}
 use lib.Seq.{drop_at, get_or-append-add}
 use Rattle.indices.specs.Columns.{at}
-use Rattle.indices.specs.Steps.{if◌then◌else◌}
 use Rattle.indices.proofs.Columns.{column_is}
 use Rattle.indices.proofs.Steps.{lt_or_le}
 use Rattle.sheet.specs.Words.{kind_of, payload_of, payloads, word_of}

@@ -1,11 +1,11 @@
 -- What resuming answers and leaves, case by case: a refused sheet, 32, 33, rounds that are made; and what its answer says of the table.
+use Rattle.std.specs.Prelude.{if◌then◌else◌}
 use Prim.Native.Nat.{ℕ}
 use mathlib.Core.Bool.{Bool, true, false, not, cond, true≢false}
 use mathlib.Core.Path.{◌≡◌, refl, sym, ap, ◌∙◌}
 use mathlib.Core.List.{List, [], ◌∷◌}
 use native.Mathlib.Omega.{arith}
 use borrow.Author.Tests.{not-true, not-false}
-use Rattle.indices.specs.Steps.{if◌then◌else◌}
 use Rattle.sheet.specs.Sections.{span_count}
 use Rattle.answer.specs.Answer.{Refusal, number_of, state, Answer, ended, paused, refused, Case, ◌when◌, is_refused, lowest}
 use Rattle.answer.proofs.Lowest.{lowest_append, lowest_clear, lowest_stop}

@@ -1,4 +1,5 @@
 -- 24 as it is computed agrees with the paper's, and what the route reader's answer says of the table follows.
+use Rattle.std.specs.Prelude.{if◌then◌else◌}
 use Prim.Native.Nat.{ℕ, ◌<◌}
 use native.Mathlib.Omega.{arith}
 use mathlib.Core.Bool.{Bool, true, false, cond, true≢false, not}
@@ -8,7 +9,6 @@ use mathlib.Core.List.{List, ◌∷◌}
 use borrow.Author.Tests.{not-false}
 use lib.ListN.{length}
 use lib.Dec.{ltb, eqb}
-use Rattle.indices.specs.Steps.{if◌then◌else◌}
 use Rattle.sheet.specs.Words.{top}
 use Rattle.sheet.specs.Sections.{node_count}
 use Rattle.answer.specs.Answer.{Refusal, number_of, input, state, ◌when◌, is_refused, lowest}

@@ -1,5 +1,6 @@
 -- What the words of `Work` say of graph, division and spans, and how a state whose work is known gives it of the table that shows the state. That a sheet
 -- whose leaves all hang on region 0 has no other inner region is refusal 13: an inner one would need a child, and that one a child again.
+use Rattle.std.specs.Prelude.{if◌then◌else◌}
 use Prim.Native.Nat.{ℕ, zero, suc, ◌+◌, ◌*◌, ◌≤◌, ◌<◌}
 use mathlib.Core.Bool.{Bool, true, false, not}
 use mathlib.Core.Path.{◌≡◌, refl, sym, ap, ◌∙◌}
@@ -11,7 +12,6 @@ use borrow.Author.Tests.{eq-eqb, eqb-true, not-false}
 use lib.ListN.{length}
 use lib.Dec.{ltb, eqb}
 use Rattle.indices.specs.Columns.{at}
-use Rattle.indices.specs.Steps.{if◌then◌else◌}
 use Rattle.indices.proofs.Tests.{or_then, or_if, not_equal_below, all_at, all_true, count_ext}
 use Rattle.indices.proofs.Steps.{by_truth}
 use Rattle.sheet.specs.Words.{words, top}

@@ -1,10 +1,10 @@
 -- What a call that writes bytes answers and leaves, case by case: a refused sheet, a buffer that is too short, one that has room.
+use Rattle.std.specs.Prelude.{if◌then◌else◌}
 use Prim.Native.Nat.{ℕ, ◌≤◌, ◌<◌}
 use mathlib.Core.Path.{◌≡◌, ap, ◌∙◌}
 use mathlib.Core.List.{List, ◌++◌}
 use borrow.Author.Tests.{lt-ltb, le-ltb}
 use lib.ListN.{length, drop}
-use Rattle.indices.specs.Steps.{if◌then◌else◌}
 use Rattle.answer.specs.Answer.{Refusal, input, Answer, accepted, written, refused, Case, is_refused, lowest}
 use Rattle.answer.proofs.Lowest.{lowest_append, lowest_clear, lowest_stop}
 use Rattle.calls.specs.Calls.{Call, call_answer, lent_after, write_call}

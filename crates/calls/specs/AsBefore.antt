@@ -1,8 +1,7 @@
 -- What requests leave as it was before them, one by one: all else is today's on both sides, the choice among equal keys (2026-07) and 35
 -- (2026-09) too. Definitions.
-use Rattle.std.specs.Prelude.{ℕ, ◌+◌, ◌*◌, true, false, not, ◌≡◌, List, [], ◌∷◌, ◌++◌, length, drop}
+use Rattle.std.specs.Prelude.{ℕ, ◌+◌, ◌*◌, true, false, not, ◌≡◌, List, [], ◌∷◌, ◌++◌, length, drop, if◌then◌else◌}
 use Rattle.indices.specs.Columns.{at}
-use Rattle.indices.specs.Steps.{if◌then◌else◌}
 use Rattle.indices.specs.Tests.{total}
 use Rattle.sheet.specs.Limits.{most_bytes_before, most_spans, most_arcs_each_way}
 use Rattle.sheet.specs.Sections.{node_count, span_count, arcs_at, arc_count, region_words}

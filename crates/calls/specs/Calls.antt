@@ -1,6 +1,5 @@
 -- What the calls on a sheet share: the refusals of the sheet itself are looked at first; and what those share that write bytes. Definitions.
-use Rattle.std.specs.Prelude.{ℕ, List, [], ◌∷◌, ◌++◌, length, drop, ltb}
-use Rattle.indices.specs.Steps.{if◌then◌else◌}
+use Rattle.std.specs.Prelude.{ℕ, List, [], ◌∷◌, ◌++◌, length, drop, ltb, if◌then◌else◌}
 use Rattle.answer.specs.Answer.{input, Answer, written, Case, ◌when◌, is_refused, lowest}
 
 -- A call with all that is lent to it: the refusals that it looks at where none of the sheet's own applies, what it answers where these do not apply

@@ -1,7 +1,7 @@
 -- The longer table of a state, and the state that a longer table stands for (request 2026-06). Definitions.
-use Rattle.std.specs.Prelude.{ℕ, pred, ◌+◌, ◌-◌, Bool, List, ◌++◌, set, replicate, eqb}
+use Rattle.std.specs.Prelude.{ℕ, pred, ◌+◌, ◌-◌, Bool, List, ◌++◌, set, replicate, eqb, if◌then◌else◌}
 use Rattle.indices.specs.Columns.{column}
-use Rattle.indices.specs.Steps.{if◌then◌else◌, up_to}
+use Rattle.indices.specs.Steps.{up_to}
 use Rattle.sheet.specs.Limits.{most_spans}
 use Rattle.sheet.specs.Words.{top}
 use Rattle.procedure.specs.Graph.{Graph, arcs, tail}

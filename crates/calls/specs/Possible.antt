@@ -1,7 +1,6 @@
 -- When a longer table is held to be a possible state (request 2026-06): what the request lists, clause by clause, and the test that is computed. Definitions.
-use Rattle.std.specs.Prelude.{ℕ, ◌+◌, ◌-◌, ◌*◌, ◌^◌, ◌≤◌, ◌<◌, Bool, false, not, ◌&&◌, ◌||◌, ◌≡◌, ◌↔◌, ◌≢◌, List, ltb, leb, eqb}
+use Rattle.std.specs.Prelude.{ℕ, ◌+◌, ◌-◌, ◌*◌, ◌^◌, ◌≤◌, ◌<◌, Bool, false, not, ◌&&◌, ◌||◌, ◌≡◌, ◌↔◌, ◌≢◌, List, ltb, leb, eqb, if◌then◌else◌}
 use Rattle.indices.specs.Columns.{at}
-use Rattle.indices.specs.Steps.{if◌then◌else◌}
 use Rattle.indices.specs.Tests.{all, any}
 use Rattle.sheet.specs.Limits.{most_length, most_spans}
 use Rattle.sheet.specs.Words.{top}

@@ -1,7 +1,6 @@
 -- What resuming (request 2026-06, "going on") answers, what it leaves in the table, and what its answer says of the table. Definitions.
-use Rattle.std.specs.Prelude.{ℕ, ◌^◌, ◌<◌, Bool, false, not, ◌||◌, ◌≡◌, List, [], ◌∷◌}
+use Rattle.std.specs.Prelude.{ℕ, ◌^◌, ◌<◌, Bool, false, not, ◌||◌, ◌≡◌, List, [], ◌∷◌, if◌then◌else◌}
 use Rattle.indices.specs.Columns.{at}
-use Rattle.indices.specs.Steps.{if◌then◌else◌}
 use Rattle.sheet.specs.Sections.{span_count}
 use Rattle.answer.specs.Answer.{state, Answer, refused, ◌when◌, is_refused}
 use Rattle.judgement.specs.Judgement.{refusals}

@@ -1,6 +1,5 @@
 -- What the route reader answers, what it leaves in the buffer, and what its answer says of the table. Definitions.
-use Rattle.std.specs.Prelude.{ℕ, ◌+◌, ◌*◌, Bool, false, not, ◌&&◌, ◌||◌, ◌≡◌, List, [], ◌∷◌, ◌++◌, length, drop, ltb, leb, eqb}
-use Rattle.indices.specs.Steps.{if◌then◌else◌}
+use Rattle.std.specs.Prelude.{ℕ, ◌+◌, ◌*◌, Bool, false, not, ◌&&◌, ◌||◌, ◌≡◌, List, [], ◌∷◌, ◌++◌, length, drop, ltb, leb, eqb, if◌then◌else◌}
 use Rattle.indices.specs.Tests.{any}
 use Rattle.sheet.specs.Words.{top}
 use Rattle.sheet.specs.Sections.{node_count, arc_count}

@@ -1,7 +1,6 @@
 -- What a run of a sheet answers, what it leaves in the table, and what holds of every table that it leaves. Definitions.
-use Rattle.std.specs.Prelude.{ℕ, ◌+◌, ◌^◌, ◌≤◌, ◌<◌, Bool, ◌≡◌, ◌⊎◌, List, [], ◌∷◌, ◌++◌}
+use Rattle.std.specs.Prelude.{ℕ, ◌+◌, ◌^◌, ◌≤◌, ◌<◌, Bool, ◌≡◌, ◌⊎◌, List, [], ◌∷◌, ◌++◌, if◌then◌else◌}
 use Rattle.indices.specs.Columns.{at}
-use Rattle.indices.specs.Steps.{if◌then◌else◌}
 use Rattle.sheet.specs.Limits.{most_spans}
 use Rattle.sheet.specs.Sections.{node_count, span_count, arc_count}
 use Rattle.sheet.specs.Words.{top}

@@ -1,7 +1,6 @@
 -- What the words of an answer table say. Definitions.
-use Rattle.std.specs.Prelude.{ℕ, ◌+◌, ◌*◌, Bool, not, ◌||◌, List, length, eqb}
+use Rattle.std.specs.Prelude.{ℕ, ◌+◌, ◌*◌, Bool, not, ◌||◌, List, length, eqb, if◌then◌else◌}
 use Rattle.indices.specs.Columns.{at, column}
-use Rattle.indices.specs.Steps.{if◌then◌else◌}
 use Rattle.sheet.specs.Words.{kind_of, payload_of, payloads}
 use Rattle.sheet.specs.Sections.{node_count, arc_count}
 use Rattle.answer.specs.Answer.{Answer, ended, paused}

@@ -1,6 +1,5 @@
 -- What the test program lends to a call, words or bytes, and how much of it the call has used. Definitions.
-use Rattle.std.specs.Prelude.{ℕ, zero, suc, List, length, eqb}
-use Rattle.indices.specs.Steps.{if◌then◌else◌}
+use Rattle.std.specs.Prelude.{ℕ, zero, suc, List, length, eqb, if◌then◌else◌}
 use Rattle.indices.specs.Columns.{at}
 
 -- a word of kind 12 that says neither 0 nor 1

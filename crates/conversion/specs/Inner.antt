@@ -1,7 +1,6 @@
 -- What is computed of the regions that are kept: for contracts within the project. Definitions.
-use Rattle.std.specs.Prelude.{ℕ, suc, max, ◌<◌, false, List, ◌≡◌, ltb, eqb}
+use Rattle.std.specs.Prelude.{ℕ, suc, max, ◌<◌, false, List, ◌≡◌, ltb, eqb, if◌then◌else◌}
 use Rattle.indices.specs.Columns.{at}
-use Rattle.indices.specs.Steps.{if◌then◌else◌}
 use Rattle.indices.proofs.Entries.{Entered}
 use Rattle.sheet.specs.Sections.{region_words}
 use Rattle.sheet.specs.Regions.{region_count, is_leaf}

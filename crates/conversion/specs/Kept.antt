@@ -1,7 +1,6 @@
 -- Which of n regions are left when leaves are dropped, and then inner regions left childless: `leaf` says the leaves, `parent` each region's parent, and
 -- `keeps` which leaves are not dropped. Definitions.
-use Rattle.std.specs.Prelude.{ℕ, zero, suc, Bool, true, false, ◌||◌, eqb}
-use Rattle.indices.specs.Steps.{if◌then◌else◌}
+use Rattle.std.specs.Prelude.{ℕ, zero, suc, Bool, true, false, ◌||◌, eqb, if◌then◌else◌}
 use Rattle.indices.specs.Tests.{any}
 
 module _ (leaf : ℕ → Bool) (parent : ℕ → ℕ) (keeps : ℕ → Bool) (n : ℕ) where

@@ -1,4 +1,5 @@
 -- New numbers that are entered one after the other, and what an entry tells of its index.
+use Rattle.std.specs.Prelude.{if◌then◌else◌}
 use Prim.Native.Nat.{ℕ, ◌+◌, ◌≤◌, ◌<◌}
 use mathlib.Core.Bool.{Bool, true, false, not}
 use mathlib.Core.Path.{◌≡◌, sym, ap, ◌∙◌}
@@ -8,7 +9,6 @@ use native.Mathlib.Omega.{arith}
 use mir.Val.{bool_byte}
 use lib.ListN.{length, set, length-set}
 use lib.Dec.{eqb}
-use Rattle.indices.specs.Steps.{if◌then◌else◌}
 use Rattle.indices.specs.Tests.{count}
 use Rattle.indices.proofs.Steps.{by_truth}
 use Rattle.indices.proofs.Tests.{count_none, count_le}

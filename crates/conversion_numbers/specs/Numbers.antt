@@ -1,6 +1,5 @@
 -- The new numbers of the arcs and regions that are kept, an entry for each arc and each region. Definitions.
-use Rattle.std.specs.Prelude.{ℕ, ◌≤◌, Bool, List, ◌≡◌, length}
-use Rattle.indices.specs.Steps.{if◌then◌else◌}
+use Rattle.std.specs.Prelude.{ℕ, ◌≤◌, Bool, List, ◌≡◌, length, if◌then◌else◌}
 use Rattle.indices.specs.Tests.{count}
 use Rattle.sheet.specs.Limits.{most_arcs, arc_numbers, region_numbers}
 use Rattle.sheet.specs.declared.Sections.{Sections}

@@ -4,8 +4,7 @@
 pub mod arcs;
 pub mod regions;
 
-ghost use Rattle.std.specs.Prelude.{◌≡◌};
-ghost use Rattle.indices.specs.Steps.{if◌then◌else◌};
+ghost use Rattle.std.specs.Prelude.{◌≡◌, if◌then◌else◌};
 ghost use Rattle.sheet.specs.Sections.{region_words};
 ghost use Rattle.conversion_numbers.specs.Numbers.{dropped, Lent, Numbered, Counted};
 

@@ -1,4 +1,5 @@
 -- The words of the indices that are kept, written one index after the other: each index's stand at the place of its number.
+use Rattle.std.specs.Prelude.{if◌then◌else◌}
 use Prim.Native.Nat.{ℕ, ◌+◌, ◌*◌, ◌<◌, ◌≤◌}
 use mathlib.Core.Bool.{Bool}
 use mathlib.Core.List.{List, []}
@@ -6,7 +7,6 @@ use mathlib.Core.Path.{◌≡◌, sym, ap, ◌∙◌}
 use native.Mathlib.Omega.{arith}
 use lib.ListN.{length}
 use Rattle.indices.specs.Columns.{selected}
-use Rattle.indices.specs.Steps.{if◌then◌else◌}
 use Rattle.indices.specs.Tests.{count}
 use Rattle.indices.proofs.Selected.{selected_none, selected_more, selected_length}
 use Rattle.sheet_writer.specs.Words.{words_put}

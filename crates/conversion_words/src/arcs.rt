@@ -1,6 +1,5 @@
 // The arcs of a converted sheet, written into a lent buffer.
-ghost use Rattle.std.specs.Prelude.{◌≡◌, [], ◌+◌, ◌*◌, ◌<◌};
-ghost use Rattle.indices.specs.Steps.{if◌then◌else◌};
+ghost use Rattle.std.specs.Prelude.{◌≡◌, [], ◌+◌, ◌*◌, ◌<◌, if◌then◌else◌};
 ghost use Rattle.sheet.specs.Sections.{arc_count};
 ghost use Rattle.sheet_writer.specs.Words.{words_put};
 ghost use Rattle.conversion.specs.Converted.{kept_arc, new_arc, arc_pair, converted_arcs};

@@ -1,6 +1,5 @@
 // The region words of a converted sheet, written into a lent buffer.
-ghost use Rattle.std.specs.Prelude.{◌≡◌, true, List, [], ◌∷◌, ℕ, suc, ◌+◌, ◌<◌};
-ghost use Rattle.indices.specs.Steps.{if◌then◌else◌};
+ghost use Rattle.std.specs.Prelude.{◌≡◌, true, List, [], ◌∷◌, ℕ, suc, ◌+◌, ◌<◌, if◌then◌else◌};
 ghost use Rattle.indices.specs.Tests.{count};
 ghost use Rattle.sheet.specs.Words.{words};
 ghost use Rattle.sheet_writer.specs.Words.{words_put};

@@ -1,4 +1,5 @@
 -- Laws of `column`: as many entries as asked for, each the value at its index; and of the entries that pass a test.
+use Rattle.std.specs.Prelude.{if◌then◌else◌}
 use Prim.Native.Nat.{ℕ, zero, suc, ◌+◌, ◌<◌}
 use mathlib.Core.Bool.{Bool, true, false}
 use mathlib.Core.Path.{◌≡◌, refl, sym, ap, ◌∙◌}
@@ -8,7 +9,6 @@ use native.Mathlib.Omega.{arith}
 use lib.ListN.{length}
 use lib.Seq.{ext_get_or}
 use Rattle.indices.specs.Columns.{at, column, passing}
-use Rattle.indices.specs.Steps.{if◌then◌else◌}
 
 pub length_column : (n : ℕ) (f : ℕ → ℕ) → length (column n f) ≡ n
 unfolding column

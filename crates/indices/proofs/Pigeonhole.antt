@@ -1,10 +1,10 @@
 -- The pigeonhole: m different numbers below n are at most n, by moving the value n - 1 out of the way.
+use Rattle.std.specs.Prelude.{if◌then◌else◌}
 use Prim.Native.Nat.{ℕ, zero, suc, ◌≤◌, ◌<◌}
 use native.Mathlib.Omega.{arith}
 use mathlib.Core.Path.{◌≡◌, sym, ◌∙◌}
 use mathlib.Core.Logic.{◌≢◌}
 use lib.Dec.{eqb, eqb→eq}
-use Rattle.indices.specs.Steps.{if◌then◌else◌}
 use Rattle.indices.proofs.Steps.{if_elim, neqb→ne}
 
 -- f with its value n replaced by p

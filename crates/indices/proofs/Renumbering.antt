@@ -1,5 +1,6 @@
 -- A one-to-one map of the numbers below n into themselves reaches each, and counts, least and largest values are the same under a renumbering with an
 -- inverse: one map gives 'at most', the other 'at least'.
+use Rattle.std.specs.Prelude.{if◌then◌else◌}
 use Prim.Native.Nat.{ℕ, suc, ◌+◌, ◌≤◌, ◌<◌}
 use mathlib.Core.Bool.{Bool, true, not, ◌&&◌}
 use mathlib.Core.Path.{◌≡◌, sym, ap, ◌∙◌}
@@ -8,7 +9,6 @@ use native.Mathlib.Omega.{arith}
 use borrow.Author.Tests.{eqb-true, eq-eqb, not-false, lt-ltb, le-ltb}
 use lib.Dec.{ltb, eqb}
 use Rattle.indices.specs.Tests.{count, lead, most, least}
-use Rattle.indices.specs.Steps.{if◌then◌else◌}
 use Rattle.indices.proofs.Tests.{and_left, and_right, and_both, count_in_lem, count_mono, count_nth, lead_before, lead_false, first_passing}
 use Rattle.indices.proofs.Steps.{lt_or_le}
 use Rattle.indices.proofs.Most.{most_ge, most_le}

@@ -1,5 +1,6 @@
 -- Laws of `selected`, what is left of the indices below a bound: how much it is, where an index's entries stand, and how counts and largest values over new
 -- numbers are those over the old ones that are left.
+use Rattle.std.specs.Prelude.{if◌then◌else◌}
 use Prim.Native.Nat.{ℕ, zero, suc, max, ◌+◌, ◌*◌, ◌/◌, ◌%◌, ◌<◌, ◌≤◌}
 use mathlib.Core.Bool.{Bool, true, false, cond, ◌&&◌}
 use mathlib.Core.List.{List, [], ◌∷◌, ◌++◌, append-nil}
@@ -13,7 +14,6 @@ use lib.ListN.{length, length-append, get_or-append}
 use lib.Dec.{eqb}
 use lib.Seq.{get_or-append-add, ext_get_or}
 use Rattle.indices.specs.Columns.{at, column, selected}
-use Rattle.indices.specs.Steps.{if◌then◌else◌}
 use Rattle.indices.specs.Tests.{count, most}
 use Rattle.indices.proofs.Steps.{by_order, by_equal}
 use Rattle.indices.proofs.Columns.{length_column, at_column}

@@ -1,39 +1,39 @@
--- Laws of `if◌then◌else◌`, `up_to` and `times`, case splits on numbers and tests, and an entry after a store.
+-- Laws of choice, which is `cond`, of `up_to` and `times`, case splits on numbers and tests, and an entry after a store.
 use Prim.Native.Nat.{ℕ, zero, suc, ◌+◌, ◌≤◌, ◌<◌}
 use native.Mathlib.Nat.{lt-suc_self, zero-add, suc-add}
 use native.Mathlib.Omega.{arith}
-use mathlib.Core.Bool.{Bool, true, false, not, ◌&&◌}
+use mathlib.Core.Bool.{Bool, true, false, cond, not, ◌&&◌}
 use mathlib.Core.Path.{◌≡◌, refl, sym, ap, ◌∙◌, subst}
 use mathlib.Core.Logic.{◌≢◌, ◌⊎◌, inl, inr, ⊎_elim}
 use mathlib.Core.List.{List}
 use lib.ListN.{length, get_or, set}
 use lib.Seq.{get_or-set_same, get_or-set_other}
 use lib.Dec.{T, T_not, ltb, eqb, ltb→lt, nltb→le, eqb→eq, eqb_refl}
-use Rattle.indices.specs.Steps.{if◌then◌else◌, up_to, times}
+use Rattle.indices.specs.Steps.{up_to, times}
 
 -- to prove P of an if, prove it of both branches, with the test's outcome in hand
-pub if_elim {ℓ κ} : {A : Type ℓ} (P : A → Type κ) (b : Bool) {x y : A} → (T b → P x) → (T (not b) → P y) → P (if b then x else y)
+pub if_elim {ℓ κ} : {A : Type ℓ} (P : A → Type κ) (b : Bool) {x y : A} → (T b → P x) → (T (not b) → P y) → P (cond b x y)
 if_elim P true f g = f tt
 if_elim P false f g = g tt
 
 -- the same where two tests are joined
 pub if_and_elim {ℓ κ} : {A : Type ℓ} (P : A → Type κ) (a b : Bool) {x y : A}
-    → (T a → T b → P x) → (T a → T (not b) → P y) → (T (not a) → P y) → P (if a && b then x else y)
+    → (T a → T b → P x) → (T a → T (not b) → P y) → (T (not a) → P y) → P (cond (a && b) x y)
 if_and_elim P true true f g k = f tt tt
 if_and_elim P true false f g k = g tt tt
 if_and_elim P false b f g k = k tt
 
-pub if_false {ℓ} : {A : Type ℓ} (b : Bool) (x y : A) → T (not b) → (if b then x else y) ≡ y
+pub if_false {ℓ} : {A : Type ℓ} (b : Bool) (x y : A) → T (not b) → (cond b x y) ≡ y
 if_false true x y t = absurd t
 if_false false x y t = refl
 
-pub if_cong {ℓ} : {A : Type ℓ} (b : Bool) (x x' y : A) → (T b → x ≡ x') → (if b then x else y) ≡ (if b then x' else y)
+pub if_cong {ℓ} : {A : Type ℓ} (b : Bool) (x x' y : A) → (T b → x ≡ x') → (cond b x y) ≡ (cond b x' y)
 if_cong true x x' y e = e tt
 if_cong false x x' y e = refl
 
 -- a choice, under a map
 pub if_maps {ℓ κ} : {A : Type ℓ} {B : Type κ} (h : A → B) (b : Bool) (x : A) (x' : B) (y : A) → (T b → x' ≡ h x)
-    → (if b then x' else h y) ≡ h (if b then x else y)
+    → (cond b x' (h y)) ≡ h (cond b x y)
 if_maps h true x x' y e = e tt
 if_maps h false x x' y e = refl
 
@@ -188,7 +188,7 @@ module _ {ℓ} {S : Type ℓ} where
   times_stop test f (suc n) s t (suc m) l = go (test s) (λ t. times_stop test f n (f s) t m (omega arith)) t
     where
       go : (b : Bool) → (T (not (test (times n test f (f s)))) → times m test f (f s) ≡ times n test f (f s))
-          → T (not (test (if b then times n test f (f s) else s))) → (if b then times m test f (f s) else s) ≡ (if b then times n test f (f s) else s)
+          → T (not (test (cond b (times n test f (f s)) s))) → cond b (times m test f (f s)) s ≡ cond b (times n test f (f s)) s
       go true ih t = ih t
       go false ih t = refl
 
@@ -199,7 +199,7 @@ module _ {ℓ} {S : Type ℓ} where
   times_add test f (suc n) m s = rw (suc-add n m) (go (times_add test f n m (f s)) (test s) refl)
     where
       go : times (n + m) test f (f s) ≡ times m test f (times n test f (f s)) → (b : Bool) → test s ≡ b
-          → (if b then times (n + m) test f (f s) else s) ≡ times m test f (if b then times n test f (f s) else s)
+          → cond b (times (n + m) test f (f s)) s ≡ times m test f (cond b (times n test f (f s)) s)
       go ih true e = ih
       go ih false e = sym (times_off test f m s e)
 

@@ -1,6 +1,5 @@
 -- Columns: lists of numbers, read by index. Definitions.
-use Rattle.std.specs.Prelude.{ℕ, zero, suc, Bool, List, [], ◌∷◌, ◌++◌, get_or}
-use Rattle.indices.specs.Steps.{if◌then◌else◌}
+use Rattle.std.specs.Prelude.{ℕ, zero, suc, Bool, List, [], ◌∷◌, ◌++◌, get_or, if◌then◌else◌}
 
 -- the entry at i, as a slice is read
 abbrev pub at : List ℕ → ℕ → ℕ

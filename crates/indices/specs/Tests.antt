@@ -1,6 +1,5 @@
 -- Tests and figures over the indices below a bound. Each is computed. Definitions.
-use Rattle.std.specs.Prelude.{ℕ, zero, suc, ◌+◌, max, min, Bool, true, false, ◌&&◌, ◌||◌}
-use Rattle.indices.specs.Steps.{if◌then◌else◌}
+use Rattle.std.specs.Prelude.{ℕ, zero, suc, ◌+◌, max, min, Bool, true, false, ◌&&◌, ◌||◌, if◌then◌else◌}
 
 -- every index below n passes
 unfoldable pub all : (ℕ → Bool) → ℕ → Bool

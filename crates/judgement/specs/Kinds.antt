@@ -1,8 +1,7 @@
 -- Request 2026-05: which kinds may stand at the front of a sheet, right after each other, and at its end, a case for each kind. And what is claimed of these
 -- cases: they say yes exactly where the order of refusal 2, which is defined by the sections of a sheet, lets the one follow the other. Of how many holds
 -- there are, the other part of refusal 2 (2026-08), neighbours say nothing. Definitions.
-use Rattle.std.specs.Prelude.{ℕ, ◌+◌, ◌-◌, ◌<◌, Bool, true, false, not, ◌||◌, List, ◌↔◌, ◌≡◌, length, get_or, eqb}
-use Rattle.indices.specs.Steps.{if◌then◌else◌}
+use Rattle.std.specs.Prelude.{ℕ, ◌+◌, ◌-◌, ◌<◌, Bool, true, false, not, ◌||◌, List, ◌↔◌, ◌≡◌, length, get_or, eqb, if◌then◌else◌}
 use Rattle.indices.specs.Tests.{any}
 use Rattle.sheet.specs.Words.{words, kind}
 use Rattle.judgement.specs.Form.{wrong_size, wrong_holds, out_of_order}

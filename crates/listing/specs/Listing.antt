@@ -1,8 +1,7 @@
 -- What `marks` prints, as bytes: the listing of an answer table, and a refusal. Definitions.
-use Rattle.std.specs.Prelude.{ℕ, zero, suc, ◌+◌, ◌*◌, List, [], ◌++◌, eqb}
+use Rattle.std.specs.Prelude.{ℕ, zero, suc, ◌+◌, ◌*◌, List, [], ◌++◌, eqb, if◌then◌else◌}
 use Prim.Native.String.{String}
 use Rattle.sheet.specs.Limits.{most_nodes, most_spans}
-use Rattle.indices.specs.Steps.{if◌then◌else◌}
 use Rattle.sheet.specs.Words.{top}
 use Rattle.procedure.specs.Table.{inner_place, updates_place}
 use Rattle.calls.specs.Tables.{status_in, count_in, label_in, predecessor_in}

@@ -1,6 +1,5 @@
 -- What `marks` prints of a sheet, as bytes, and what a report of it leaves in what is lent; and what `converter` writes. Definitions.
-use Rattle.std.specs.Prelude.{ℕ, false, ◌≡◌, List, ◌++◌, length, drop}
-use Rattle.indices.specs.Steps.{if◌then◌else◌}
+use Rattle.std.specs.Prelude.{ℕ, false, ◌≡◌, List, ◌++◌, length, drop, if◌then◌else◌}
 use Rattle.sheet.specs.Sections.{node_count, span_count}
 use Rattle.answer.specs.Answer.{number_of, Answer, accepted, ended, paused, route, no_route, written, refused, is_refused}
 use Rattle.judgement.specs.Judgement.{judgement_by, judgement}

@@ -1,8 +1,7 @@
 -- Text as bytes, and numbers as text. Definitions.
-use Rattle.std.specs.Prelude.{ℕ, zero, suc, ◌+◌, ◌/◌, ◌%◌, List, [], ◌∷◌, ◌++◌, ltb}
+use Rattle.std.specs.Prelude.{ℕ, zero, suc, ◌+◌, ◌/◌, ◌%◌, List, [], ◌∷◌, ◌++◌, ltb, if◌then◌else◌}
 use Prim.Native.Char.{code}
 use Prim.Native.String.{String, [] as empty, ◌∷◌ as ◌then◌}
-use Rattle.indices.specs.Steps.{if◌then◌else◌}
 
 -- the bytes of a text that has characters of ASCII alone: the number of each
 abbrev pub ascii : String → List ℕ

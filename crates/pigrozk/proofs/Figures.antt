@@ -1,5 +1,6 @@
 -- The figure in an answer is small: only a sheet that is accepted, with 35 or without it, is answered with one, a route has no more arcs than the hall has
 -- nodes, a canonical form has as many bytes as the sheet, and a converted sheet no more.
+use Rattle.std.specs.Prelude.{if◌then◌else◌}
 use Prim.Native.Nat.{ℕ, zero, suc, ◌%◌, ◌≤◌, ◌<◌}
 use native.Mathlib.Omega.{arith}
 use mathlib.Core.Bool.{Bool, true, false, not, cond}
@@ -9,7 +10,6 @@ use borrow.Author.Tests.{ltb-false}
 use lib.ListN.{length, length-append}
 use lib.Dec.{ltb, eqb}
 use Rattle.indices.specs.Columns.{at}
-use Rattle.indices.specs.Steps.{if◌then◌else◌}
 use Rattle.indices.proofs.Steps.{by_truth}
 use Rattle.indices.proofs.Tests.{or_right}
 use Rattle.sheet.specs.Limits.{most_nodes, most_bytes, most_arcs_each_way}

@@ -1,4 +1,5 @@
 -- The code of a call's answer says the answer: a code below 100 is a refusal, and its number tells whose.
+use Rattle.std.specs.Prelude.{if◌then◌else◌}
 use Prim.Native.Nat.{ℕ, ◌+◌, ◌-◌, ◌<◌}
 use native.Mathlib.Omega.{arith}
 use mathlib.Core.Bool.{Bool, true, false, cond, not, ◌&&◌}
@@ -7,7 +8,6 @@ use mathlib.Core.List.{List, [], ◌∷◌}
 use borrow.Author.Tests.{lt-ltb, le-ltb, ne_eqb, not-true}
 use lib.ListN.{length}
 use lib.Dec.{ltb, eqb}
-use Rattle.indices.specs.Steps.{if◌then◌else◌}
 use Rattle.indices.proofs.Steps.{by_truth}
 use Rattle.indices.proofs.Tests.{and_left, and_right}
 use Rattle.sheet.specs.Words.{top}

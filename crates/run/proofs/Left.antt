@@ -1,10 +1,10 @@
 -- What a run of an accepted sheet with a table in either form leaves: what every table of a run delivers, and of the whole run that it has ended.
+use Rattle.std.specs.Prelude.{if◌then◌else◌}
 use Prim.Native.Nat.{ℕ}
 use mathlib.Core.Bool.{Bool, false}
 use mathlib.Core.Path.{◌≡◌, sym, ap, subst, ◌∙◌}
 use mathlib.Core.List.{List}
 use lib.ListN.{length}
-use Rattle.indices.specs.Steps.{if◌then◌else◌}
 use Rattle.sheet.specs.Sections.{node_count, arc_count}
 use Rattle.answer.specs.Answer.{Answer, ended, paused}
 use Rattle.judgement.specs.Judgement.{Accepted}

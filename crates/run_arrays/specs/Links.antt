@@ -1,7 +1,6 @@
 -- Links: the indices below m at which a column has a value, in order, found without a search. Definitions.
-use Rattle.std.specs.Prelude.{ℕ, zero, suc, ◌+◌, ◌-◌, ◌<◌, ◌≡◌, List, length, eqb}
+use Rattle.std.specs.Prelude.{ℕ, zero, suc, ◌+◌, ◌-◌, ◌<◌, ◌≡◌, List, length, eqb, if◌then◌else◌}
 use Rattle.indices.specs.Columns.{at}
-use Rattle.indices.specs.Steps.{if◌then◌else◌}
 use Rattle.run_arrays.specs.Rows.{row_count, row_tail, row_head, row_leaf, row_next}
 
 module _ (column : ℕ → ℕ) where

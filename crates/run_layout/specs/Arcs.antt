@@ -1,6 +1,5 @@
 -- The arcs' rows while they are filled, from a sheet b or from its region words d. Definitions.
-use Rattle.std.specs.Prelude.{ℕ, ◌+◌, ◌*◌, ◌≤◌, ◌<◌, true, ◌≡◌, List, set}
-use Rattle.indices.specs.Steps.{if◌then◌else◌}
+use Rattle.std.specs.Prelude.{ℕ, ◌+◌, ◌*◌, ◌≤◌, ◌<◌, true, ◌≡◌, List, set, if◌then◌else◌}
 use Rattle.sheet.specs.Limits.{most_region_words}
 use Rattle.sheet.specs.Words.{words}
 use Rattle.sheet.specs.Sections.{arc_count}

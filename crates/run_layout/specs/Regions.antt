@@ -1,6 +1,5 @@
 -- The regions' parents and arcs while they are entered, from a sheet's region words d. Definitions.
-use Rattle.std.specs.Prelude.{ℕ, zero, suc, ◌≤◌, ◌<◌, ◌≡◌, List, length}
-use Rattle.indices.specs.Steps.{if◌then◌else◌}
+use Rattle.std.specs.Prelude.{ℕ, zero, suc, ◌≤◌, ◌<◌, ◌≡◌, List, length, if◌then◌else◌}
 use Rattle.indices.specs.Columns.{at}
 use Rattle.sheet.specs.Limits.{most_region_words}
 use Rattle.sheet.specs.Words.{words}

@@ -1,6 +1,5 @@
 -- The fields of an arc, the holds at nodes, and how long an arc is with its tail's. Definitions.
-use Rattle.std.specs.Prelude.{ℕ, ◌+◌, ◌*◌, ◌/◌, ◌%◌, List, Bool, true, false, eqb, ltb}
-use Rattle.indices.specs.Steps.{if◌then◌else◌}
+use Rattle.std.specs.Prelude.{ℕ, ◌+◌, ◌*◌, ◌/◌, ◌%◌, List, Bool, true, false, eqb, ltb, if◌then◌else◌}
 use Rattle.sheet.specs.Limits.{node_numbers}
 use Rattle.sheet.specs.Words.{payload}
 use Rattle.sheet.specs.Sections.{source, holds_at, hold_count, arcs_at}

@@ -1,6 +1,5 @@
 -- What functions and laws ask of a sheet and of a nesting: for contracts within the project. Definitions.
-use Rattle.std.specs.Prelude.{ℕ, ◌+◌, ◌≤◌, ◌<◌, List, Bool, false, ◌≡◌, ltb}
-use Rattle.indices.specs.Steps.{if◌then◌else◌}
+use Rattle.std.specs.Prelude.{ℕ, ◌+◌, ◌≤◌, ◌<◌, List, Bool, false, ◌≡◌, ltb, if◌then◌else◌}
 use Rattle.sheet.specs.declared.Cursor.{Cursor}
 use Rattle.sheet.specs.declared.Sections.{Sections}
 use Rattle.sheet.specs.declared.Step.{Step}

@@ -1,5 +1,6 @@
 -- The table of any sound state of an accepted sheet whose counts fit, and every table with the same usual words: what is read out of it is the state, where it
 -- has ended it is shortest, and "22" does not apply to it but for key words.
+use Rattle.std.specs.Prelude.{if◌then◌else◌}
 use Prim.Native.Nat.{ℕ, ◌+◌, ◌*◌, ◌^◌, ◌≤◌, ◌<◌}
 use mathlib.Core.Bool.{Bool, true, false, not, ◌||◌}
 use mathlib.Core.Path.{◌≡◌, refl, sym, ap, ◌∙◌}
@@ -10,7 +11,6 @@ use borrow.Author.Tests.{eq-eqb, lt-ltb}
 use lib.ListN.{length}
 use lib.Dec.{ltb, eqb}
 use Rattle.indices.specs.Columns.{at}
-use Rattle.indices.specs.Steps.{if◌then◌else◌}
 use Rattle.indices.specs.Tests.{any}
 use Rattle.indices.proofs.Tests.{neither, or_if, right_kind, any_false}
 use Rattle.sheet.specs.Limits.{most_spans, most_arcs_each_way}

@@ -1,12 +1,13 @@
 -- The marked cases of the paper as a table, and cases of change requests with them, computed from the definitions: a call, what it answers, and what is then in
 -- what was lent or is printed.
+use Rattle.std.specs.Prelude.{if◌then◌else◌}
 use Prim.Native.Nat.{ℕ}
 use mathlib.Core.Bool.{Bool, false}
 use mathlib.Core.List.{List, [], ◌∷◌, ◌++◌, map}
 use mathlib.Core.Path.{◌≡◌, refl}
 use lib.ListN.{take, drop, set, replicate}
 use Rattle.indices.specs.Columns.{column, selected}
-use Rattle.indices.specs.Steps.{if◌then◌else◌, up_to, times}
+use Rattle.indices.specs.Steps.{up_to, times}
 use Rattle.indices.specs.Tests.{all, any, count, lead, most, least}
 use Rattle.sheet.specs.Words.{word, kind, payload, top, bytes_of}
 use Rattle.sheet.specs.Sections.{kind_from, arcs_from, region_words}

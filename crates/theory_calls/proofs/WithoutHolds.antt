@@ -1,5 +1,6 @@
 -- Request 2026-08: a sheet without holds is answered in every call as before. No hold is charged, so an arc takes its length and the graph is the one of
 -- before; 34 applies only where 9 does, and 2 just where the sections are out of order.
+use Rattle.std.specs.Prelude.{if◌then◌else◌}
 use Prim.Native.Nat.{ℕ, ◌%◌}
 use mathlib.Core.Bool.{true, false, not, or-false}
 use mathlib.Core.List.{List, [], ◌∷◌, ◌++◌}
@@ -8,7 +9,6 @@ use native.Mathlib.Omega.{arith}
 use borrow.Author.Tests.{eq-eqb, eqb-true, ltb-true, not-false}
 use lib.ListN.{length, drop}
 use lib.Dec.{ltb, eqb}
-use Rattle.indices.specs.Steps.{if◌then◌else◌}
 use Rattle.indices.proofs.Columns.{column_ext}
 use Rattle.indices.proofs.Tests.{or_left, or_then, any_ext}
 use Rattle.sheet.specs.Limits.{most_bytes_before, most_length, most_arcs_each_way}

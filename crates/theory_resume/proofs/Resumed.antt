@@ -1,5 +1,6 @@
 -- Tables that rounds more leave: they are possible states again, their counts stay bounded, and with unchanged spans rounds done in parts equal rounds done
 -- together, since the state read back is the state that was written.
+use Rattle.std.specs.Prelude.{if◌then◌else◌}
 use Prim.Native.Nat.{ℕ, ◌+◌, ◌^◌}
 use mathlib.Core.Bool.{true, false}
 use mathlib.Core.Path.{◌≡◌, sym, ap, ◌∙◌}
@@ -8,7 +9,6 @@ use mathlib.Core.List.{List}
 use native.Mathlib.Omega.{arith}
 use lib.ListN.{get_or-eq_default}
 use Rattle.indices.specs.Columns.{column}
-use Rattle.indices.specs.Steps.{if◌then◌else◌}
 use Rattle.indices.proofs.Columns.{length_column, at_column}
 use Rattle.indices.proofs.Steps.{by_order}
 use Rattle.sheet.specs.Limits.{most_spans, most_arcs_each_way}

@@ -1,5 +1,6 @@
 -- The state that a possible table stands for has the invariant of a run between rounds: what the table says is the invariant but for the keys, and these are
 -- built as it asks.
+use Rattle.std.specs.Prelude.{if◌then◌else◌}
 use Prim.Native.Nat.{ℕ, ◌+◌, ◌≤◌, ◌<◌}
 use mathlib.Core.Bool.{true, false, true≢false}
 use mathlib.Core.Path.{◌≡◌, refl, sym, ◌∙◌}
@@ -9,7 +10,6 @@ use native.Mathlib.Nat.{le_refl}
 use native.Mathlib.Omega.{arith}
 use lib.ListN.{length, get_or-eq_default}
 use Rattle.indices.specs.Columns.{at, column}
-use Rattle.indices.specs.Steps.{if◌then◌else◌}
 use Rattle.indices.proofs.Columns.{length_column, at_column}
 use Rattle.indices.proofs.Steps.{by_order, by_truth}
 use Rattle.sheet.specs.Limits.{most_spans}

@@ -1,7 +1,7 @@
 -- Queues rebuilt by updates, for the code that resumes a run. Definitions.
-use Rattle.std.specs.Prelude.{ℕ, List, ltb}
+use Rattle.std.specs.Prelude.{ℕ, List, ltb, if◌then◌else◌}
 use Rattle.indices.specs.Columns.{at}
-use Rattle.indices.specs.Steps.{if◌then◌else◌, up_to}
+use Rattle.indices.specs.Steps.{up_to}
 use Rattle.sheet.specs.Words.{top}
 use Rattle.procedure.specs.Division.{Division}
 use Rattle.procedure.specs.State.{Queues}

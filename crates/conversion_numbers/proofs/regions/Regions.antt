@@ -1,4 +1,5 @@
 -- What the functions over the region words of a convertible sheet use of it: which leaves are kept, what each region hands up, and which regions are kept.
+use Rattle.std.specs.Prelude.{if◌then◌else◌}
 use Prim.Native.Nat.{ℕ, zero, suc, max, ◌-◌, ◌<◌, ◌≤◌}
 use mathlib.Core.Bool.{Bool, true, false, not, cond, true≢false}
 use mathlib.Core.List.{List}
@@ -9,7 +10,6 @@ use mir.Val.{bool_byte}
 use lib.ListN.{length, set, replicate, length-set, length-replicate}
 use lib.Dec.{ltb, eqb}
 use Rattle.indices.specs.Columns.{at}
-use Rattle.indices.specs.Steps.{if◌then◌else◌}
 use Rattle.sheet.specs.Limits.{most_region_words, region_numbers}
 use Rattle.sheet.specs.Words.{words, top}
 use Rattle.sheet.specs.Sections.{arc_count, region_words}

@@ -1,4 +1,5 @@
 -- The two words of an arc that is kept, at the place of its new number.
+use Rattle.std.specs.Prelude.{if◌then◌else◌}
 use Prim.Native.Nat.{ℕ, ◌+◌, ◌*◌, ◌<◌, ◌≤◌}
 use mathlib.Core.Bool.{true, false, not}
 use mathlib.Core.List.{List, [], ◌∷◌}
@@ -9,7 +10,6 @@ use native.Mathlib.Omega.{arith}
 use lib.ListN.{length}
 use lib.Dec.{eqb}
 use Rattle.indices.specs.Columns.{at, column}
-use Rattle.indices.specs.Steps.{if◌then◌else◌}
 use Rattle.sheet.specs.Words.{word}
 use Rattle.sheet.specs.declared.Sections.{Sections}
 use Rattle.sheet.specs.Sections.{arc_count}

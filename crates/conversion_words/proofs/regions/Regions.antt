@@ -1,4 +1,5 @@
 -- The word of a region that is kept, with its parent and its arc under their new numbers, at the place of its own.
+use Rattle.std.specs.Prelude.{if◌then◌else◌}
 use Prim.Native.Nat.{ℕ, suc, ◌+◌, ◌-◌, ◌*◌, ◌<◌, ◌≤◌}
 use mathlib.Core.Bool.{true, false, not}
 use mathlib.Core.List.{List, [], ◌∷◌}
@@ -8,7 +9,6 @@ use native.Mathlib.Omega.{arith}
 use lib.ListN.{length}
 use lib.Dec.{eqb}
 use Rattle.indices.specs.Columns.{at}
-use Rattle.indices.specs.Steps.{if◌then◌else◌}
 use Rattle.indices.specs.Tests.{count}
 use Rattle.indices.proofs.Selected.{number_below}
 use Rattle.sheet.specs.Limits.{arc_numbers, region_numbers}

@@ -1,9 +1,9 @@
 -- `resume_accepted` meets its contract: 32, 33, and otherwise the status of the new state and its table.
+use Rattle.std.specs.Prelude.{if◌then◌else◌}
 use borrow.Author.Rules.{rules}
 use borrow.Author.Tests.{not-true, not-false}
 use mathlib.Core.Bool.{Bool, false, not}
 use mathlib.Core.Path.{◌≡◌, sym, ap, ◌∙◌}
-use Rattle.indices.specs.Steps.{if◌then◌else◌}
 use Rattle.answer.specs.Answer.{ended, paused}
 use Rattle.judgement.proofs.Accepted.{front_there}
 use Rattle.calls.specs.Resume.{not_long, not_possible}

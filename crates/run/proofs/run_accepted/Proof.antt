@@ -1,8 +1,8 @@
 -- `run_accepted` meets its contract: 21 where the table has the wrong length, and otherwise the status of the run and its table.
+use Rattle.std.specs.Prelude.{if◌then◌else◌}
 use borrow.Author.Rules.{rules}
 use mathlib.Core.Bool.{Bool, false}
 use mathlib.Core.Path.{◌≡◌, sym, ap, ◌∙◌}
-use Rattle.indices.specs.Steps.{if◌then◌else◌}
 use Rattle.answer.specs.Answer.{ended, paused}
 use Rattle.judgement.proofs.Accepted.{front_there}
 use Rattle.calls.specs.Tables.{wrong_length}

@@ -1,5 +1,6 @@
 -- What the code of the updates rests on: an update of an item writes and counts, and stops or climbs as the smallest keys say; that of an arc begins at
 -- its own key; those of a node's outgoing arcs are a walk along links.
+use Rattle.std.specs.Prelude.{if◌then◌else◌}
 use Prim.Native.Nat.{ℕ, suc, ◌+◌, ◌-◌, ◌≤◌, ◌<◌}
 use mathlib.Core.Bool.{true, false, true≢false}
 use mathlib.Core.Path.{◌≡◌, refl, sym, ap, ◌∙◌}
@@ -9,7 +10,7 @@ use lib.ListN.{length, set, take, length-set}
 use lib.Seq.{get_or-set_same, get_or-take, take-set-lt}
 use lib.Dec.{eqb}
 use Rattle.indices.specs.Columns.{at}
-use Rattle.indices.specs.Steps.{if◌then◌else◌, up_to}
+use Rattle.indices.specs.Steps.{up_to}
 use Rattle.indices.proofs.Steps.{up_to_cong, by_equal}
 use Rattle.sheet.specs.Limits.{most_arcs}
 use Rattle.sheet.specs.Words.{top}
