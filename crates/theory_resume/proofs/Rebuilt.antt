@@ -104,10 +104,10 @@ module _ {most : ℕ} {g : Graph} {d : Division} {spans : List ℕ} (ok : WellFo
   whole = rebuilt d own (arcs g) (no_keys g d)
 
   -- the own keys are those asked for
-  pub rebuilt_own : whole.own_val ≡ own
+  pub rebuilt_own : whole.own ≡ own
   rebuilt_own =
       let p = rebuilding (arcs g) (le_refl (arcs g)) in
-      ext_get_or 0 whole.own_val own (p.sized.own ∙ sym all) (λ a l. p.done a (omega (arith, p.sized.own)))
+      ext_get_or 0 whole.own own (p.sized.own ∙ sym all) (λ a l. p.done a (omega (arith, p.sized.own)))
 
   -- and the keys are the regions' smallest
   pub rebuilt_keys : whole.keys ≡ keys_of d own
