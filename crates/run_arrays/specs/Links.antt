@@ -1,5 +1,5 @@
 -- Links: the indices below m at which a column has a value, in order, found without a search. Definitions.
-use Rattle.std.specs.Prelude.{ℕ, zero, suc, ◌+◌, ◌-◌, ◌<◌, ◌≡◌, List, length, eqb, if◌then◌else◌}
+use Rattle.std.specs.Prelude.{ℕ, zero, suc, ◌+◌, ◌-◌, ◌<◌, ◌≡◌, List, length, eqb, cond, if◌then◌else◌}
 use Rattle.indices.specs.Columns.{at}
 use Rattle.run_arrays.specs.Rows.{row_count, row_tail, row_head, row_leaf, row_next}
 
@@ -22,7 +22,7 @@ module _ (column : ℕ → ℕ) where
 
   -- step a, if the column has v at a
   abbrev pub step_from {ℓ} : {S : Type ℓ} → ℕ → (ℕ → S → S) → ℕ → S → S
-  step_from v step a s = let stepped = step a s in if eqb (column a) v then stepped else s
+  step_from v step a s = let stepped = step a s in cond (eqb (column a) v) stepped s
 
 -- arcs that can be linked: each tail is one of the nodes that have a first arc
 pub record Linkable (arcs firsts : List ℕ) : Type 0 where
