@@ -1,0 +1,11 @@
+use Prim.Native.Nat.{ℕ}
+use mathlib.Core.List.{List}
+use Rattle.conversion_numbers.specs.Numbers.{ArcsNumbered}
+use Rattle.conversion_numbers.proofs.regions.Regions.{Passing}
+use Rattle.conversion_numbers.proofs.regions.hand_heights.Given as goal
+
+abbrev pub invariant-loop-r : goal.invariant-loop-r
+invariant-loop-r l = (b : List ℕ) (A : ArcsNumbered b l.d l.arcs) → Passing A l.best l.r
+
+abbrev pub decreases-loop-r : goal.decreases-loop-r
+decreases-loop-r l = l.r

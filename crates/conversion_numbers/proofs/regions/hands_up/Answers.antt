@@ -1,0 +1,22 @@
+-- `hands_up` meets its contract: a leaf hands up 1 if it is kept, an inner region what it holds and one more, if it holds anything.
+use mathlib.Core.Path.{sym, ◌∙◌}
+use native.Mathlib.Omega.{arith}
+use Rattle.conversion_numbers.proofs.regions.Regions.{few, hands_leaf, hands_none, hands_some}
+use Rattle.conversion_numbers.proofs.regions.hands_up.Goals as goal
+
+pub kept_leaf-requires : goal.kept_leaf-requires
+kept_leaf-requires c = (c.requires.0, c.requires.1, sym c.is_leaf.ensures ∙ c.if-is_leaf.true)
+
+pub returns-then-is_leaf : goal.returns-then-is_leaf
+returns-then-is_leaf c = λ b A. hands_leaf A _ _ _ (sym c.is_leaf.ensures ∙ c.if-is_leaf.true) (c.kept_leaf.ensures b A)
+
+pub bounds-best-i : goal.bounds-best-i
+bounds-best-i c =
+    let low = few c.requires.0.1 in
+    omega arith
+
+pub returns-then-own-eq0 : goal.returns-then-own-eq0
+returns-then-own-eq0 c = λ b A. hands_none A _ _ (sym c.is_leaf.ensures ∙ c.if-is_leaf.false) c.if-own-eq0.true
+
+pub returns : goal.returns
+returns c = λ b A. hands_some A _ _ _ (sym c.is_leaf.ensures ∙ c.if-is_leaf.false) c.if-own-eq0.false (omega arith)
