@@ -1,11 +1,8 @@
 -- `number_regions` meets its contract: the regions passed have their entries, and `next` is how many of them are kept.
-use Prim.Native.Nat.{◌≤◌}
 use mathlib.Core.Path.{◌≡◌, ap, ◌∙◌}
 use native.Mathlib.Omega.{arith}
 use Rattle.indices.specs.Tests.{count}
 use Rattle.indices.proofs.Steps.{by_truth}
-use Rattle.sheet.specs.Limits.{most_region_words}
-use Rattle.sheet.specs.Words.{words}
 use Rattle.sheet.specs.Regions.{region_count}
 use Rattle.conversion.specs.Converted.{kept_region, new_region}
 use Rattle.conversion_numbers.proofs.Numbering.{numbering_none, numbering_more, next_small}
@@ -17,34 +14,27 @@ loop-r-init c = (omega arith, λ b A H. numbering_none (kept_region b) c.require
 
 pub overflow_cast-r : goal.overflow_cast-r
 overflow_cast-r c =
-    -- there are few regions
-    let low : words c.args.d.now ≤ most_region_words = few c.requires.0.1 in
-    let l = low in omega arith
+    let low = few c.requires.0.1 in omega arith
 
 pub stays-kept-requires : goal.stays-kept-requires
 stays-kept-requires c = (c.requires.0, omega arith)
 
 pub bounds-numbers-r : goal.bounds-numbers-r
 bounds-numbers-r c =
-    -- there are few regions
-    let low : words c.args.d.now ≤ most_region_words = few c.requires.0.1 in
-    let l = low in omega arith
+    let low = few c.requires.0.1 in omega arith
 
 pub overflow_add-next : goal.overflow_add-next
 overflow_add-next c =
-    -- there are few regions
-    let low : words c.args.d.now ≤ most_region_words = few c.requires.0.1 in
     let given = c.requires.0 in
-    let few = low in
+    let low = few given.1 in
     let small = next_small (c.loop-r.invariant.1 given.0 given.1 given.2) in
     by_truth c.stays-kept.result (λ e. rw e (omega arith)) (λ e. rw e (omega arith))
 
 pub loop-r-preserved : goal.loop-r-preserved
 loop-r-preserved c =
-    -- there are few regions
-    let low : words c.args.d.now ≤ most_region_words = few c.requires.0.1 in (
+    let low = few c.requires.0.1 in (
       omega arith,
-      λ b A H. numbering_more (c.loop-r.invariant.1 b A H) _ _ (omega (arith, low)) (c.stays-kept.ensures b A H) c.number_of.ensures,
+      λ b A H. numbering_more (c.loop-r.invariant.1 b A H) _ _ (omega arith) (c.stays-kept.ensures b A H) c.number_of.ensures,
     )
 
 pub returns : goal.returns
