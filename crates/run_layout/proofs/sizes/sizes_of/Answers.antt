@@ -1,0 +1,6 @@
+-- `sizes_of` meets its contract: each number is that of the sheet, and an accepted sheet keeps the limits.
+use Rattle.run_layout.proofs.sizes.Parts.{in_use}
+use Rattle.run_layout.proofs.sizes.sizes_of.Goals as goal
+
+pub returns : goal.returns
+returns c = in_use c.requires.0 c.requires.1 c.node_count.ensures c.region_words.ensures
