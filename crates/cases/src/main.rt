@@ -8,7 +8,7 @@
 #![tactic(auto)]
 
 ghost use Rattle.std.specs.Prelude.{◌≤◌, length};
-ghost use Rattle.io.specs.Counts.{IsPrefixLen};
+ghost use Rattle.std.specs.Counts.{IsPrefixLen};
 
 use answer::Fault;
 use answer::copied::Copied;
@@ -17,7 +17,7 @@ use answer::routed::Routed;
 use cases_lent::FILLING;
 use cases_lent::bytes::FILLING_BYTE;
 use judge::Judged;
-use libc::{STDIN_FILENO, STDOUT_FILENO};
+use std::io;
 
 // The bytes of the longest line: its four words, and a sheet.
 const ROOM: usize = 65552;
@@ -135,65 +135,78 @@ fn answer_word(call: u32, number: u32, sheet: &[u8], bytes: &[u8], lent: &mut [u
     }
 }
 
-fn print_word(word: u32) {
-    io::print_hex(STDOUT_FILENO, word as u64, 8);
+fn print_word(rt: &impl Print, word: u32) -> io::Result<()> {
+    print!(rt; "{word:08x}")
 }
 
-fn print_words(words: &[u32]) {
-    let mut i = 0;
-    while i < words.len() {
-        print_word(words[i]);
-        i += 1;
+fn print_words(rt: &impl Print, words: &[u32]) -> io::Result<()> {
+    for word in words {
+        print_word(rt, *word)?;
     }
+    Ok(())
 }
 
 // Prints the answer's word and, where a lent word is not the filling, the lent words up to the last such one.
-fn print_answer(word: u32, lent: &[u32]) {
-    print_word(word);
+fn print_answer(rt: &impl Print, word: u32, lent: &[u32]) -> io::Result<()> {
+    print_word(rt, word)?;
     let used = cases_lent::used(lent);
     if used > 0 {
-        io::write_all(STDOUT_FILENO, b" ");
-        print_words(&lent[0..used]);
+        rt.write_all(b" ")?;
+        print_words(rt, &lent[0..used])?;
     }
-    io::write_all(STDOUT_FILENO, b"\n");
+    rt.write_all(b"\n")
 }
 
 // Lends the first words.
-fn print_lent(call: u32, number: u32, words: usize, sheet: &[u8], bytes: &[u8], lent: &mut [u32])
+fn print_lent(
+    rt: &impl Print,
+    call: u32,
+    number: u32,
+    words: usize,
+    sheet: &[u8],
+    bytes: &[u8],
+    lent: &mut [u32],
+) -> io::Result<()>
     requires { words ≤ length lent.old }
 {
     let word = answer_word(call, number, sheet, bytes, &mut lent[0..words]);
-    print_answer(word, lent);
+    print_answer(rt, word, lent)
 }
 
-fn print_filled(call: u32, number: u32, words: usize, sheet: &[u8], bytes: &[u8])
+fn print_filled(
+    rt: &impl Print,
+    call: u32,
+    number: u32,
+    words: usize,
+    sheet: &[u8],
+    bytes: &[u8],
+) -> io::Result<()>
     requires { words ≤ 4608 }
 {
     let mut lent = [FILLING; MOST_WORDS];
-    print_lent(call, number, words, sheet, bytes, &mut lent);
+    print_lent(rt, call, number, words, sheet, bytes, &mut lent)
 }
 
-fn print_byte(byte: u8) {
-    io::print_hex(STDOUT_FILENO, byte as u64, 2);
+fn print_byte(rt: &impl Print, byte: u8) -> io::Result<()> {
+    print!(rt; "{byte:02x}")
 }
 
-fn print_bytes(bytes: &[u8]) {
-    let mut i = 0;
-    while i < bytes.len() {
-        print_byte(bytes[i]);
-        i += 1;
+fn print_bytes(rt: &impl Print, bytes: &[u8]) -> io::Result<()> {
+    for byte in bytes {
+        print_byte(rt, *byte)?;
     }
+    Ok(())
 }
 
 // Prints the answer's word and, where a lent byte is not the filling, the lent bytes up to the last such one.
-fn print_copied(word: u32, lent: &[u8]) {
-    print_word(word);
+fn print_copied(rt: &impl Print, word: u32, lent: &[u8]) -> io::Result<()> {
+    print_word(rt, word)?;
     let used = cases_lent::bytes::used(lent);
     if used > 0 {
-        io::write_all(STDOUT_FILENO, b" ");
-        print_bytes(&lent[0..used]);
+        rt.write_all(b" ")?;
+        print_bytes(rt, &lent[0..used])?;
     }
-    io::write_all(STDOUT_FILENO, b"\n");
+    rt.write_all(b"\n")
 }
 
 // The word of what a call that writes a sheet answers: the canonical form or the converted sheet.
@@ -205,40 +218,54 @@ fn copied_word(call: u32, sheet: &[u8], lent: &mut [u8]) -> u32 {
 }
 
 // Lends the first bytes.
-fn print_lent_bytes(call: u32, bytes: usize, sheet: &[u8], lent: &mut [u8])
+fn print_lent_bytes(
+    rt: &impl Print,
+    call: u32,
+    bytes: usize,
+    sheet: &[u8],
+    lent: &mut [u8],
+) -> io::Result<()>
     requires { bytes ≤ length lent.old }
 {
     let word = copied_word(call, sheet, &mut lent[0..bytes]);
-    print_copied(word, lent);
+    print_copied(rt, word, lent)
 }
 
 // Prints what is answered to a case of such a call, and answers whether there is room for the bytes lent.
-fn print_written(call: u32, bytes: usize, sheet: &[u8]) -> bool {
+fn print_written(rt: &impl Print, call: u32, bytes: usize, sheet: &[u8]) -> io::Result<bool> {
     if bytes > MOST_BYTES {
-        return false;
+        return Ok(false);
     }
     let mut lent = [FILLING_BYTE; MOST_BYTES];
-    print_lent_bytes(call, bytes, sheet, &mut lent);
-    true
+    print_lent_bytes(rt, call, bytes, sheet, &mut lent)?;
+    Ok(true)
 }
 
-fn print_listing(sheet: &[u8]) {
+fn print_listing(rt: &impl Print, sheet: &[u8]) -> io::Result<()> {
     let mut table = [0u32; report::MOST_TABLE];
     let mut out = [0u8; listing::MOST_LISTING];
-    report::print_report(sheet, &mut table, &mut out);
+    report::print_report(rt, sheet, &mut table, &mut out)?;
+    Ok(())
 }
 
 // Prints what is answered to a case of another call, and answers whether there is room for the words lent.
-fn print_call(call: u32, number: u32, words: usize, sheet: &[u8], bytes: &[u8]) -> bool {
+fn print_call(
+    rt: &impl Print,
+    call: u32,
+    number: u32,
+    words: usize,
+    sheet: &[u8],
+    bytes: &[u8],
+) -> io::Result<bool> {
     if words > MOST_WORDS {
-        return false;
+        return Ok(false);
     }
     if call == 5 {
-        print_listing(sheet);
+        print_listing(rt, sheet)?;
     } else {
-        print_filled(call, number, words, sheet, bytes);
+        print_filled(rt, call, number, words, sheet, bytes)?;
     }
-    true
+    Ok(true)
 }
 
 // Whether there is such a call, and so many bytes can follow its sheet: for a route and for going on whole words for which there is room, and else none.
@@ -250,24 +277,25 @@ fn is_case(call: u32, bytes: usize) -> bool {
 }
 
 // Prints what is answered to a case, given as its bytes, and answers whether it is one.
-fn print_case(case: &[u8]) -> bool {
+fn print_case(rt: &impl Print, case: &[u8]) -> io::Result<bool> {
     if case.len() < 16 {
-        return false;
+        return Ok(false);
     }
     let size = sheet::word_at(case, 3) as usize;
     if size > case.len() - 16 {
-        return false;
+        return Ok(false);
     }
     let end = 16 + size;
     let call = sheet::word_at(case, 0);
     if !is_case(call, case.len() - end) {
-        return false;
+        return Ok(false);
     }
     let words = sheet::word_at(case, 2) as usize;
     if call == 6 || call == 8 {
-        return print_written(call, words, &case[16..end]);
+        return print_written(rt, call, words, &case[16..end]);
     }
     print_call(
+        rt,
         call,
         sheet::word_at(case, 1),
         words,
@@ -277,16 +305,16 @@ fn print_case(case: &[u8]) -> bool {
 }
 
 // Prints what is answered to a line.
-fn print_line(line: &[u8], digits: usize) {
+fn print_line(rt: &impl Print, line: &[u8], digits: usize) -> io::Result<()> {
     let size = digits / 2;
     if digits % 2 == 0 {
         if size <= line.len() {
-            if print_case(&line[0..size]) {
-                return;
+            if print_case(rt, &line[0..size])? {
+                return Ok(());
             }
         }
     }
-    io::write_all(STDOUT_FILENO, b"unreadable\n");
+    rt.write_all(b"unreadable\n")
 }
 
 // The value of a digit, and 16 for another sign.
@@ -315,43 +343,50 @@ fn take_digit(line: &mut [u8; ROOM], digits: usize, sign: u8) -> usize {
 }
 
 // Takes a sign of a line, prints what is answered to the line at its end, and answers how many digits of a line are read then.
-fn take_sign(line: &mut [u8; ROOM], digits: usize, sign: u8) -> usize {
+fn take_sign(rt: &impl Print, line: &mut [u8; ROOM], digits: usize, sign: u8) -> io::Result<usize> {
     if sign == b' ' {
-        return digits;
+        return Ok(digits);
     }
     if sign == b'\n' {
-        print_line(line, digits);
-        return 0;
+        print_line(rt, line, digits)?;
+        return Ok(0);
     }
-    take_digit(line, digits, sign)
+    Ok(take_digit(line, digits, sign))
 }
 
-fn take_block(line: &mut [u8; ROOM], digits: usize, block: &[u8]) -> usize {
+fn take_block(
+    rt: &impl Print,
+    line: &mut [u8; ROOM],
+    digits: usize,
+    block: &[u8],
+) -> io::Result<usize> {
     let mut digits = digits;
-    let mut i = 0;
-    while i < block.len() {
-        digits = take_sign(line, digits, block[i]);
-        i += 1;
+    for sign in block {
+        digits = take_sign(rt, line, digits, *sign)?;
     }
-    digits
+    Ok(digits)
 }
 
-// A proved loop has to end, so it counts down from a number that no run uses up.
-fn take_input(line: &mut [u8; ROOM], block: &mut [u8]) {
+// A proved loop has to end, so it has a number of turns that no run uses up.
+fn take_input(
+    rt: &(impl Input + Print),
+    line: &mut [u8; ROOM],
+    block: &mut [u8],
+) -> io::Result<()> {
+    let mut stream = rt.reader();
     let mut digits = 0;
-    let mut turns = u64::MAX;
-    while turns > 0 {
-        turns -= 1;
-        let filled = io::read_full(STDIN_FILENO, block);
+    for _ in 0..u64::MAX {
+        let filled = input::read_full(&mut stream, block)?;
         if filled == 0 {
-            return;
+            break;
         }
-        digits = take_block(line, digits, &block[..filled]);
+        digits = take_block(rt, line, digits, &block[..filled])?;
     }
+    Ok(())
 }
 
-fn main() {
+fn main(rt: HostRuntime) -> io::Result<()> {
     let mut line = [0u8; ROOM];
-    let mut block = io::buffer();
-    take_input(&mut line, &mut block);
+    let mut block = [0u8; 4096];
+    take_input(&rt, &mut line, &mut block)
 }

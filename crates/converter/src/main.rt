@@ -2,12 +2,12 @@
 #![tactic(auto)]
 
 ghost use Rattle.std.specs.Prelude.{◌≤◌, length};
-ghost use Rattle.io.specs.Counts.{IsPrefixLen};
+ghost use Rattle.std.specs.Counts.{IsPrefixLen};
 ghost use Rattle.sheet.specs.Limits.{most_bytes};
 ghost use Rattle.listing.specs.Printed.{Filled, converted_text};
 
 use answer::copied::Copied;
-use libc::{STDIN_FILENO, STDOUT_FILENO};
+use std::io;
 
 // One word more than the longest sheet has: longer input is refused for its size, whatever follows.
 const ROOM: usize = sheet::MOST_BYTES + 4;
@@ -26,16 +26,16 @@ fn write_converted(sheet: &[u8], out: &mut [u8]) -> usize
     }
 }
 
-fn read_and_write(sheet: &mut [u8], out: &mut [u8])
+fn read_and_write(rt: &(impl Input + Print), sheet: &mut [u8], out: &mut [u8]) -> io::Result<()>
     requires { most_bytes ≤ length out.old }
 {
-    let size = io::read_full(STDIN_FILENO, sheet);
+    let size = input::read_full(&mut rt.reader(), sheet)?;
     let bytes = write_converted(&sheet[..size], out);
-    io::write_all(STDOUT_FILENO, &out[..bytes]);
+    rt.write_all(&out[..bytes])
 }
 
-fn main() {
+fn main(rt: HostRuntime) -> io::Result<()> {
     let mut sheet = [0u8; ROOM];
     let mut out = [0u8; ROOM];
-    read_and_write(&mut sheet, &mut out);
+    read_and_write(&rt, &mut sheet, &mut out)
 }

@@ -1,18 +1,18 @@
 // What `marks` prints of a sheet, written into a lent buffer: the sheet judged and run to its end.
 #![tactic(auto)]
 
-ghost use Rattle.std.specs.Prelude.{◌≡◌, ◌≤◌, length};
-ghost use Rattle.io.specs.Counts.{IsPrefixLen};
+ghost use Rattle.std.specs.Prelude.{◌≡◌, ◌≤◌, length, IfOk, OnErr};
+ghost use Rattle.std.specs.Counts.{IsPrefixLen};
 ghost use Rattle.judgement.specs.Judgement.{Accepted};
 ghost use Rattle.calls.specs.Tables.{table_length};
 ghost use Rattle.listing.specs.Listing.{listing_of, most_listing};
-ghost use Rattle.listing.specs.Printed.{end_table, Filled, Reported};
+ghost use Rattle.listing.specs.Printed.{end_table, Filled, printed, Reported};
 ghost use Rattle.sheet.specs.Limits.{most_nodes};
 ghost use Rattle.report.specs.Lent.{TableLent};
 
 use judge::Judged;
-use libc::STDOUT_FILENO;
 use sheet::MOST_NODES;
+use std::io;
 use table::words::HEADER;
 
 // How many words the table of the most nodes has.
@@ -63,12 +63,18 @@ pub fn report(sheet: &[u8], table: &mut [u32], out: &mut [u8]) -> usize
     }
 }
 
-// Prints what `report` writes, and returns how many bytes it has.
-pub fn print_report(sheet: &[u8], table: &mut [u32], out: &mut [u8]) -> usize
+// Prints what `report` writes, and returns how many bytes it has. Where printing fails, the buffers hold the same.
+pub fn print_report(
+    rt: &impl Print,
+    sheet: &[u8],
+    table: &mut [u32],
+    out: &mut [u8],
+) -> io::Result<usize>
     requires { (table_length most_nodes ≤ length table.old) × (most_listing ≤ length out.old) }
-    ensures { Reported sheet.now table.old out.old table.new out.new result }
+    ensures ok { IfOk result (λ n. Reported sheet.now table.old out.old table.new out.new n) }
+    ensures err { OnErr result (Reported sheet.now table.old out.old table.new out.new (length (printed sheet.now))) }
 {
     let size = report(sheet, table, out);
-    io::write_all(STDOUT_FILENO, &out[..size]);
-    size
+    rt.write_all(&out[..size])?;
+    Ok(size)
 }
