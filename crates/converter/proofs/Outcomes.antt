@@ -10,7 +10,7 @@ use lib.Dec.{ltb, eqb}
 use Rattle.indices.proofs.Steps.{by_truth}
 use Rattle.indices.proofs.Tests.{or_right}
 use Rattle.sheet.specs.Limits.{most_bytes}
-use Rattle.answer.specs.Answer.{Refusal, number_of, Answer, accepted, written, refused, Case, lowest}
+use Rattle.answer.specs.Answer.{Refusal, number_of, accepted, written, refused, Case, lowest}
 use Rattle.answer.specs.Inner.{figure_of}
 use Rattle.judgement.specs.Form.{wrong_size}
 use Rattle.judgement.specs.Judgement.{other_refusals, judgement_by, Convertible}
