@@ -1,6 +1,6 @@
 /* Travel times by nested regions: the seven calls, for C and C++.
  *
- * Link target/staticlib/libpigrozk.a, which `rt staticlib pigrozk` writes, for x86-64. Of other libraries it needs memcpy and memset alone.
+ * Link crates/pigrozk/out/libpigrozk.a, which `rt lib` in crates/pigrozk writes, for x86-64. Of other libraries it needs memcpy and memset alone.
  *
  * A sheet is bytes, each word of 32 bits with its most significant byte first, and so is a canonical form or a converted sheet. A table and the buffer of a
  * route are words in the machine's own order. What is lent is a pointer and a length: of a sheet, a canonical form or a converted sheet in bytes, of a table or

@@ -8,11 +8,11 @@ if ! command -v cargo >/dev/null 2>&1; then
     echo "differential test left out: this machine has no cargo"
     exit 0
 fi
-if [ ! -f target/staticlib/libpigrozk.a ]; then
+if [ ! -f crates/pigrozk/out/libpigrozk.a ]; then
     if ! command -v rt >/dev/null 2>&1; then
-        echo "differential test left out: target/staticlib/libpigrozk.a is not there, and no rt to build it"
+        echo "differential test left out: crates/pigrozk/out/libpigrozk.a is not there, and no rt to build it"
         exit 0
     fi
-    rt staticlib pigrozk || exit 1
+    (cd crates/pigrozk && rt lib) || exit 1
 fi
 cargo run --quiet --release --offline --manifest-path bench/Cargo.toml --bin differential -- "${1:-20000}" || exit 1

@@ -1,10 +1,10 @@
 #!/bin/sh
-# tests/library.sh: the library called from C and, where the machine has `cargo`, from Rust. Run `rt staticlib pigrozk` first.
+# tests/library.sh: the library called from C and, where the machine has `cargo`, from Rust. Run `rt lib` in crates/pigrozk first.
 set -eu
 root=$(cd "$(dirname "$0")/.." && pwd)
-archive=$root/target/staticlib/libpigrozk.a
+archive=$root/crates/pigrozk/out/libpigrozk.a
 if [ ! -f "$archive" ]; then
-    echo "$0: $archive is not there: run 'rt staticlib pigrozk' first" >&2
+    echo "$0: $archive is not there: run 'rt lib' in crates/pigrozk first" >&2
     exit 1
 fi
 
