@@ -116,6 +116,21 @@ def turn(text, turned):
     return TOKEN.sub(lambda m: turned.get(m.group(0), m.group(0)), text)
 
 
+def turn_file(path, text, turned):
+    """Of a file of crates/: what is code, and of comments names between backquotes and names in camel case, which are no words of prose. In a source file a
+    name that is in snake case already may be a function's, and stays."""
+    if path.endswith(".rt"):
+        turned = {old: new for old, new in turned.items() if "-" in old or re.search(r"[A-Z]", old)}
+    camel = {old: new for old, new in turned.items() if "-" not in old and re.search(r"[A-Z]", old)}
+    mark = {".antt": "--", ".rt": "//", ".edit": "#"}[os.path.splitext(path)[1]]
+    shown = []
+    for line in text.split("\n"):
+        at = line.find(mark) if mark != "#" else (0 if line.startswith("#") else -1)
+        code, comment = (line, "") if at < 0 else (line[:at], line[at:])
+        shown.append(turn(code, turned) + turn(turn_page(comment, turned), camel))
+    return "\n".join(shown)
+
+
 def turn_page(text, turned):
     """Of a page, names between backquotes."""
     return re.sub(r"`[^`\n]+`", lambda m: turn(m.group(0), turned), text)
@@ -132,7 +147,7 @@ def main():
     for path in files("crates", (".antt", ".rt", ".edit")):
         text = read(path)
         foreign = brought_in(text)
-        new = turn(text, {old: to for old, to in turned.items() if old not in foreign})
+        new = turn_file(path, text, {old: to for old, to in turned.items() if old not in foreign})
         if new != text:
             with open(path, "w", encoding="utf-8") as f:
                 f.write(new)
