@@ -11,7 +11,6 @@ use Rattle.sheet.specs.Limits.{most_spans}
 use Rattle.sheet.specs.Words.{top}
 use Rattle.sheet.specs.Sections.{node_count, arc_count}
 use Rattle.procedure.specs.Graph.{arcs}
-use Rattle.procedure.specs.Division.{regions}
 use Rattle.procedure.specs.OfSheet.{graph_of, division_of, spans_of}
 use Rattle.procedure.specs.State.{State}
 use Rattle.procedure.specs.Procedure.{more}

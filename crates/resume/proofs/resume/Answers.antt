@@ -1,5 +1,4 @@
 -- `resume` meets its contract: the judge's refusal, or the accepted sheet resumed; and what is promised of an answer holds of the right one.
-use borrow.Author.Rules.{rules}
 use Prim.Native.Nat.{ℕ}
 use mathlib.Core.Bool.{false}
 use mathlib.Core.Path.{◌≡◌, sym, ap, ◌∙◌}
@@ -9,8 +8,7 @@ use Rattle.answer.specs.Said.{judge_said}
 use Rattle.calls.specs.Resume.{resume_answer, StateKnown, Carried}
 use Rattle.calls.proofs.Resume.{refused_sheet, state_known}
 use Rattle.theory_resume.proofs.Resumed.{answered_carried}
-use Rattle.resume.proofs.resume.Statement.{statement}
-use Rattle.resume.proofs.resume.Tie as tie
+use Rattle.resume.proofs.resume.Goals as goal
 
 -- THE PROMISE, of the answer that is defined
 known : (b table : List ℕ) (k : ℕ) {answer : Answer} → answer ≡ resume_answer b table k → StateKnown b table answer
@@ -19,29 +17,18 @@ known b table k e = rw e (state_known b table k)
 carried : (b table : List ℕ) (k : ℕ) {answer : Answer} → answer ≡ resume_answer b table k → is_refused answer ≡ false → Carried b table k
 carried b table k e good = answered_carried b table k (rw e at good)
 
-returns : tie.Need-returns
-returns c =
-    let start : tie.Start = search rules in
-    let a = start.args in
+pub resume_accepted-requires : goal.resume_accepted-requires
+resume_accepted-requires c = record { judged = sym c.judge-judged.ensures ∙ ap judge_said c.in-Accepted.is }
+
+pub returns-in-Refused : goal.returns-in-Refused
+returns-in-Refused c =
+    let a = c.args in
     let refused =
     refused_sheet a.sheet.now a.table.now a.rounds _
-    (sym c.before.before.before.judge.ensures ∙ ap judge_said c.before.judged.given.1) in
+    (sym c.judge-judged.ensures ∙ ap judge_said c.in-Refused.is) in
     (refused.0, refused.1, known _ _ a.rounds refused.0, carried _ _ a.rounds refused.0)
 
-returns-2 : tie.Need-returns-2
-returns-2 c =
-    let resumed : tie.After-resume-accepted = search rules in
-    let done = resumed.resume-accepted.ensures in
+pub returns-in-Accepted : goal.returns-in-Accepted
+returns-in-Accepted c =
+    let done = c.resume_accepted.ensures in
     (done.0, done.1, known _ _ _ done.0, carried _ _ _ done.0)
-
-pub resume-spec : {M : Type 1} → statement M
-resume-spec =
-    tie.close
-    (tie.spec
-    (λ c κs. search rules)
-    (λ c. search rules)
-    (λ c. search rules)
-    (λ c κs. record { judged = sym c.before.before.before.judge.ensures ∙ ap judge_said c.before.enum_told.given.1 })
-    returns
-    (λ c. search rules)
-    returns-2)
