@@ -1,12 +1,7 @@
 -- `resume_laid` meets its contract: the table's state is entered, and the rest is that state worked and written.
 use mathlib.Core.Path.{refl}
 use native.Mathlib.Omega.{arith}
-use lib.ListN.{length}
 use Rattle.sheet.specs.Words.{top}
-use Rattle.procedure.specs.OfSheet.{graph_of, division_of}
-use Rattle.calls.specs.LongTables.{state_in}
-use Rattle.run_counts.specs.Figures.{figures_in}
-use Rattle.run_table.specs.Finish.{Finishing}
 use Rattle.resume.proofs.laid.Stages.{as_long, keyless, finishing, outcome}
 use Rattle.resume.proofs.laid.resume_laid.Goals as goal
 
@@ -31,13 +26,11 @@ rebuild-requires c = keyless c.requires refl c.enter_nodes.ensures
 pub finish-requires : goal.finish-requires
 unfolding top
 finish-requires c =
-    let Worked : Type 0 = let b = c.args.s.now in Finishing b (state_in (graph_of b) (division_of b) c.args.table.now) c.args.fixed.now c.args.weights.now c.rebuild.new.state c.rebuild.new.winners (figures_in c.enter_counts.new.counts) c.args.limit c.args.sizes.nodes (length c.args.table.now) in
-    let worked : Worked = finishing c.requires refl c.enter_nodes.ensures c.enter_counts.ensures c.rebuild.ensures _ in
+    let worked = finishing c.requires refl c.enter_nodes.ensures c.enter_counts.ensures c.rebuild.ensures _ in
     record { sheet = _; current = _; finishing = worked }
 
 pub returns : goal.returns
 unfolding top
 returns c =
-    let Worked : Type 0 = let b = c.args.s.now in Finishing b (state_in (graph_of b) (division_of b) c.args.table.now) c.args.fixed.now c.args.weights.now c.rebuild.new.state c.rebuild.new.winners (figures_in c.enter_counts.new.counts) c.args.limit c.args.sizes.nodes (length c.args.table.now) in
-    let worked : Worked = finishing c.requires refl c.enter_nodes.ensures c.enter_counts.ensures c.rebuild.ensures _ in
+    let worked = finishing c.requires refl c.enter_nodes.ensures c.enter_counts.ensures c.rebuild.ensures _ in
     outcome c.requires _ (c.finish.ensures _ _ worked)
