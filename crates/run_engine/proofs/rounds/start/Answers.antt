@@ -1,5 +1,6 @@
 -- `start` meets its contract: in an array filled with none the source gets its label, the queues are cleared, and the source's outgoing arcs updated.
 use mathlib.Core.List.{List}
+use borrow.Author.Rules.{rules}
 use lib.ListN.{replicate}
 use Prim.Native.Nat.{ℕ}
 use Rattle.sheet.specs.Words.{top}
@@ -17,7 +18,7 @@ clear-requires c =
     let B = c.requires.blank in
     record {
       division = c.requires.division;
-      buildable = can_build B.fixed_ok B.planned c.clear-arg-2-1.given.0.1;
+      buildable = can_build B.fixed_ok B.planned (search rules);
       all_regions = B.all_regions;
     }
 
@@ -28,7 +29,7 @@ pub update_outgoing-n-requires : goal.update_outgoing-n-requires
 unfolding top
 update_outgoing-n-requires c =
     -- THE QUEUES are cleared
-    let cleared : (g : Graph) → (d : Division) → (spans : List ℕ) → let a = c.args in Blank g d spans a.fixed.now a.weights.now a.source.0 a.count → QueuesOk d a.fixed.now (replicate (regions d) top) c.clear.new.winners = λ g d spans B. c.clear.ensures d (can_build B.fixed_ok B.planned c.clear-arg-2-1.given.0.1) B.all_regions in
+    let cleared : (g : Graph) → (d : Division) → (spans : List ℕ) → let a = c.args in Blank g d spans a.fixed.now a.weights.now a.source.0 a.count → QueuesOk d a.fixed.now (replicate (regions d) top) c.clear.new.winners = λ g d spans B. c.clear.ensures d (can_build B.fixed_ok B.planned (search rules)) B.all_regions in
     let pre = c.requires in
     let B = pre.blank in
     record {
@@ -43,7 +44,7 @@ pub returns : goal.returns
 unfolding top
 returns c g d spans B =
     -- THE QUEUES are cleared
-    let cleared : (g : Graph) → (d : Division) → (spans : List ℕ) → let a = c.args in Blank g d spans a.fixed.now a.weights.now a.source.0 a.count → QueuesOk d a.fixed.now (replicate (regions d) top) c.clear.new.winners = λ g d spans B. c.clear.ensures d (can_build B.fixed_ok B.planned c.clear-arg-2-1.given.0.1) B.all_regions in
+    let cleared : (g : Graph) → (d : Division) → (spans : List ℕ) → let a = c.args in Blank g d spans a.fixed.now a.weights.now a.source.0 a.count → QueuesOk d a.fixed.now (replicate (regions d) top) c.clear.new.winners = λ g d spans B. c.clear.ensures d (can_build B.fixed_ok B.planned (search rules)) B.all_regions in
     let none = c.requires.none in
     let K = c.set_label.ensures in
     let held = start_held B none K (cleared _ _ _ B) in
