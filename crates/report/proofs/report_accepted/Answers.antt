@@ -1,8 +1,7 @@
 -- `report_accepted` meets its contract: an accepted sheet has few nodes and spans, so the words lent have room for its table, and the run gets just that part
 -- of them.
-use Rattle.std.proofs.Common.{rules, ◌≡◌, ◌≤◌, length, sym, ◌∙◌, arith}
+use Rattle.std.proofs.Common.{◌≤◌, length, sym, ◌∙◌, arith}
 use lib.Seq.{length-take-le}
-use Rattle.sheet.specs.Limits.{most_spans}
 use Rattle.judgement.proofs.Accepted.{front_there, few_nodes, few_spans}
 use Rattle.report.proofs.Outcomes.{reported_listing}
 use Rattle.report.proofs.report_accepted.Goals as goal
