@@ -1,7 +1,7 @@
 """Holds the documents to the tree. Run it by `python3 tests/paths.py`: it prints what is wrong and exits with 1, or how many paths it has found.
 
 Every path in backquotes has to exist, from the top of the repository; one with NAME in it stands for many and is passed over, and one with `*` has to
-fit some file. Every edit that README's table of wrong programs names has to exist. Every file of definitions that is to be believed has to be listed in
+fit some file; what is built (`out/`) is passed over. Every edit that README's table of wrong programs names has to exist. Every file of definitions that is to be believed has to be listed in
 docs/READING.md.
 """
 import re
@@ -25,7 +25,7 @@ def quoted(text):
 
 
 def is_path(name):
-    return ' ' not in name and (name.startswith(FOLDERS) or name in FILES)
+    return ' ' not in name and '/out/' not in name and (name.startswith(FOLDERS) or name in FILES)
 
 
 def is_there(path):
