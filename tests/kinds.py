@@ -81,7 +81,7 @@ def arms_on_page():
 def named_first_and_last():
     """The kinds with which a sheet may begin, and after which it may end, in the program and in the definition."""
     bodies = [re.search(r'fn %s.*?{\n(.*?)\n}' % name, CODE, flags=re.S)[1] for name in ('may_begin', 'may_end')]
-    clauses = [re.search(r'^%s k = (.*)$' % name, DEFINITION, flags=re.M)[1] for name in ('mayBegin', 'mayEnd')]
+    clauses = [re.search(r'^%s k = (.*)$' % name, DEFINITION, flags=re.M)[1] for name in ('may_begin', 'may_end')]
     return [kinds_in(test) for test in bodies], [kinds_in(test) for test in clauses]
 
 

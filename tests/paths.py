@@ -1,8 +1,8 @@
 """Holds the documents to the tree. Run it by `python3 tests/paths.py`: it prints what is wrong and exits with 1, or how many paths it has found.
 
 Every path in backquotes has to exist, from the top of the repository; one with NAME in it stands for many and is passed over, and one with `*` has to
-fit some file; what is built (`out/`) is passed over. Every edit that README's table of wrong programs names has to exist. Every file of definitions that is to be believed has to be listed in
-docs/READING.md.
+fit some file; what is built (`out/`) is passed over. Every edit that README's table of wrong programs names has to exist. Every file of definitions that is
+to be believed has to be listed in docs/READING.md.
 """
 import re
 import sys
