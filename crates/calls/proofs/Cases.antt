@@ -73,7 +73,8 @@ record Cases : Type 0 where
   of_the_hall : hall_words (bytes_of held_a) ≡ 0x10000004 ∷ 0x20000000 ∷ 0xd0000064 ∷ 0xd000000a ∷ 0xd0000003 ∷ 0xd0000007 ∷ take 8 (drop 4 hall_a)
 
 cases : Cases
-unfolding all column passing hall_words count lead word kind payload top kind_from arcs_from region_words tail leaf_word parent_word all_spans_one leaves_on_root
+unfolding all column passing hall_words count lead word kind payload top kind_from arcs_from region_words tail leaf_word parent_word all_spans_one
+    leaves_on_root
     reached_arcs divided_up
 cases = record {
   ones = refl;

@@ -22,7 +22,19 @@ use Rattle.procedure.specs.State.{State, counts}
 use Rattle.procedure.specs.Procedure.{ended}
 use Rattle.procedure.specs.Table.{header_length, counts_length, table_of, key_word, key_words}
 use Rattle.procedure.proofs.OfSheet.{graph_nodes, graph_arcs}
-use Rattle.calls.specs.Tables.{table_length, long_length, is_long, payload_in, status_in, count_in, label_in, predecessor_in, key_place, labels_in, predecessors_in}
+use Rattle.calls.specs.Tables.{
+  table_length,
+  long_length,
+  is_long,
+  payload_in,
+  status_in,
+  count_in,
+  label_in,
+  predecessor_in,
+  key_place,
+  labels_in,
+  predecessors_in,
+}
 use Rattle.calls.specs.Routes.{wrong_count, wrong_node, wrong_key, wrong_keys, malformed}
 use Rattle.calls.specs.Runs.{state_after, run_table, long_run_table}
 use Rattle.calls.specs.LongTables.{long_table, has_key}

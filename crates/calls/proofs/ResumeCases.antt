@@ -103,10 +103,14 @@ record LongCases : Type 0 where
   counts_read : counts (state_in (graph_of (bytes_of hall_a)) (division_of (bytes_of hall_a)) paused_a) ≡ 1 ∷ 2 ∷ 1 ∷ 1 ∷ replicate 13 0 ++ (8 ∷ [])
 
 long_cases : LongCases
-unfolding all any count lead most up_to times column word kind payload top kind_from arcs_from region_words tail head arc_length hold charged taken_length height_in
-    height_of leaf_word parent_word arc_word leaf_of graph_of division_of spans_of before choose min_item_below min_item min_key write update_for update update_arc
-    update_outgoing relax clear_key process_leaf rewrite_key count_at count_inner count_round process_child alive start hasEnded process_for_by process_by round_by
-    after_by node_words table_of key_words is_usual is_long wrong_length run_table long_run_table filled_table wrong_node wrong_keys malformed has_key own_in keys_of labels_in
+unfolding all any count lead most up_to times column word kind payload top kind_from arcs_from region_words tail head arc_length hold charged taken_length
+    height_in
+    height_of leaf_word parent_word arc_word leaf_of graph_of division_of spans_of before choose min_item_below min_item min_key write update_for update
+    update_arc
+    update_outgoing relax clear_key process_leaf rewrite_key count_at count_inner count_round process_child alive start hasEnded process_for_by process_by
+    round_by
+    after_by node_words table_of key_words is_usual is_long wrong_length run_table long_run_table filled_table wrong_node wrong_keys malformed has_key own_in
+    keys_of labels_in
     predecessors_in state_in
 long_cases = record {
   forms = refl;
@@ -176,8 +180,10 @@ record PossibleCases : Type 0 where
   status : map (refusal hall_a) ((paused_a with 0x80000001 at 0) ∷ (ended_a 0xb0000003 0xb0000003 with 0x80000000 at 0) ∷ []) ≡ replicate 2 (refused (state 33))
 
 possible_cases : PossibleCases
-unfolding all any count lead column word kind payload top kind_from arcs_from region_words tail head arc_length hold charged taken_length graph_of is_long wrong_node
-    wrong_keys malformed has_key labels_in predecessors_in leads_back source_test unfed_test fed_by relaxed_test led_test bound_test keyless_test done_test sound_test
+unfolding all any count lead column word kind payload top kind_from arcs_from region_words tail head arc_length hold charged taken_length graph_of is_long
+    wrong_node
+    wrong_keys malformed has_key labels_in predecessors_in leads_back source_test unfed_test fed_by relaxed_test led_test bound_test keyless_test done_test
+    sound_test
     counts_test status_test possible? not_long not_possible
 possible_cases = record {
   possible = refl;
@@ -210,8 +216,10 @@ record MadeCases : Type 0 where
 
 made_cases : MadeCases
 unfolding any count lead most up_to times column word kind payload top kind_from arcs_from region_words tail head arc_length hold charged taken_length height_in
-    height_of leaf_word parent_word arc_word leaf_of graph_of division_of spans_of before choose min_item_below min_item min_key write update_for update update_arc
-    update_outgoing relax clear_key process_leaf rewrite_key count_at count_inner count_round process_child alive hasEnded process_for_by process_by round_by node_words
+    height_of leaf_word parent_word arc_word leaf_of graph_of division_of spans_of before choose min_item_below min_item min_key write update_for update
+    update_arc
+    update_outgoing relax clear_key process_leaf rewrite_key count_at count_inner count_round process_child alive hasEnded process_for_by process_by round_by
+    node_words
     table_of key_words labels_in predecessors_in long_table has_key own_in keys_of state_in resumed resumed_table
 made_cases = record {
   none_more = refl;

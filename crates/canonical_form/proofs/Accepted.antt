@@ -16,7 +16,7 @@ use Rattle.sheet.specs.Words.{words, payload, top}
 use Rattle.sheet.specs.Sections.{node_count, source, span_count, span, holds_at, arc_count, region_words}
 use Rattle.sheet.specs.Arcs.{tail, head, arc_length, ends_word, end_of, hold, taken_length}
 use Rattle.sheet.specs.Regions.{region_count, leaf_word, parent_word, arc_word, is_leaf as leafRegion, height as heightField}
-use Rattle.sheet.proofs.Holds.{hold_same, taken_same}
+use Rattle.sheet.proofs.Holds.{hold_same_at, taken_same}
 use Rattle.judgement.specs.Form.{wrong_size, no_region_word, wrong_front, wrong_sections, wrong_holds, out_of_order, arc_bits, leaf_bits, bit_set}
 use Rattle.judgement.specs.Form.{nodes_outside, source_outside, span_outside, spans_outside, too_many}
 use Rattle.judgement.specs.Arcs.{end_outside, ends_outside, too_long, lengths_outside, too_long_held, holds_outside}
@@ -73,7 +73,7 @@ module _ (b : List ℕ) (ok : Accepted b) where
   same_length a l = ap (λ (n : ℕ). payload c (n + 2 * a + 1)) (same_arcs_at b ok) ∙ front_payload b ok (ends_word b a + 1) (omega arith)
 
   same_hold : (v : ℕ) → hold c v ≡ hold b v
-  same_hold v = hold_same c b (same_holds b ok) v
+  same_hold v = hold_same_at c b (same_holds b ok) v
       (λ l. ap (λ (n : ℕ). payload c (n + v)) (same_holds_at b ok) ∙ front_payload b ok (holds_at b + v) (omega (arith, same_holds b ok)))
 
   same_taken : (a : ℕ) → a < arc_count b → taken_length c a ≡ taken_length b a

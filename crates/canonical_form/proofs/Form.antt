@@ -59,7 +59,16 @@ module _ (b : List ℕ) (ok : Accepted b) where
   unfolding canonical
   canonical_length =
       length_bytes (front_words b ++ new_words b)
-      ∙ omega (arith, length-append (front_words b) (new_words b), length_front, length_new, region_words_lem b two, regions_inside b two, whole_words b size_right)
+      ∙ omega (
+        arith,
+        length-append (front_words b) (new_words b),
+        length_front,
+        length_new,
+        region_words_lem b two,
+        regions_inside b two,
+        whole_words b
+            size_right,
+      )
 
   pub same_words : words (canonical b) ≡ words b
   same_words = ap (λ (n : ℕ). n / 4) canonical_length
@@ -198,7 +207,8 @@ module _ (b : List ℕ) (ok : Accepted b) where
     unfolding parent_word
     new_parent =
         rw (new_leaf, new_payload)
-        (payload_parent (new_number d (parent d region)) (arc_of d region) (new_below (parent d region) (parent_inside region (region_later k l) (region_in k l)))
+        (payload_parent (new_number d (parent d region)) (arc_of d region)
+        (new_below (parent d region) (parent_inside region (region_later k l) (region_in k l)))
         (is_leaf d region) (arc_below region (region_in k l)))
 
     pub new_arc_lem : is_leaf d region ≡ true → arc_word (region_words (canonical b)) k ≡ arc_of d region

@@ -177,7 +177,8 @@ module _ (d : Division) (P : Proper d) where
   path_step (suc r) pos l =
       let down = P.lower (suc r) pos l in
       rw (lt-ltb 0 (suc r) pos)
-      (ap (λ (way : List ℕ). way ++ (lowest_arc d (suc r) ∷ [])) (path_enough r (parent d (suc r)) (parent d (suc r)) (omega arith) (omega arith) (omega arith)))
+      (ap (λ (way : List ℕ). way ++ (lowest_arc d (suc r) ∷ []))
+      (path_enough r (parent d (suc r)) (parent d (suc r)) (omega arith) (omega arith) (omega arith)))
 
   not_root : (r : ℕ) → 0 < r → r < regions d → path d r ≡ [] → ⊥
   unfolding sooner

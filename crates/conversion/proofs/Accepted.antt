@@ -20,7 +20,18 @@ use Rattle.sheet.specs.Regions.{leaf_word, height}
 use Rattle.sheet.proofs.Bounds.{region_words_lem, regions_inside}
 use Rattle.judgement.specs.Form.{wrong_size, wrong_front, no_region_word, wrong_sections, wrong_holds, out_of_order, arc_bits, leaf_bits, bit_set}
 use Rattle.judgement.specs.Form.{nodes_outside, source_outside, span_outside, spans_outside, too_many}
-use Rattle.judgement.specs.Arcs.{end_outside, ends_outside, too_long, lengths_outside, too_long_held, holds_outside, ends_at, too_many_at_node, self_arc, self_arcs}
+use Rattle.judgement.specs.Arcs.{
+  end_outside,
+  ends_outside,
+  too_long,
+  lengths_outside,
+  too_long_held,
+  holds_outside,
+  ends_at,
+  too_many_at_node,
+  self_arc,
+  self_arcs,
+}
 use Rattle.judgement.specs.Division.{spans_differ}
 use Rattle.judgement.specs.Judgement.{Accepted, Convertible}
 use Rattle.judgement.proofs.Clear.{holds_right, few_at_nodes}

@@ -63,7 +63,8 @@ pub record Cases : Type 0 where
 
 pub cases : Cases
 unfolding any count lead most column selected word kind payload top kind_from arcs_from region_words tail head arc_length hold charged taken_length height_in
-    height_of leaf_word parent_word arc_word left_after left self_arc new_arc kept_leaf kept_region new_region arc_pair converted_arcs new_word converted_regions new_height
+    height_of leaf_word parent_word arc_word left_after left self_arc new_arc kept_leaf kept_region new_region arc_pair converted_arcs new_word
+    converted_regions new_height
     converted_spans converted_holds converted_words converted graph_of without_self_arcs
 cases = record {
   hall_a_lem = refl;

@@ -32,7 +32,8 @@ module _ (b : List ℕ) (ok : Convertible b) where
   same_column f f' g new old =
       rw (graph_arcs b, sections.new_arcs b ok)
       (selected_column (kept_arc b) f (arc_count b) f' new
-      ∙ selected_ext (kept_arc b) (leads_on (graph_of b)) (λ a. f a ∷ []) (λ a. g a ∷ []) (arc_count b) same_test (λ a l. ap (λ (x : ℕ). x ∷ []) (sym (old a l))))
+      ∙ selected_ext (kept_arc b) (leads_on (graph_of b)) (λ a. f a ∷ []) (λ a. g a ∷ []) (arc_count b) same_test
+      (λ a l. ap (λ (x : ℕ). x ∷ []) (sym (old a l))))
 
   pub graph_without : graph_of (converted b) ≡ without_self_arcs (graph_of b)
   unfolding graph_of without_self_arcs

@@ -17,7 +17,7 @@ use Rattle.sheet.specs.Words.{word, kind_of, payload_of, kind, payload, bytes_of
 use Rattle.sheet.specs.Sections.{node_count, source, span_count, span, holds_at, hold_count, arcs_at, arc_count, region_words}
 use Rattle.sheet.specs.Arcs.{ends_word, tail, head, arc_length, hold, charged, taken_length}
 use Rattle.sheet.specs.Regions.{region_count, leaf_word, is_leaf, parent, leaf_arc}
-use Rattle.sheet.proofs.Holds.{hold_same}
+use Rattle.sheet.proofs.Holds.{hold_same_at}
 use Rattle.sheet.proofs.Assembled.{Assembled, assembled_bytes, assembled_first, assembled_second, assembled_span, assembled_spans}
 use Rattle.sheet.proofs.Assembled.{assembled_hold, assembled_holds, assembled_arc, assembled_arcs, assembled_regions}
 use Rattle.judgement.specs.Judgement.{Convertible}
@@ -152,7 +152,7 @@ module _ (b : List ℕ) where
     hold_payload v l = ap payload_of (assembled_hold assembled v (omega (arith, holds_long)) ∙ hold_at v l)
 
     pub new_hold : (v : ℕ) → hold b' v ≡ hold b v
-    new_hold v = hold_same b' b new_holds v (λ l. hold_payload v (omega (arith, new_holds)))
+    new_hold v = hold_same_at b' b new_holds v (λ l. hold_payload v (omega (arith, new_holds)))
 
     -- THE FIELDS of an arc that is kept
     module _ (a : ℕ) (l : a < arc_count b) (s : kept_arc b a ≡ true) where

@@ -72,7 +72,8 @@ record Cases : Type 0 where
 
 cases : Cases
 unfolding any count lead most column word kind payload top kind_from arcs_from region_words tail head arc_length hold charged taken_length height_in height_of
-    leaf_word parent_word arc_word judgement_by refusals_by form_refusals count_refusals arc_refusals division_refusals wrong_size wrong_sections wrong_holds out_of_order
+    leaf_word parent_word arc_word judgement_by refusals_by form_refusals count_refusals arc_refusals division_refusals wrong_size wrong_sections wrong_holds
+    out_of_order
     bit_set nodes_outside source_outside spans_outside too_many ends_outside lengths_outside holds_outside crowded_nodes too_many_at_node self_arc self_arcs
     wrong_parents wrong_leaves childless_regions spans_differ
 cases = record {

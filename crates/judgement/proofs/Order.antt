@@ -316,18 +316,21 @@ module _ (b : List ℕ) where
       (ap not (any_ext (λ i. not (region_kind (kind b (arcs_at b + (2 * arc_count b + i))))) (no_region_word (region_words b)) (words (region_words b))
       (λ i l. ap (λ (k : ℕ). not (eqb k 6 || eqb k 7)) (ap (kind b) (omega arith) ∙ sym (region_kind_lem b i)))))
 
-  arc_part : 2 ≤ words b → holds_then_arcs (λ i. kind b (holds_at b + i)) (words b - holds_at b) ≡ not (any (no_region_word (region_words b)) (words (region_words b)))
+  arc_part : 2 ≤ words b
+      → holds_then_arcs (λ i. kind b (holds_at b + i)) (words b - holds_at b) ≡ not (any (no_region_word (region_words b)) (words (region_words b)))
   unfolding run_then
   arc_part two =
       rw hold_count_lem
       (arcs_ext (λ i. kind b (holds_at b + (hold_count b + i))) (λ i. kind b (arcs_at b + i)) (words b - holds_at b - hold_count b) (words b - arcs_at b)
       (omega arith) (λ i. ap (kind b) (omega arith)) ∙ region_part two)
 
-  sections : (n : ℕ) → words b ≡ suc (suc n) → spans_then_holds (λ i. kind b (suc (suc i))) n ≡ not (any (no_region_word (region_words b)) (words (region_words b)))
+  sections : (n : ℕ) → words b ≡ suc (suc n)
+      → spans_then_holds (λ i. kind b (suc (suc i))) n ≡ not (any (no_region_word (region_words b)) (words (region_words b)))
   unfolding run_then
   sections n e =
       rw (span_count_lem n e)
-      (run_ext 13 arcs_then_regions arcs_ext (λ i. kind b (suc (suc (span_count b + i)))) (λ i. kind b (holds_at b + i)) (n - span_count b) (words b - holds_at b)
+      (run_ext 13 arcs_then_regions arcs_ext (λ i. kind b (suc (suc (span_count b + i)))) (λ i. kind b (holds_at b + i)) (n - span_count b)
+      (words b - holds_at b)
       (omega arith) (λ i. ap (kind b) (omega arith)) ∙ arc_part (omega arith))
 
   -- the test of the whole sheet, word by word from its front

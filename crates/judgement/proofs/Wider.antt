@@ -18,7 +18,8 @@ module _ (few most : ℕ) (wider : few ≤ most) (b : List ℕ) where
   none_too_many e = (few_at_nodes b most).1 (λ heads v l. omega (arith, (few_at_nodes b few).0 e heads v l))
 
   -- whatever is looked at after the sheet's own refusals, the answer is the same
-  pub same_lowest : judgement_under few b ≢ refused (input 10) → (answer : Answer) → lowest (refusals_under most b) answer ≡ lowest (refusals_under few b) answer
+  pub same_lowest : judgement_under few b ≢ refused (input 10) → (answer : Answer)
+      → lowest (refusals_under most b) answer ≡ lowest (refusals_under few b) answer
   unfolding refusals_by form_refusals count_refusals arc_refusals
   same_lowest other answer =
       lowest_less (input 35 when self_arcs b ∷ division_refusals (region_words b) (arc_count b) (span_count b)) (input 10) none_too_many answer

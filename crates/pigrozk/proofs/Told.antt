@@ -12,7 +12,17 @@ use Rattle.indices.proofs.Steps.{by_truth}
 use Rattle.indices.proofs.Tests.{and_left, and_right}
 use Rattle.sheet.specs.Words.{top}
 use Rattle.answer.specs.Answer.{Refusal, input, state, Answer, accepted, ended, paused, route, no_route, written, refused, Case, lowest}
-use Rattle.judgement.specs.Judgement.{form_refusals, count_refusals, arc_refusals, division_refusals, refusals_by, refusals, other_refusals, judgement_by, judgement}
+use Rattle.judgement.specs.Judgement.{
+  form_refusals,
+  count_refusals,
+  arc_refusals,
+  division_refusals,
+  refusals_by,
+  refusals,
+  other_refusals,
+  judgement_by,
+  judgement,
+}
 use Rattle.calls.specs.Calls.{call_refusals}
 use Rattle.calls.specs.Tables.{status_in, label_in}
 use Rattle.calls.specs.Runs.{run_call, run_answer, run_table}

@@ -18,12 +18,55 @@ use Rattle.procedure.specs.Division.{regions}
 use Rattle.procedure.specs.OfSheet.{graph_of, division_of, spans_of}
 use Rattle.procedure.proofs.OfSheet.{graph_nodes, graph_arcs, graph_lengths, division_regions}
 use Rattle.theory_shortest.proofs.WellFormed.{accepted_well_formed}
-use Rattle.run_arrays.specs.Sections.{most_regions, fixed_length, region_arcs_at, arc_rows_at, firsts_at, arc_count_at, spans_at, heights_at, region_arc_section, arc_row_section, first_section, arc_count_of, span_section, height_section}
+use Rattle.run_arrays.specs.Sections.{
+  most_regions,
+  fixed_length,
+  region_arcs_at,
+  arc_rows_at,
+  firsts_at,
+  arc_count_at,
+  spans_at,
+  heights_at,
+  region_arc_section,
+  arc_row_section,
+  first_section,
+  arc_count_of,
+  span_section,
+  height_section,
+}
 use Rattle.run_arrays.specs.Trees.{Planned}
 use Rattle.run_arrays.specs.Fixed.{RegionArcs}
 use Rattle.run_layout.specs.declared.sizes.Sizes.{Sizes}
-use Rattle.run_layout.specs.Layout.{Laid, Begins, ArcsLaid, FirstsLaid, HeightsLaid, DivisionLaid, GraphLaid, WeightsLaid, ArcsLent, FirstsLent, TreesLent, RegionsLent, HeightsLent, DivisionLent, GraphLent, WeightsLent}
-use Rattle.run_layout.proofs.Fronts.{begins_append, begins_less, begins_on, begins_kept, begins_in, begins_put, region_arcs_on, planned_on, arc_rows_on, links_on}
+use Rattle.run_layout.specs.Layout.{
+  Laid,
+  Begins,
+  ArcsLaid,
+  FirstsLaid,
+  HeightsLaid,
+  DivisionLaid,
+  GraphLaid,
+  WeightsLaid,
+  ArcsLent,
+  FirstsLent,
+  TreesLent,
+  RegionsLent,
+  HeightsLent,
+  DivisionLent,
+  GraphLent,
+  WeightsLent,
+}
+use Rattle.run_layout.proofs.Fronts.{
+  begins_append,
+  begins_less,
+  begins_on,
+  begins_kept,
+  begins_in,
+  begins_put,
+  region_arcs_on,
+  planned_on,
+  arc_rows_on,
+  links_on,
+}
 
 -- the n entries from place o on, as they are lent
 abbrev part : ℕ → ℕ → List ℕ → List ℕ
@@ -126,7 +169,8 @@ module _ {firsts fixed : List ℕ} (L : FirstsLent firsts fixed) where
     firsts_laid m e =
         let inside : firsts_at ≤ length fixed = omega (arith, L.room) in
         let counted = set copied_to arc_count_at m in
-        let stay : Begins arc_count_at copied_to counted = begins_kept arc_count_at copied_to counted (take-set-le arc_count_at copied_to arc_count_at m (omega arith)) in
+        let stay : Begins arc_count_at copied_to counted =
+        begins_kept arc_count_at copied_to counted (take-set-le arc_count_at copied_to arc_count_at m (omega arith)) in
         let stand : Begins (length firsts) copied (drop firsts_at copied_to) =
         begins_less (omega (arith, ap length e)) (in_put firsts_at (length firsts) fixed copied inside) in
         record {
@@ -267,7 +311,8 @@ module _ {b : List ℕ} {sections : Sections} {z : Sizes} {weights : List ℕ} (
                   ∙ ap (λ (xs : List ℕ). at xs a) el;
               each_span =
                   λ h l.
-                  (begins_in spans_at {n = most_spans} kept).same h (omega (arith, ap length es, spans_all, each_height, L.in_use.spans_all, L.in_use.few_spans))
+                  (begins_in spans_at {n = most_spans} kept).same h
+                  (omega (arith, ap length es, spans_all, each_height, L.in_use.spans_all, L.in_use.few_spans))
                   ∙ (in_put spans_at z.spans measured spans at-spans).same h (omega (arith, ap length es))
                   ∙ ap (λ (xs : List ℕ). at xs h) es;
               heights = record {

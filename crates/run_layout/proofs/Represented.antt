@@ -16,11 +16,32 @@ use Rattle.sheet.specs.Arcs.{tail, head}
 use Rattle.sheet.specs.Regions.{region_count, leaf_word, arc_word, is_leaf, leaf_arc}
 use Rattle.judgement.specs.Judgement.{Accepted}
 use Rattle.judgement.specs.Division.{leaf_of_arc, childless_regions}
-use Rattle.judgement.proofs.Accepted.{few_arcs, few_nodes, source_in, tail_in_lem, few_region_words, parents_right, children_there, nesting, leaf_arc_lem, one_leaf}
+use Rattle.judgement.proofs.Accepted.{
+  few_arcs,
+  few_nodes,
+  source_in,
+  tail_in_lem,
+  few_region_words,
+  parents_right,
+  children_there,
+  nesting,
+  leaf_arc_lem,
+  one_leaf,
+}
 use Rattle.procedure.specs.Graph.{arcs}
 use Rattle.procedure.specs.Division.{regions, arc_of, leaf_of}
 use Rattle.procedure.specs.OfSheet.{graph_of, division_of}
-use Rattle.procedure.proofs.OfSheet.{graph_nodes, graph_arcs, graph_tail, graph_head, division_regions, division_parent, division_arc, division_leaf, division_height}
+use Rattle.procedure.proofs.OfSheet.{
+  graph_nodes,
+  graph_arcs,
+  graph_tail,
+  graph_head,
+  division_regions,
+  division_parent,
+  division_arc,
+  division_leaf,
+  division_height,
+}
 use Rattle.theory_shortest.proofs.WellFormed.{accepted_well_formed}
 use Rattle.judge_division.specs.Heights.{Passable, HeightsFound}
 use Rattle.run_arrays.specs.Rows.{row_count, row_tail, row_head, row_leaf}

@@ -1,4 +1,4 @@
--- What the root of a tree tells in valid queues: the first_chosen child and the smallest key.
+-- What the root of a tree tells in valid queues: the first-chosen child and the smallest key.
 use Prim.Native.Nat.{ℕ, ◌+◌, ◌<◌}
 use mathlib.Core.Path.{◌≡◌, sym, ◌∙◌}
 use mathlib.Core.Logic.{◌≢◌}
@@ -35,7 +35,7 @@ module _ {d : Division} {rows keys winners : List ℕ} (Q : QueuesOk d rows keys
     count_some : 0 < child_count d r
     count_some = omega (arith, Q.seated.laid.planned.counted.counts r inside)
 
-    -- the first_chosen child stands at place 1
+    -- the first-chosen child stands at place 1
     pub first_in : start + 1 < length winners
     first_in = omega (arith, row, Q.seated.laid.planned.starts r inside, count_some, tree_room d r, Q.seated.laid.room)
 

@@ -1,4 +1,4 @@
--- Winner trees: a store at a place leaves open only the place above it; where none is open, place 1 holds the first_chosen child.
+-- Winner trees: a store at a place leaves open only the place above it; where none is open, place 1 holds the first-chosen child.
 use Prim.Native.Nat.{ℕ, zero, suc, min, ◌+◌, ◌*◌, ◌/◌, ◌≤◌, ◌<◌}
 use mathlib.Core.Path.{◌≡◌, refl, sym, ap, ◌∙◌}
 use mathlib.Core.Logic.{◌≢◌, ◌⊎◌, inl, inr, ⊎_elim}
@@ -219,7 +219,7 @@ module _ {d : Division} {rows keys winners : List ℕ} (Q : QueuesOk d rows keys
       by_equal q 1 (λ e. omega (arith, ap (place d winners r) e))
       (λ n. omega (arith, first_lowest r f (q / 2) (omega arith) (omega arith) (omega arith), no_lower r q (omega arith) l))
 
-  -- place 1 holds the entry of the first_chosen child
+  -- place 1 holds the entry of the first-chosen child
   pub min_item_place : (r : ℕ) → 0 < child_count d r → Child d r (min_item d keys r) × (place d winners r 1 ≡ entry d keys (min_item d keys r))
   min_item_place r some =
       let h = held r (2 * child_count d r) 1 (omega arith) (omega arith) (omega arith) in
@@ -238,7 +238,7 @@ module _ {d : Division} {rows keys winners : List ℕ} (Q : QueuesOk d rows keys
       }) in
       rw e (k, h.2)
 
-  -- a region without children has no first_chosen child
+  -- a region without children has no first-chosen child
   pub min_item_childless : (r : ℕ) → child_count d r ≡ 0 → min_item d keys r ≡ 0
   min_item_childless r none =
       let f = min_item_first d keys r in

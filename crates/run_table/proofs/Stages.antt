@@ -57,7 +57,8 @@ module _ (n : ℕ) (table front : List ℕ) (room : n ≤ length table) (all : l
       rw (take_at front (drop n table) n front_long, none) (ap (λ (xs : List ℕ). front ++ xs) (append-nil rest))
 
   -- the usual words, and the key words of as many arcs as there is room for
-  pub form_written : (keys : List ℕ) {t : ℕ} {usual rest own : List ℕ} → n ≡ t → front ≡ usual → rest ≡ key_words own (length (mid_of n (length whole - n) whole))
+  pub form_written : (keys : List ℕ) {t : ℕ} {usual rest own : List ℕ} → n ≡ t → front ≡ usual
+      → rest ≡ key_words own (length (mid_of n (length whole - n) whole))
       → own ≡ take (length table - n) keys
       → put_mid n (length whole - n) whole rest ≡ usual ++ key_words (take (length table - t) keys) (length table - t)
   form_written keys {rest = rest} size words keyed owned = both_parts rest ∙ rw (words, keyed, rest_long, owned, size)

@@ -55,11 +55,16 @@ module _ (b : List ℕ) where
 
 -- TWO SHEETS: with as many holds, each of them the same, and with one source, an arc with the same tail and length takes the same
 module _ (b b' : List ℕ) where
-  pub hold_same : hold_count b ≡ hold_count b' → (v : ℕ) → (v < hold_count b → payload b (holds_at b + v) ≡ payload b' (holds_at b' + v)) → hold b v ≡ hold b' v
-  hold_same many v held =
+  pub hold_same_at : hold_count b ≡ hold_count b' → (v : ℕ) → (v < hold_count b → payload b (holds_at b + v) ≡ payload b' (holds_at b' + v))
+      → hold b v ≡ hold b' v
+  hold_same_at many v held =
       by_order v (hold_count b)
       (λ l. hold_there b v l ∙ held l ∙ sym (hold_there b' v (omega (arith, many))))
       (λ l. hold_none b v l ∙ sym (hold_none b' v (omega (arith, many))))
+
+  pub hold_same : hold_count b ≡ hold_count b' → ((v : ℕ) → v < hold_count b → payload b (holds_at b + v) ≡ payload b' (holds_at b' + v)) → (v : ℕ)
+      → hold b v ≡ hold b' v
+  hold_same many each v = hold_same_at many v (each v)
 
   pub charged_same : source b ≡ source b' → (v : ℕ) → hold b v ≡ hold b' v → charged b v ≡ charged b' v
   unfolding charged

@@ -86,7 +86,8 @@ pub put_column_none : (out : List ℕ) (i : ℕ) (f : ℕ → ℕ) → words_put
 unfolding column
 put_column_none out i f = put_none out i
 
-pub put_column_more : (out : List ℕ) (i : ℕ) (f : ℕ → ℕ) (k : ℕ) → words_put (words_put out i (column k f)) (i + k) (f k ∷ []) ≡ words_put out i (column (k + 1) f)
+pub put_column_more : (out : List ℕ) (i : ℕ) (f : ℕ → ℕ) (k : ℕ)
+    → words_put (words_put out i (column k f)) (i + k) (f k ∷ []) ≡ words_put out i (column (k + 1) f)
 put_column_more out i f k =
     ap (λ (n : ℕ). words_put (words_put out i (column k f)) (i + n) (f k ∷ [])) (sym (length_column k f))
     ∙ put_then out i (column k f) (f k ∷ [])

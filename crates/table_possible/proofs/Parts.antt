@@ -36,7 +36,8 @@ regroup true false l false k d h = refl
 regroup false f l u k d h = refl
 
 module _ (b table : List ℕ) where
-  pub sound_parts_lem : sound_test (graph_of b) (table_labels (graph_of b) table) (table_predecessors (graph_of b) table) (has_key (graph_of b) table) ≡ sound_parts b table
+  pub sound_parts_lem : sound_test (graph_of b) (table_labels (graph_of b) table) (table_predecessors (graph_of b) table) (has_key (graph_of b) table) ≡
+      sound_parts b table
   unfolding sound_test
   sound_parts_lem =
       let unfed = unfed_test (graph_of b) (labels b table) (predecessors b table) in

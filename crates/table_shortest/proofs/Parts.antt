@@ -41,7 +41,8 @@ regroup false u f r l = refl
 
 -- source, nodes, arcs, and that all lead back
 pub shortest_parts : (b table : List ℕ) → not_shortest b table
-    ≡ not (source_fits b table && (all (node_fits b table true) (node_count b) && (all (arc_relaxed b table) (arc_count b) && all (node_led b table) (node_count b))))
+    ≡ not (source_fits b table &&
+    (all (node_fits b table true) (node_count b) && (all (arc_relaxed b table) (arc_count b) && all (node_led b table) (node_count b))))
 unfolding not_shortest settled?
 shortest_parts b table =
     let unfed = unfed_test (graph_of b) (labels b table) (predecessors b table) in
@@ -59,6 +60,8 @@ pub fit_onward : (b table : List ℕ) (exact : Bool) → all (node_fits b table 
 fit_onward b table exact fit v l r n =
     let unfed = unfed_test (graph_of b) (labels b table) (predecessors b table) v in
     let fed = and_right unfed _ (all_at (node_fits b table exact) (node_count b) v fit l) in
-    let f = (fed_test_lem (graph_of b) (labels b table) (predecessors b table) {Allows = λ sum label. allowed exact sum label ≡ true} (λ _ _. (λ t. t, λ t. t)) v).0
+    let f =
+    (fed_test_lem (graph_of b) (labels b table) (predecessors b table) {Allows = λ sum label. allowed exact sum label ≡ true} (λ _ _. (λ t. t, λ t. t))
+    v).0
     fed r (λ e. n (e ∙ graph_source b)) in
     record { is_arc_lem = f.is_arc_lem; from_reached = f.from_reached }

@@ -15,7 +15,21 @@ use Rattle.sheet.proofs.Heights.{root_highest}
 use Rattle.procedure.specs.Graph.{Graph}
 use Rattle.procedure.specs.Division.{Division, regions, parent, arc_of, is_leaf, height, level}
 use Rattle.procedure.specs.State.{State}
-use Rattle.procedure.specs.Procedure.{clear_key, process_leaf, rewrite_key, count_inner, count_round, ended, start, round, more, after, after_by, count_at, round_by}
+use Rattle.procedure.specs.Procedure.{
+  clear_key,
+  process_leaf,
+  rewrite_key,
+  count_inner,
+  count_round,
+  ended,
+  start,
+  round,
+  more,
+  after,
+  after_by,
+  count_at,
+  round_by,
+}
 use Rattle.theory_shortest.specs.WellFormed.{DivisionOk}
 use Rattle.theory.specs.Counts.{Levelled}
 use Rattle.theory.proofs.Process.{relax_elim, inner_high, Invariant, process_invariant}

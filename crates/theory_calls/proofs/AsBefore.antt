@@ -38,7 +38,8 @@ module _ (b : List ℕ) (other : judgement_under most_arcs_before b ≢ refused 
   judged_as_before = as_before.judged
 
   pub run_as_before : (k : ℕ) (table : List ℕ) → let call = run_call b k table in
-      (run_answer b k table ≡ call_answer (refusals_under most_arcs_before b) call) × (table_after b k table ≡ lent_after (refusals_under most_arcs_before b) call)
+      (run_answer b k table ≡ call_answer (refusals_under most_arcs_before b) call)
+      × (table_after b k table ≡ lent_after (refusals_under most_arcs_before b) call)
   unfolding run_answer table_after
   run_as_before k table = (as_before.answers (run_call b k table), as_before.words (run_call b k table))
 

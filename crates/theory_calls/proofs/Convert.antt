@@ -11,7 +11,17 @@ use Rattle.sheet.specs.Sections.{node_count, span_count, arc_count, region_words
 use Rattle.answer.specs.Answer.{Refusal, input, Answer, accepted, refused, Case, ◌when◌, lowest}
 use Rattle.answer.proofs.Lowest.{lowest_append, lowest_clear, lowest_stop}
 use Rattle.judgement.specs.Arcs.{self_arcs}
-use Rattle.judgement.specs.Judgement.{form_refusals, count_refusals, arc_refusals, division_refusals, refusals_by, refusals, other_refusals, judgement_by, Convertible}
+use Rattle.judgement.specs.Judgement.{
+  form_refusals,
+  count_refusals,
+  arc_refusals,
+  division_refusals,
+  refusals_by,
+  refusals,
+  other_refusals,
+  judgement_by,
+  Convertible,
+}
 use Rattle.procedure.specs.Procedure.{enough_rounds}
 use Rattle.conversion.specs.Converted.{kept_arc, new_arc, kept_region, new_region, converted}
 use Rattle.conversion.proofs.Regions as regions

@@ -56,4 +56,5 @@ module _ (b : List ℕ) (ok : Accepted b) (k : ℕ) (over : ended_after b k ≡ 
       let own = (state_after b k).queues.own in
       let long = run_long b ok k in
       either_read (long_run_table b k) (long_usual b ok k)
-      (long_right b (long_run_table b k) (long_length_lem (node_count b) (run_table b k) long own (arc_count b))) (keys_right b (run_table b k) long own (arc_count b))
+      (long_right b (long_run_table b k) (long_length_lem (node_count b) (run_table b k) long own (arc_count b)))
+      (keys_right b (run_table b k) long own (arc_count b))

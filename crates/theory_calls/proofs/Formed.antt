@@ -36,7 +36,17 @@ use Rattle.calls.specs.Routes.{wrong_kind, wrong_count, wrong_node, wrong_keys, 
 use Rattle.calls.proofs.Tables.{labels_at}
 use Rattle.calls.proofs.Counts.{counts_length_lem, level_count, update_count, each_place}
 use Rattle.calls.proofs.Outcome.{status_ended}
-use Rattle.calls.proofs.Reading.{status_in_lem, status_kind, count_kind, count_in_lem, label_in_lem, predecessor_in_lem, table_long, labels_in_lem, predecessors_in_lem}
+use Rattle.calls.proofs.Reading.{
+  status_in_lem,
+  status_kind,
+  count_kind,
+  count_in_lem,
+  label_in_lem,
+  predecessor_in_lem,
+  table_long,
+  labels_in_lem,
+  predecessors_in_lem,
+}
 use Rattle.calls.proofs.LongReading.{same_status, same_count, same_labels, same_predecessors, same_form, no_keys_right}
 
 -- every count of a state, where each is below n

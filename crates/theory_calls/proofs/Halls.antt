@@ -13,7 +13,7 @@ use Rattle.sheet.specs.Words.{words, word, kind_of, payload_of, kind, payload}
 use Rattle.sheet.specs.Sections.{node_count, source, span_count, holds_at, hold_count, arc_count, arcs_at, regions_at, region_words}
 use Rattle.sheet.specs.Arcs.{tail, head, arc_length, ends_word, hold, taken_length}
 use Rattle.sheet.proofs.Bounds.{region_words_lem, regions_inside}
-use Rattle.sheet.proofs.Holds.{hold_same, taken_same}
+use Rattle.sheet.proofs.Holds.{hold_same_at, taken_same}
 use Rattle.judgement.specs.Judgement.{Accepted}
 use Rattle.judgement.proofs.Accepted.{front_there}
 use Rattle.judgement.proofs.Places.{span_kind, hold_kind_lem, arc_kind_lem, front_kinds, region_word_kind}
@@ -173,7 +173,7 @@ module _ (b b' : List ℕ) (ok : Accepted b) (ok' : Accepted b') (same : hall_wo
   -- holds, and lengths with them
   same_hold : (v : ℕ) → hold b v ≡ hold b' v
   unfolding payload
-  same_hold v = hold_same b b' same_holds v
+  same_hold v = hold_same_at b b' same_holds v
       (λ l. ap payload_of (same_entry (hold_count b) (hold_count b') (λ i. word b (holds_at b + i)) (λ i. word b' (holds_at b' + i)) same_hold_words v l))
 
   same_taken : (a : ℕ) → a < arc_count b → taken_length b a ≡ taken_length b' a

@@ -113,7 +113,8 @@ module _ {b : List ℕ} {x y : ℕ} (h : Hall x y b) where
   -- no refusal applies
   hall_accepted : Accepted b
   unfolding any count tail head arc_length hold charged taken_length leaf_word parent_word arc_word wrong_size wrong_sections wrong_holds out_of_order bit_set
-      nodes_outside source_outside spans_outside too_many ends_outside lengths_outside holds_outside crowded_nodes too_many_at_node self_arc self_arcs wrong_parents
+      nodes_outside source_outside spans_outside too_many ends_outside lengths_outside holds_outside crowded_nodes too_many_at_node self_arc self_arcs
+      wrong_parents
       wrong_leaves childless_regions spans_differ
   hall_accepted = none_accepts b record {
     size = rw size;

@@ -465,17 +465,27 @@ record Computed : Type 0 where
 
 computed : Computed
 unfolding any count lead most up_to times column word kind payload top kind_from arcs_from region_words tail head arc_length hold charged taken_length height_in
-    height_of leaf_word parent_word arc_word judgement_by refusals_by form_refusals count_refusals arc_refusals division_refusals wrong_size wrong_sections wrong_holds
-    out_of_order bit_set nodes_outside source_outside spans_outside too_many ends_outside lengths_outside holds_outside crowded_nodes too_many_at_node self_arc self_arcs
-    wrong_parents wrong_leaves childless_regions spans_differ leaf_of graph_of division_of spans_of before choose min_item_below min_item min_key write update_for update
+    height_of leaf_word parent_word arc_word judgement_by refusals_by form_refusals count_refusals arc_refusals division_refusals wrong_size wrong_sections
+    wrong_holds
+    out_of_order bit_set nodes_outside source_outside spans_outside too_many ends_outside lengths_outside holds_outside crowded_nodes too_many_at_node
+    self_arc self_arcs
+    wrong_parents wrong_leaves childless_regions spans_differ leaf_of graph_of division_of spans_of before choose min_item_below min_item min_key write
+    update_for update
     update_arc update_outgoing relax clear_key process_leaf rewrite_key count_at count_inner count_inner_before count_round process_child alive hasEnded start
-    process_for_by process_by round_by after_by node_words table_of key_words is_usual is_long wrong_length run_answer run_table long_run_table filled_table table_after
-    table_before all labels_in predecessors_in followed leads_back source_test unfed_test fed_by relaxed_test led_test settled? node_outside wrong_node wrong_keys
-    is_paused malformed not_shortest table_refusals route_to found_route route_answer left_by buffer_after last_digits decimal cell spaced status counted levels inner
-    status_line node_line node_lines listing_of refused_line printed all_spans_one leaves_on_root reached_arcs least sooner ancestor holds lowest_arc path_for path
-    new_number old_number new_word front_words new_words canonical canonical_answer out_after selected left_after left new_arc kept_leaf kept_region new_region arc_pair
-    converted_arcs renumberedWord converted_regions new_height converted_spans converted_holds converted_words converted convert_answer convert_out converted_text
-    long_table has_key own_in keys_of state_in bound_test keyless_test done_test sound_test counts_test status_test possible? not_long not_possible resumed resumed_table
+    process_for_by process_by round_by after_by node_words table_of key_words is_usual is_long wrong_length run_answer run_table long_run_table filled_table
+    table_after
+    table_before all labels_in predecessors_in followed leads_back source_test unfed_test fed_by relaxed_test led_test settled? node_outside wrong_node
+    wrong_keys
+    is_paused malformed not_shortest table_refusals route_to found_route route_answer left_by buffer_after last_digits decimal cell spaced status counted
+    levels inner
+    status_line node_line node_lines listing_of refused_line printed all_spans_one leaves_on_root reached_arcs least sooner ancestor holds lowest_arc path_for
+    path
+    new_number old_number new_word front_words new_words canonical canonical_answer out_after selected left_after left new_arc kept_leaf kept_region
+    new_region arc_pair
+    converted_arcs renumberedWord converted_regions new_height converted_spans converted_holds converted_words converted convert_answer convert_out
+    converted_text
+    long_table has_key own_in keys_of state_in bound_test keyless_test done_test sound_test counts_test status_test possible? not_long not_possible resumed
+    resumed_table
     resume_answer resume_table
 computed = record {
   each_row = refl;

@@ -17,7 +17,7 @@ use Rattle.sheet.specs.Words.{words, kind_of, payload_of, kind, payload}
 use Rattle.sheet.specs.Sections.{node_count, source, hold_count, arc_count, arcs_at}
 use Rattle.sheet.specs.Arcs.{tail, head, arc_length, hold, ends_word}
 use Rattle.sheet.proofs.Bounds.{regions_inside}
-use Rattle.sheet.proofs.Holds.{hold_same}
+use Rattle.sheet.proofs.Holds.{hold_same_at}
 use Rattle.sheet.proofs.SameKinds as kinds
 use Rattle.judgement.specs.Judgement.{Accepted}
 use Rattle.judgement.proofs.Accepted.{front_there, holds_all_or_none, single_node}
@@ -75,7 +75,7 @@ module _ {i : ℕ} {b b' : List ℕ} (same : SameButWord i b b') where
 
       same_hold : (v : ℕ) → (v < hold_count b → hold_word b v ≢ i) → hold b v ≡ hold b' v
       same_hold v n =
-          hold_same b b' (kinds.same_holds b b' same_words same_test) v
+          hold_same_at b b' (kinds.same_holds b b' same_words same_test) v
           (λ l.
           same_payload (hold_word b v) (omega (arith, regions_inside b (front_there b ok))) (n l)
           ∙ ap (λ (m : ℕ). payload b' (m + v)) (kinds.same_holds_at b b' same_words same_test))

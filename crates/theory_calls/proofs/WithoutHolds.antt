@@ -32,7 +32,18 @@ use Rattle.calls.specs.Runs.{run_table, long_run_table, filled_table, run_call, 
 use Rattle.calls.specs.Routes.{not_shortest, table_refusals, route_call, route_answer, buffer_after}
 use Rattle.calls.specs.Canonical.{canonical_call, canonical_answer, out_after}
 use Rattle.calls.specs.Resume.{not_possible, resumed, resumed_table, resume_call, resume_answer, resume_table}
-use Rattle.calls.specs.AsBefore.{refusals_unheld, graph_unheld, run_table_on, run_call_on, route_call_on, resume_call_on, answer_unheld, left_unheld, SameUnheld, Unheld}
+use Rattle.calls.specs.AsBefore.{
+  refusals_unheld,
+  graph_unheld,
+  run_table_on,
+  run_call_on,
+  route_call_on,
+  resume_call_on,
+  answer_unheld,
+  left_unheld,
+  SameUnheld,
+  Unheld,
+}
 use Rattle.listing.specs.Listing.{listing_of}
 use Rattle.listing.specs.Printed.{text_of, end_table, printed, words_after}
 
@@ -79,7 +90,8 @@ module _ (b : List ℕ) (none : hold_count b ≡ 0) where
     same_lowest answer =
         rw (size, same_order, same_lengths)
         (lowest_twice
-        (input 10 when too_many_at_node most_arcs_each_way b ∷ input 35 when self_arcs b ∷ division_refusals (region_words b) (arc_count b) (span_count b)) (input 9)
+        (input 10 when too_many_at_node most_arcs_each_way b ∷ input 35 when self_arcs b ∷ division_refusals (region_words b) (arc_count b) (span_count b))
+        (input 9)
         (input 34) (lengths_outside b) answer
         (input 1 when wrong_size_under most_bytes_before b ∷ input 2 when wrong_sections b ∷ input 3 when bit_set b ∷ count_refusals b
         ++ (input 8 when ends_outside b ∷ [])))
@@ -140,7 +152,8 @@ module _ (b : List ℕ) (none : hold_count b ≡ 0) where
     words_unheld table = rw (judged, same_table)
 
   -- whose byte count the old limit alone refuses: 1 is the first that is looked at, and whole words without holds are at most 8,207 where the sheet is accepted
-  none_between : wrong_size b ≡ false → wrong_size_under most_bytes_before b ≡ true → (lowest (refusals_unheld b) accepted ≡ refused (input 1)) × (Accepted b → ⊥)
+  none_between : wrong_size b ≡ false → wrong_size_under most_bytes_before b ≡ true → (lowest (refusals_unheld b) accepted ≡ refused (input 1))
+      × (Accepted b → ⊥)
   unfolding wrong_size refusals_unheld
   none_between fits over = (
     rw over,

@@ -17,11 +17,44 @@ use Rattle.sheet.proofs.Heights.{nesting_ext}
 use Rattle.judgement.specs.Arcs.{ends_at}
 use Rattle.judgement.specs.Division.{leaf_of_arc}
 use Rattle.judgement.specs.Judgement.{AcceptedBy}
-use Rattle.judgement.proofs.Accepted.{few_nodes, source_in, few_arcs, tail_in_lem, head_in, taken_short, few_ends, few_region_words, nesting, leaf_arc_lem, one_leaf, few_spans, span_positive, span_below, spans_height}
+use Rattle.judgement.proofs.Accepted.{
+  few_nodes,
+  source_in,
+  few_arcs,
+  tail_in_lem,
+  head_in,
+  taken_short,
+  few_ends,
+  few_region_words,
+  nesting,
+  leaf_arc_lem,
+  one_leaf,
+  few_spans,
+  span_positive,
+  span_below,
+  spans_height,
+}
 use Rattle.procedure.specs.Graph.{arcs, tail}
 use Rattle.procedure.specs.Division.{Division, regions, arc_of, is_leaf, leaf_of}
 use Rattle.procedure.specs.OfSheet.{graph_of, division_of, spans_of}
-use Rattle.procedure.proofs.OfSheet.{graph_arcs, graph_heads, graph_lengths, graph_tail, graph_head, graph_len, graph_nodes, graph_source, division_regions, division_arcs, division_parent, division_arc, division_leaf, division_height, spans_count, spans_at_lem}
+use Rattle.procedure.proofs.OfSheet.{
+  graph_arcs,
+  graph_heads,
+  graph_lengths,
+  graph_tail,
+  graph_head,
+  graph_len,
+  graph_nodes,
+  graph_source,
+  division_regions,
+  division_arcs,
+  division_parent,
+  division_arc,
+  division_leaf,
+  division_height,
+  spans_count,
+  spans_at_lem,
+}
 use Rattle.theory_shortest.specs.WellFormed.{GraphOk, DivisionOk, SpansOk, WellFormed}
 
 -- the first region that has a given arc, where some region r has it: it has that arc too, and is r or before r

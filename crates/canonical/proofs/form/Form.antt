@@ -38,7 +38,8 @@ module _ {b : List ℕ} {sections : Sections} {arcs parents sizes nexts numbers 
 
   front_stands : (i : ℕ) → i < sections.after → WordAt (words_put before 0 front) i (word b i)
   front_stands i l =
-      let stands = put_inside before 0 front (omega (arith, front_long, lent.out_lent.room, located_inside lent.out_lent.located)) i (omega (arith, front_long)) in
+      let stands =
+      put_inside before 0 front (omega (arith, front_long, lent.out_lent.room, located_inside lent.out_lent.located)) i (omega (arith, front_long)) in
       rw (at_column sections.after (λ k. word b (0 + k)) i l, zero-add i) at stands
 
   module _ {d : List ℕ} (is : d ≡ region_words b) where

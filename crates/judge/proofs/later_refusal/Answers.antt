@@ -22,7 +22,8 @@ returns-then-bit_set c =
 pub returns-then-count-ne0 : goal.returns-then-count-ne0
 returns-then-count-ne0 c =
     -- 1 to 3 do not apply, nor 4 to 7, nor 8 to 10, 34 and 35
-    let formed : lowest (form_refusals c.args.s.now) accepted ≡ accepted = form_clear _ c.requires.sized c.requires.ordered (sym c.bit_set.ensures ∙ c.if-bit_set.false) in
+    let formed : lowest (form_refusals c.args.s.now) accepted ≡ accepted =
+    form_clear _ c.requires.sized c.requires.ordered (sym c.bit_set.ensures ∙ c.if-bit_set.false) in
     count_stops _ _ formed c.if-count-ne0.true c.count_refusal-count.ensures
 
 pub arc_refusal-arc-requires : goal.arc_refusal-arc-requires
@@ -33,7 +34,8 @@ arc_refusal-arc-requires c =
 pub returns-then-arc-ne0 : goal.returns-then-arc-ne0
 returns-then-arc-ne0 c =
     -- 1 to 3 do not apply, nor 4 to 7, nor 8 to 10, 34 and 35
-    let formed : lowest (form_refusals c.args.s.now) accepted ≡ accepted = form_clear _ c.requires.sized c.requires.ordered (sym c.bit_set.ensures ∙ c.if-bit_set.false) in
+    let formed : lowest (form_refusals c.args.s.now) accepted ≡ accepted =
+    form_clear _ c.requires.sized c.requires.ordered (sym c.bit_set.ensures ∙ c.if-bit_set.false) in
     let counted : lowest (count_refusals c.args.s.now) accepted ≡ accepted = sym c.count_refusal-count.ensures ∙ ap numbered c.if-count-ne0.false in
     arc_stops _ _ formed counted c.if-arc-ne0.true c.arc_refusal-arc.ensures
 
@@ -54,9 +56,11 @@ division_refusal-requires c =
 pub returns : goal.returns
 returns c =
     -- 1 to 3 do not apply, nor 4 to 7, nor 8 to 10, 34 and 35
-    let formed : lowest (form_refusals c.args.s.now) accepted ≡ accepted = form_clear _ c.requires.sized c.requires.ordered (sym c.bit_set.ensures ∙ c.if-bit_set.false) in
+    let formed : lowest (form_refusals c.args.s.now) accepted ≡ accepted =
+    form_clear _ c.requires.sized c.requires.ordered (sym c.bit_set.ensures ∙ c.if-bit_set.false) in
     let counted : lowest (count_refusals c.args.s.now) accepted ≡ accepted = sym c.count_refusal-count.ensures ∙ ap numbered c.if-count-ne0.false in
-    let arced : lowest (arc_refusals most_arcs_each_way c.args.retired c.args.s.now) accepted ≡ accepted = sym c.arc_refusal-arc.ensures ∙ ap numbered c.if-arc-ne0.false in
+    let arced : lowest (arc_refusals most_arcs_each_way c.args.retired c.args.s.now) accepted ≡ accepted =
+    sym c.arc_refusal-arc.ensures ∙ ap numbered c.if-arc-ne0.false in
     let found = c.requires.located in
     c.division_refusal.ensures
     ∙ division_decides _ _ formed counted arced c.region_words.ensures found.arcs_all

@@ -45,7 +45,9 @@ returns-then-too_many_at_node c =
     let retired : Bool = c.args.retired in
     -- where the first stage refuses nothing, none of 8, 9 and 34 applies, and 10 and 35 are left
     let clear : lowest (field_refusals sheet) accepted ≡ accepted = sym c.field_refusal-field.ensures ∙ ap numbered c.if-field-ne0.false in
-    let after-fields : lowest (arc_refusals most_arcs_each_way retired sheet) accepted ≡ lowest (input 10 when too_many_at_node most_arcs_each_way sheet ∷ []) (lastAnswer retired sheet) = lowest_clear (field_refusals _) _ clear in
+    let after-fields : lowest (arc_refusals most_arcs_each_way retired sheet) accepted
+    ≡ lowest (input 10 when too_many_at_node most_arcs_each_way sheet ∷ []) (lastAnswer retired sheet) =
+    lowest_clear (field_refusals _) _ clear in
     rw (after-fields, sym c.too_many_at_node.ensures ∙ c.if-too_many_at_node.true)
 
 pub returns-then-not-retired : goal.returns-then-not-retired
@@ -56,9 +58,12 @@ returns-then-not-retired c =
     let retired : Bool = c.args.retired in
     -- where the first stage refuses nothing, none of 8, 9 and 34 applies, and 10 and 35 are left
     let clear : lowest (field_refusals sheet) accepted ≡ accepted = sym c.field_refusal-field.ensures ∙ ap numbered c.if-field-ne0.false in
-    let after-fields : lowest (arc_refusals most_arcs_each_way retired sheet) accepted ≡ lowest (input 10 when too_many_at_node most_arcs_each_way sheet ∷ []) (lastAnswer retired sheet) = lowest_clear (field_refusals _) _ clear in
+    let after-fields : lowest (arc_refusals most_arcs_each_way retired sheet) accepted
+    ≡ lowest (input 10 when too_many_at_node most_arcs_each_way sheet ∷ []) (lastAnswer retired sheet) =
+    lowest_clear (field_refusals _) _ clear in
     -- where the second does neither, 35 is, if it is looked at
-    let after-degrees : lowest (arc_refusals most_arcs_each_way retired sheet) accepted ≡ lastAnswer retired sheet = rw (after-fields, sym c.too_many_at_node.ensures ∙ c.if-too_many_at_node.false) in
+    let after-degrees : lowest (arc_refusals most_arcs_each_way retired sheet) accepted ≡ lastAnswer retired sheet =
+    rw (after-fields, sym c.too_many_at_node.ensures ∙ c.if-too_many_at_node.false) in
     sym (after-degrees ∙ not-looked-at retired sheet (ap not c.if-not-retired.true))
 
 pub returns-then-self_arcs : goal.returns-then-self_arcs
@@ -69,10 +74,14 @@ returns-then-self_arcs c =
     let retired : Bool = c.args.retired in
     -- where the first stage refuses nothing, none of 8, 9 and 34 applies, and 10 and 35 are left
     let clear : lowest (field_refusals sheet) accepted ≡ accepted = sym c.field_refusal-field.ensures ∙ ap numbered c.if-field-ne0.false in
-    let after-fields : lowest (arc_refusals most_arcs_each_way retired sheet) accepted ≡ lowest (input 10 when too_many_at_node most_arcs_each_way sheet ∷ []) (lastAnswer retired sheet) = lowest_clear (field_refusals _) _ clear in
+    let after-fields : lowest (arc_refusals most_arcs_each_way retired sheet) accepted
+    ≡ lowest (input 10 when too_many_at_node most_arcs_each_way sheet ∷ []) (lastAnswer retired sheet) =
+    lowest_clear (field_refusals _) _ clear in
     -- where the second does neither, 35 is, if it is looked at
-    let after-degrees : lowest (arc_refusals most_arcs_each_way retired sheet) accepted ≡ lastAnswer retired sheet = rw (after-fields, sym c.too_many_at_node.ensures ∙ c.if-too_many_at_node.false) in
-    let self-arcs-decide : lowest (arc_refusals most_arcs_each_way retired sheet) accepted ≡ lowest (input 35 when self_arcs sheet ∷ []) accepted = after-degrees ∙ looked-at retired sheet (ap not c.if-not-retired.false) in
+    let after-degrees : lowest (arc_refusals most_arcs_each_way retired sheet) accepted ≡ lastAnswer retired sheet =
+    rw (after-fields, sym c.too_many_at_node.ensures ∙ c.if-too_many_at_node.false) in
+    let self-arcs-decide : lowest (arc_refusals most_arcs_each_way retired sheet) accepted ≡ lowest (input 35 when self_arcs sheet ∷ []) accepted =
+    after-degrees ∙ looked-at retired sheet (ap not c.if-not-retired.false) in
     rw (self-arcs-decide, sym c.self_arcs.ensures ∙ c.if-self_arcs.true)
 
 pub returns : goal.returns
@@ -83,8 +92,12 @@ returns c =
     let retired : Bool = c.args.retired in
     -- where the first stage refuses nothing, none of 8, 9 and 34 applies, and 10 and 35 are left
     let clear : lowest (field_refusals sheet) accepted ≡ accepted = sym c.field_refusal-field.ensures ∙ ap numbered c.if-field-ne0.false in
-    let after-fields : lowest (arc_refusals most_arcs_each_way retired sheet) accepted ≡ lowest (input 10 when too_many_at_node most_arcs_each_way sheet ∷ []) (lastAnswer retired sheet) = lowest_clear (field_refusals _) _ clear in
+    let after-fields : lowest (arc_refusals most_arcs_each_way retired sheet) accepted
+    ≡ lowest (input 10 when too_many_at_node most_arcs_each_way sheet ∷ []) (lastAnswer retired sheet) =
+    lowest_clear (field_refusals _) _ clear in
     -- where the second does neither, 35 is, if it is looked at
-    let after-degrees : lowest (arc_refusals most_arcs_each_way retired sheet) accepted ≡ lastAnswer retired sheet = rw (after-fields, sym c.too_many_at_node.ensures ∙ c.if-too_many_at_node.false) in
-    let self-arcs-decide : lowest (arc_refusals most_arcs_each_way retired sheet) accepted ≡ lowest (input 35 when self_arcs sheet ∷ []) accepted = after-degrees ∙ looked-at retired sheet (ap not c.if-not-retired.false) in
+    let after-degrees : lowest (arc_refusals most_arcs_each_way retired sheet) accepted ≡ lastAnswer retired sheet =
+    rw (after-fields, sym c.too_many_at_node.ensures ∙ c.if-too_many_at_node.false) in
+    let self-arcs-decide : lowest (arc_refusals most_arcs_each_way retired sheet) accepted ≡ lowest (input 35 when self_arcs sheet ∷ []) accepted =
+    after-degrees ∙ looked-at retired sheet (ap not c.if-not-retired.false) in
     rw (self-arcs-decide, sym c.self_arcs.ensures ∙ c.if-self_arcs.false)

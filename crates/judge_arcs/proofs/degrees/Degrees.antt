@@ -37,7 +37,8 @@ module _ (b : List ℕ) where
     pub one_too_many : ends_outside b ≡ false → a < arc_count b → most_arcs_each_way ≤ get_or seen v 0 → too_many_at_node most_arcs_each_way b ≡ true
     unfolding crowded_nodes
     one_too_many ok l full =
-        let here : count (ends_at heads b v) (a + 1) ≡ count (ends_at heads b v) a + 1 = count_in_lem (ends_at heads b v) a (eq-eqb (end_of heads b a) v (sym e)) in
+        let here : count (ends_at heads b v) (a + 1) ≡ count (ends_at heads b v) a + 1 =
+        count_in_lem (ends_at heads b v) a (eq-eqb (end_of heads b a) v (sym e)) in
         one_way heads (any_hit (crowded most_arcs_each_way heads b) v (node_count b) (omega (arith, end_in b ok heads a l))
         (lt-ltb most_arcs_each_way (count (ends_at heads b v) (arc_count b))
         (omega (arith, t.counts v inside, count_mono (ends_at heads b v) (a + 1) (arc_count b) (omega arith)))))

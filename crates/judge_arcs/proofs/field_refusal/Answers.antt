@@ -13,7 +13,14 @@ use Rattle.sheet.specs.Sections.{arc_count}
 use Rattle.judgement.specs.Arcs.{end_outside, ends_outside, too_long, lengths_outside, too_long_held, holds_outside}
 use Rattle.judge_arcs.proofs.Flags.{flag_set, flag_kept}
 use Rattle.judge_arcs.proofs.field_refusal.Goals as goal
-use Rattle.judge_arcs.proofs.field_refusal.Goals.{then-arc_outside, else-arc_outside, then-length_at-gt-MOST_LENGTH, else-length_at-gt-MOST_LENGTH, then-taken_length_at-gt-MOST_LENGTH, else-taken_length_at-gt-MOST_LENGTH}
+use Rattle.judge_arcs.proofs.field_refusal.Goals.{
+  then-arc_outside,
+  else-arc_outside,
+  then-length_at-gt-MOST_LENGTH,
+  else-length_at-gt-MOST_LENGTH,
+  then-taken_length_at-gt-MOST_LENGTH,
+  else-taken_length_at-gt-MOST_LENGTH,
+}
 
 pub loop-a-init : goal.loop-a-init
 loop-a-init c = (omega arith, sym (any_none _), sym (any_none _), sym (any_none _))
@@ -22,9 +29,23 @@ pub loop-a-preserved : goal.loop-a-preserved
 loop-a-preserved c =
     let sheet : List ℕ = c.args.s.now in
     -- each flag tells of one arc more
-    let ends-told : c.if-arc_outside.outside ≡ any (end_outside sheet) (c.loop-a.a + 1) = let loop = c.loop-a in let seen = sym c.arc_outside.ensures in elim c.if-arc_outside.branch [ then-arc_outside w ↦ flag_set _ loop.a _ w.outside-is (seen ∙ w.if-arc_outside.true) | else-arc_outside w ↦ flag_kept _ loop.a _ (w.outside-is ∙ loop.invariant.1) (seen ∙ w.if-arc_outside.false) ] in
-    let length-told : c.if-length_at-gt-MOST_LENGTH.long ≡ any (too_long sheet) (c.loop-a.a + 1) = let loop = c.loop-a in let seen = ap (ltb most_length) (sym c.length_at.ensures) in elim c.if-length_at-gt-MOST_LENGTH.branch [ then-length_at-gt-MOST_LENGTH w ↦ flag_set _ loop.a _ w.long-is (seen ∙ lt-ltb _ _ w.if-length_at-gt-MOST_LENGTH.true) | else-length_at-gt-MOST_LENGTH w ↦ flag_kept _ loop.a _ (w.long-is ∙ loop.invariant.2) (seen ∙ le-ltb _ _ w.if-length_at-gt-MOST_LENGTH.false) ] in
-    let hold-told : c.if-taken_length_at-gt-MOST_LENGTH.held ≡ any (too_long_held sheet) (c.loop-a.a + 1) = let loop = c.loop-a in let seen = ap (ltb most_length) (sym c.taken_length_at.ensures) in elim c.if-taken_length_at-gt-MOST_LENGTH.branch [ then-taken_length_at-gt-MOST_LENGTH w ↦ flag_set _ loop.a _ w.held-is (seen ∙ lt-ltb _ _ w.if-taken_length_at-gt-MOST_LENGTH.true) | else-taken_length_at-gt-MOST_LENGTH w ↦ flag_kept _ loop.a _ (w.held-is ∙ loop.invariant.3) (seen ∙ le-ltb _ _ w.if-taken_length_at-gt-MOST_LENGTH.false) ] in
+    let ends-told : c.if-arc_outside.outside ≡ any (end_outside sheet) (c.loop-a.a + 1) =
+    let loop = c.loop-a in let seen = sym c.arc_outside.ensures in elim c.if-arc_outside.branch [
+      | then-arc_outside w ↦ flag_set _ loop.a _ w.outside-is (seen ∙ w.if-arc_outside.true)
+      | else-arc_outside w ↦ flag_kept _ loop.a _
+          (w.outside-is ∙ loop.invariant.1) (seen ∙ w.if-arc_outside.false)
+    ] in
+    let length-told : c.if-length_at-gt-MOST_LENGTH.long ≡ any (too_long sheet) (c.loop-a.a + 1) =
+    let loop = c.loop-a in let seen = ap (ltb most_length) (sym c.length_at.ensures) in elim c.if-length_at-gt-MOST_LENGTH.branch [
+      | then-length_at-gt-MOST_LENGTH w ↦ flag_set _ loop.a _ w.long-is (seen ∙ lt-ltb _ _ w.if-length_at-gt-MOST_LENGTH.true)
+      | else-length_at-gt-MOST_LENGTH w ↦ flag_kept _ loop.a _ (w.long-is ∙ loop.invariant.2) (seen ∙ le-ltb _ _ w.if-length_at-gt-MOST_LENGTH.false)
+    ] in
+    let hold-told : c.if-taken_length_at-gt-MOST_LENGTH.held ≡ any (too_long_held sheet) (c.loop-a.a + 1) =
+    let loop = c.loop-a in let seen = ap (ltb most_length) (sym c.taken_length_at.ensures) in elim c.if-taken_length_at-gt-MOST_LENGTH.branch [
+      | then-taken_length_at-gt-MOST_LENGTH w ↦ flag_set _ loop.a _ w.held-is (seen ∙ lt-ltb _ _ w.if-taken_length_at-gt-MOST_LENGTH.true)
+      | else-taken_length_at-gt-MOST_LENGTH w ↦ flag_kept _ loop.a _ (w.held-is ∙ loop.invariant.3)
+          (seen ∙ le-ltb _ _ w.if-taken_length_at-gt-MOST_LENGTH.false)
+    ] in
     (omega arith, ends-told, length-told, hold-told)
 
 pub returns-then-outside : goal.returns-then-outside

@@ -41,7 +41,8 @@ module _ (d : List ℕ) where
     room = omega (arith, t.counts i inside, count_le (leaf_of_arc d i) k)
 
     -- word k adds 1 to the counter of its arc's number if it is a leaf, and else 0
-    pub word_counted : (leaf : Bool) → leaf ≡ leaf_word d k → i ≡ arc_word d k → Tally (leaf_of_arc d) top (set seen i (get_or seen i 0 + bool_byte leaf)) (k + 1)
+    pub word_counted : (leaf : Bool) → leaf ≡ leaf_word d k → i ≡ arc_word d k
+        → Tally (leaf_of_arc d) top (set seen i (get_or seen i 0 + bool_byte leaf)) (k + 1)
     word_counted true el e = tally_in (leaf_of_arc d) top seen k t i inside (leaf_counts k i (sym el) e) (λ v. counts_for_one k i v e) room
     word_counted false el e =
         rw (set_kept seen i (get_or seen i 0 + 0) inside (omega arith)) (tally_out (leaf_of_arc d) top seen k t (λ v. counts_for_none k v (sym el)))

@@ -54,7 +54,8 @@ module _ (d : List ℕ) where
         let wrong : not_one_leaf d a ≡ true = rw (ne_eqb (count (leaf_of_arc d a) (words d)) 1 (λ e. ne (e ∙ sym (one_wanted a l)))) in
         rw (any_hit (not_one_leaf d) a arcs l wrong, or-true))
         (λ l.
-        let some : (k : ℕ) × (k < words d) × (leaf_of_arc d a k ≡ true) = count_some (leaf_of_arc d a) (words d) (not_zero (λ e. ne (e ∙ sym (none_wanted a l)))) in
+        let some : (k : ℕ) × (k < words d) × (leaf_of_arc d a k ≡ true) =
+        count_some (leaf_of_arc d a) (words d) (not_zero (λ e. ne (e ∙ sym (none_wanted a l)))) in
         rw (any_hit (no_such_arc d arcs) some.0 (words d) some.1 (beyond some.0 a l some.2)))
       where
         not_zero : (count (leaf_of_arc d a) (words d) ≡ 0 → ⊥) → 0 < count (leaf_of_arc d a) (words d)

@@ -19,5 +19,6 @@ pub returns : goal.returns
 unfolding listing_of
 returns c =
     -- the whole listing has room
-    let room : Room c.args.out.now 0 (listing_of c.args.table.now c.args.spans c.args.nodes) = listing_room _ c.requires.few_spans c.requires.room _ c.requires.few_nodes in
+    let room : Room c.args.out.now 0 (listing_of c.args.table.now c.args.spans c.args.nodes) =
+    listing_room _ c.requires.few_spans c.requires.room _ c.requires.few_nodes in
     let fits = room in search (rules, filled, wrote_then)

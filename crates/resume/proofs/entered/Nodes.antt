@@ -24,7 +24,8 @@ no_nodes {table} {state} long = record {
   within = omega arith;
   labels = prefix_none most_nodes (label_in table) _ (length-take-le most_nodes state (omega arith));
   predecessors =
-      prefix_none most_nodes (predecessor_in table) _ (length-take-le most_nodes (drop predecessors_at state) (omega (arith, length-drop predecessors_at state)));
+      prefix_none most_nodes (predecessor_in table) _
+      (length-take-le most_nodes (drop predecessors_at state) (omega (arith, length-drop predecessors_at state)));
   own = refl;
 }
 

@@ -174,7 +174,8 @@ module _ {b fixed weights table state : List ℕ} {count : ℕ} (K : Keyless b f
 
   pub keys_rebuilt : {state' winners' : List ℕ} {n : ℕ}
       → LeavesQueues (graph_of b) (division_of b) (queues_up_to b table (arcs (graph_of b))) fixed state state' winners' n
-      → LeavesQueues (graph_of b) (division_of b) (state_in (graph_of b) (division_of b) table).queues fixed state state' winners' (count_in table updates_place)
+      → LeavesQueues (graph_of b) (division_of b) (state_in (graph_of b) (division_of b) table).queues fixed state state' winners'
+      (count_in table updates_place)
   unfolding state_in
   keys_rebuilt L =
       let R = K.relaid in

@@ -39,14 +39,16 @@ pub resume_in_arrays-requires : goal.resume_in_arrays-requires
 resume_in_arrays-requires c =
     -- 32 and 33 do not apply
     let long : not_long c.args.sheet.now c.args.table.now ≡ false = sym c.not_long.ensures ∙ c.if-not_long.false in
-    let stands : Standing c.args.sheet.now c.args.table.now = record { accepted = c.requires; formed = long; possible = sym c.possible.ensures ∙ c.if-not-possible.false } in
+    let stands : Standing c.args.sheet.now c.args.table.now =
+    record { accepted = c.requires; formed = long; possible = sym c.possible.ensures ∙ c.if-not-possible.false } in
     record { standing = stands; located = search rules }
 
 pub returns : goal.returns
 returns c =
     -- 32 and 33 do not apply
     let long : not_long c.args.sheet.now c.args.table.now ≡ false = sym c.not_long.ensures ∙ c.if-not_long.false in
-    let stands : Standing c.args.sheet.now c.args.table.now = record { accepted = c.requires; formed = long; possible = sym c.possible.ensures ∙ c.if-not-possible.false } in
+    let stands : Standing c.args.sheet.now c.args.table.now =
+    record { accepted = c.requires; formed = long; possible = sym c.possible.ensures ∙ c.if-not-possible.false } in
     let a = c.args in
     let done = standing_made a.sheet.now a.table.now a.rounds stands in (
       c.of_status.ensures ∙ ap (λ (x : Bool). if x then ended else paused) c.resume_in_arrays.ensures.status ∙ done.0,

@@ -56,7 +56,8 @@ find_route-requires c =
     -- 15, 21, and 22 to 24 do not apply
     let below : node_outside c.args.s.now c.args.node ≡ false = sym c.node_outside.ensures ∙ c.if-node_outside.false in
     let sized : wrong_length c.args.s.now c.args.table.now ≡ false = sym c.wrong_length.ensures ∙ c.if-wrong_length.false in
-    let passed : lowest (table_refusals c.args.s.now c.args.table.now) accepted ≡ accepted = sym c.table_refusal-number.ensures ∙ ap state_numbered c.if-number-ne0.false in
+    let passed : lowest (table_refusals c.args.s.now c.args.table.now) accepted ≡ accepted =
+    sym c.table_refusal-number.ensures ∙ ap state_numbered c.if-number-ne0.false in
     (table_ready (table_fits (search rules) (search rules) sized) passed, node_below _ _ below)
 
 pub returns : goal.returns
@@ -64,6 +65,7 @@ returns c =
     -- 15, 21, and 22 to 24 do not apply
     let below : node_outside c.args.s.now c.args.node ≡ false = sym c.node_outside.ensures ∙ c.if-node_outside.false in
     let sized : wrong_length c.args.s.now c.args.table.now ≡ false = sym c.wrong_length.ensures ∙ c.if-wrong_length.false in
-    let passed : lowest (table_refusals c.args.s.now c.args.table.now) accepted ≡ accepted = sym c.table_refusal-number.ensures ∙ ap state_numbered c.if-number-ne0.false in
+    let passed : lowest (table_refusals c.args.s.now c.args.table.now) accepted ≡ accepted =
+    sym c.table_refusal-number.ensures ∙ ap state_numbered c.if-number-ne0.false in
     let found = c.find_route.ensures in
     (found.0 ∙ route_decides _ _ _ _ c.requires below sized passed, found.1)

@@ -158,7 +158,7 @@ pub turns_none : {g : Graph} {d : Division} {spans fixed weights : List ℕ} (r 
     → Represents g d spans (times left₀ (alive g d r) (turn g d spans r) s₀) fixed weights state winners c
 turns_none {g} {d} r {s = s} L key l = loop-off L (none_alive g d s r (omega arith))
 
--- it isn't, and the first_chosen child x is worked
+-- it isn't, and the first-chosen child x is worked
 pub record Turning (g : Graph) (d : Division) (spans fixed weights : List ℕ) (r left₀ : ℕ) (s₀ : State) (state₀ winners₀ : List ℕ) (c₀ : Figures) (left : ℕ)
     (s : State) (state winners : List ℕ) (c : Figures) (x : ℕ) : Type 0 where
   pub frame : Framed g d spans fixed weights r left₀ s₀ state₀ winners₀ c₀

@@ -14,12 +14,16 @@ enter_leaves-requires c = leaves_apart _ c.requires.accepted c.region_words.ensu
 pub link-requires : goal.link-requires
 link-requires c =
     -- the rows have ends and leaves
-    let filled : ArcsFilled c.args.s.now c.enter_leaves.new.arcs = arcs_filled c.enter_ends.ensures c.region_words.ensures c.enter_leaves.ensures (omega (arith, c.enter_leaves.auto, c.enter_ends.auto, c.requires.each_arc)) in
+    let filled : ArcsFilled c.args.s.now c.enter_leaves.new.arcs =
+    arcs_filled c.enter_ends.ensures c.region_words.ensures c.enter_leaves.ensures
+    (omega (arith, c.enter_leaves.auto, c.enter_ends.auto, c.requires.each_arc)) in
     linkable c.requires.accepted filled c.requires.each_node
 
 pub returns : goal.returns
 returns c =
     -- the rows have ends and leaves
-    let filled : ArcsFilled c.args.s.now c.enter_leaves.new.arcs = arcs_filled c.enter_ends.ensures c.region_words.ensures c.enter_leaves.ensures (omega (arith, c.enter_leaves.auto, c.enter_ends.auto, c.requires.each_arc)) in
+    let filled : ArcsFilled c.args.s.now c.enter_leaves.new.arcs =
+    arcs_filled c.enter_ends.ensures c.region_words.ensures c.enter_leaves.ensures
+    (omega (arith, c.enter_leaves.auto, c.enter_ends.auto, c.requires.each_arc)) in
     let lent = c.requires in
     arcs_laid lent.accepted filled c.link.ensures (omega (arith, c.link.auto, lent.each_node))

@@ -13,10 +13,12 @@ enter_parents-requires c =
 
 pub plan-requires : goal.plan-requires
 plan-requires c =
-    let parents : ParentsOf (division_of c.args.s.now) c.enter_parents.new.parents = parents_of _ c.requires.accepted c.region_words.ensures c.enter_parents.ensures in
+    let parents : ParentsOf (division_of c.args.s.now) c.enter_parents.new.parents =
+    parents_of _ c.requires.accepted c.region_words.ensures c.enter_parents.ensures in
     record { division = _; known = parents; each_row = omega (arith, c.requires.each_row, division_regions c.args.s.now) }
 
 pub returns : goal.returns
 returns c =
-    let parents : ParentsOf (division_of c.args.s.now) c.enter_parents.new.parents = parents_of _ c.requires.accepted c.region_words.ensures c.enter_parents.ensures in
+    let parents : ParentsOf (division_of c.args.s.now) c.enter_parents.new.parents =
+    parents_of _ c.requires.accepted c.region_words.ensures c.enter_parents.ensures in
     c.plan.ensures _ parents

@@ -1,4 +1,4 @@
--- `first_entry` meets its contract: place 1 of a tree holds the entry of the first_chosen child.
+-- `first_entry` meets its contract: place 1 of a tree holds the entry of the first-chosen child.
 use mathlib.Core.Path.{sym, ◌∙◌}
 use mathlib.Core.Logic.{◌≢◌}
 use Rattle.sheet.specs.Words.{top}

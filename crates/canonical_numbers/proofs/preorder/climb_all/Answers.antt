@@ -24,7 +24,8 @@ bounds-arcs-a c = omega (arith, c.requires.starting.rows, c.loop-a-test.true)
 pub climb-requires : goal.climb-requires
 climb-requires c =
     -- the rises so far, for the given division
-    let rising : let division = c.requires.division in Rising division c.loop-a.a (regions division) c.loop-a.nexts c.loop-a.rises = c.loop-a.invariant _ c.requires.starting c.requires.begun in
+    let rising : let division = c.requires.division in Rising division c.loop-a.a (regions division) c.loop-a.nexts c.loop-a.rises =
+    c.loop-a.invariant _ c.requires.starting c.requires.begun in
     record { division = _; arc = _; ready = climb_ready c.requires.starting c.loop-a-test.true rising }
 
 pub overflow_add-a : goal.overflow_add-a

@@ -12,19 +12,34 @@ use Rattle.conversion_words.proofs.regions.new_word.Goals as goal
 pub overflow_cast-parent : goal.overflow_cast-parent
 overflow_cast-parent c =
     -- the parent and its new number are small
-    let small : let p = c.parent_word-parent.result in (p < region_numbers) × (at c.args.regions.now p < region_numbers) = let given = c.requires.0 in (omega (arith, parent_place given.1 _ c.requires.1, c.parent_word-parent.ensures), parent_small given.1 _ c.requires.1 given.2 _ c.parent_word-parent.ensures) in
+    let small : let p = c.parent_word-parent.result in (p < region_numbers) × (at c.args.regions.now p < region_numbers) =
+    let given = c.requires.0 in (
+      omega (arith, parent_place given.1 _ c.requires.1, c.parent_word-parent.ensures),
+      parent_small given.1 _ c.requires.1 given.2 _
+          c.parent_word-parent.ensures,
+    ) in
     let f = small in omega arith
 
 pub bounds-regions-parent : goal.bounds-regions-parent
 bounds-regions-parent c =
     -- the parent and its new number are small
-    let small : let p = c.parent_word-parent.result in (p < region_numbers) × (at c.args.regions.now p < region_numbers) = let given = c.requires.0 in (omega (arith, parent_place given.1 _ c.requires.1, c.parent_word-parent.ensures), parent_small given.1 _ c.requires.1 given.2 _ c.parent_word-parent.ensures) in
+    let small : let p = c.parent_word-parent.result in (p < region_numbers) × (at c.args.regions.now p < region_numbers) =
+    let given = c.requires.0 in (
+      omega (arith, parent_place given.1 _ c.requires.1, c.parent_word-parent.ensures),
+      parent_small given.1 _ c.requires.1 given.2 _
+          c.parent_word-parent.ensures,
+    ) in
     let f = small in omega arith
 
 pub inner_word_of-requires : goal.inner_word_of-requires
 inner_word_of-requires c =
     -- the parent and its new number are small
-    let small : let p = c.parent_word-parent.result in (p < region_numbers) × (at c.args.regions.now p < region_numbers) = let given = c.requires.0 in (omega (arith, parent_place given.1 _ c.requires.1, c.parent_word-parent.ensures), parent_small given.1 _ c.requires.1 given.2 _ c.parent_word-parent.ensures) in
+    let small : let p = c.parent_word-parent.result in (p < region_numbers) × (at c.args.regions.now p < region_numbers) =
+    let given = c.requires.0 in (
+      omega (arith, parent_place given.1 _ c.requires.1, c.parent_word-parent.ensures),
+      parent_small given.1 _ c.requires.1 given.2 _
+          c.parent_word-parent.ensures,
+    ) in
     let f = small in omega arith
 
 pub returns-then-not-leaf_word : goal.returns-then-not-leaf_word
@@ -35,7 +50,12 @@ returns-then-not-leaf_word c =
 pub leaf_word_of-requires : goal.leaf_word_of-requires
 leaf_word_of-requires c =
     -- the parent and its new number are small
-    let small : let p = c.parent_word-parent.result in (p < region_numbers) × (at c.args.regions.now p < region_numbers) = let given = c.requires.0 in (omega (arith, parent_place given.1 _ c.requires.1, c.parent_word-parent.ensures), parent_small given.1 _ c.requires.1 given.2 _ c.parent_word-parent.ensures) in
+    let small : let p = c.parent_word-parent.result in (p < region_numbers) × (at c.args.regions.now p < region_numbers) =
+    let given = c.requires.0 in (
+      omega (arith, parent_place given.1 _ c.requires.1, c.parent_word-parent.ensures),
+      parent_small given.1 _ c.requires.1 given.2 _
+          c.parent_word-parent.ensures,
+    ) in
     let leaf : leaf_word c.args.d.now c.args.k ≡ true = sym c.leaf_word.ensures ∙ c.if-not-leaf_word.false in
     let given = c.requires.0 in
     let f = small in

@@ -16,19 +16,28 @@ returns-then-number c = λ b W. none_written W _ c.requires.1 c.if-number.true
 pub overflow_cast-i : goal.overflow_cast-i
 overflow_cast-i c =
     -- the word of a region that is kept has its place
-    let place : let b = c.requires.0.0 in (4 * (c.args.place + before b c.args.k) + 4 ≤ length c.args.out.now) × (c.args.place + at c.args.regions.now (c.args.k + 1) ≡ c.args.place + before b c.args.k + 1) = let given = c.requires.0.1 in let number = number_is given.numbered _ c.requires.1 (region_kept given.numbered _ c.requires.1 c.if-number.false) in (word_room given _ c.requires.1 c.if-number.false, omega arith) in
+    let place : let b = c.requires.0.0 in (4 * (c.args.place + before b c.args.k) + 4 ≤ length c.args.out.now)
+    × (c.args.place + at c.args.regions.now (c.args.k + 1) ≡ c.args.place + before b c.args.k + 1) =
+    let given = c.requires.0.1 in let number = number_is given.numbered _ c.requires.1 (region_kept given.numbered _ c.requires.1 c.if-number.false) in
+    (word_room given _ c.requires.1 c.if-number.false, omega arith) in
     let p = place in omega arith
 
 pub overflow_add-i : goal.overflow_add-i
 overflow_add-i c =
     -- the word of a region that is kept has its place
-    let place : let b = c.requires.0.0 in (4 * (c.args.place + before b c.args.k) + 4 ≤ length c.args.out.now) × (c.args.place + at c.args.regions.now (c.args.k + 1) ≡ c.args.place + before b c.args.k + 1) = let given = c.requires.0.1 in let number = number_is given.numbered _ c.requires.1 (region_kept given.numbered _ c.requires.1 c.if-number.false) in (word_room given _ c.requires.1 c.if-number.false, omega arith) in
+    let place : let b = c.requires.0.0 in (4 * (c.args.place + before b c.args.k) + 4 ≤ length c.args.out.now)
+    × (c.args.place + at c.args.regions.now (c.args.k + 1) ≡ c.args.place + before b c.args.k + 1) =
+    let given = c.requires.0.1 in let number = number_is given.numbered _ c.requires.1 (region_kept given.numbered _ c.requires.1 c.if-number.false) in
+    (word_room given _ c.requires.1 c.if-number.false, omega arith) in
     let p = place in omega arith
 
 pub overflow_sub-i : goal.overflow_sub-i
 overflow_sub-i c =
     -- the word of a region that is kept has its place
-    let place : let b = c.requires.0.0 in (4 * (c.args.place + before b c.args.k) + 4 ≤ length c.args.out.now) × (c.args.place + at c.args.regions.now (c.args.k + 1) ≡ c.args.place + before b c.args.k + 1) = let given = c.requires.0.1 in let number = number_is given.numbered _ c.requires.1 (region_kept given.numbered _ c.requires.1 c.if-number.false) in (word_room given _ c.requires.1 c.if-number.false, omega arith) in
+    let place : let b = c.requires.0.0 in (4 * (c.args.place + before b c.args.k) + 4 ≤ length c.args.out.now)
+    × (c.args.place + at c.args.regions.now (c.args.k + 1) ≡ c.args.place + before b c.args.k + 1) =
+    let given = c.requires.0.1 in let number = number_is given.numbered _ c.requires.1 (region_kept given.numbered _ c.requires.1 c.if-number.false) in
+    (word_room given _ c.requires.1 c.if-number.false, omega arith) in
     let p = place in omega arith
 
 pub new_word-requires : goal.new_word-requires
@@ -39,7 +48,10 @@ new_word-requires c =
 pub put_word-requires : goal.put_word-requires
 put_word-requires c =
     -- the word of a region that is kept has its place
-    let place : let b = c.requires.0.0 in (4 * (c.args.place + before b c.args.k) + 4 ≤ length c.args.out.now) × (c.args.place + at c.args.regions.now (c.args.k + 1) ≡ c.args.place + before b c.args.k + 1) = let given = c.requires.0.1 in let number = number_is given.numbered _ c.requires.1 (region_kept given.numbered _ c.requires.1 c.if-number.false) in (word_room given _ c.requires.1 c.if-number.false, omega arith) in
+    let place : let b = c.requires.0.0 in (4 * (c.args.place + before b c.args.k) + 4 ≤ length c.args.out.now)
+    × (c.args.place + at c.args.regions.now (c.args.k + 1) ≡ c.args.place + before b c.args.k + 1) =
+    let given = c.requires.0.1 in let number = number_is given.numbered _ c.requires.1 (region_kept given.numbered _ c.requires.1 c.if-number.false) in
+    (word_room given _ c.requires.1 c.if-number.false, omega arith) in
     let p = place in omega arith
 
 pub returns : goal.returns

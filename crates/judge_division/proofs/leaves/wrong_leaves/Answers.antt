@@ -19,13 +19,15 @@ overflow_cast-a c = tt
 pub returns-then-seen-i : goal.returns-then-seen-i
 returns-then-seen-i c =
     -- the counter that is read says how many leaves the number has
-    let counted : let d = c.args.d.now in let a = c.loop-a.a in get_or c.count_leaves-leaves.result.n a 0 ≡ count (leaf_of_arc d a) (words d) = let leaves = c.count_leaves-leaves.ensures in leaves.1.counts c.loop-a.a (omega (arith, leaves.0)) in
+    let counted : let d = c.args.d.now in let a = c.loop-a.a in get_or c.count_leaves-leaves.result.n a 0 ≡ count (leaf_of_arc d a) (words d) =
+    let leaves = c.count_leaves-leaves.ensures in leaves.1.counts c.loop-a.a (omega (arith, leaves.0)) in
     sym (one_wrong _ _ _ (λ e. c.if-seen-i.true (counted ∙ e)))
 
 pub loop-a-preserved : goal.loop-a-preserved
 loop-a-preserved c =
     -- the counter that is read says how many leaves the number has
-    let counted : let d = c.args.d.now in let a = c.loop-a.a in get_or c.count_leaves-leaves.result.n a 0 ≡ count (leaf_of_arc d a) (words d) = let leaves = c.count_leaves-leaves.ensures in leaves.1.counts c.loop-a.a (omega (arith, leaves.0)) in
+    let counted : let d = c.args.d.now in let a = c.loop-a.a in get_or c.count_leaves-leaves.result.n a 0 ≡ count (leaf_of_arc d a) (words d) =
+    let leaves = c.count_leaves-leaves.ensures in leaves.1.counts c.loop-a.a (omega (arith, leaves.0)) in
     (omega arith, any_more _ _ (search rules) (right_count _ _ _ (sym counted ∙ c.if-seen-i.false)))
 
 pub returns : goal.returns

@@ -44,24 +44,29 @@ pub returns-then-not-may_follow : goal.returns-then-not-may_follow
 returns-then-not-may_follow c =
     let sheet : List ℕ = c.args.s.now in
     -- the same of a word of the loop, after the one before it
-    let stepped : Stepped sheet c.loop-word.cursor c.in-Word-word_after.word c.in-Word-word_after.next = step_word _ _ _ _ (sym c.word_after-in-loop-word.ensures ∙ c.in-Word-word_after.is) in
+    let stepped : Stepped sheet c.loop-word.cursor c.in-Word-word_after.word c.in-Word-word_after.next =
+    step_word _ _ _ _ (sym c.word_after-in-loop-word.ensures ∙ c.in-Word-word_after.is) in
     let kind-read : c.kind_of-kind.result ≡ kind sheet c.loop-word.cursor.place = step_kind stepped c.kind_of-kind.ensures in
-    let tested : c.may_follow.result ≡ may_follow c.loop-word.before (kind sheet c.loop-word.cursor.place) = c.may_follow.ensures ∙ ap (may_follow _) kind-read in
+    let tested : c.may_follow.result ≡ may_follow c.loop-word.before (kind sheet c.loop-word.cursor.place) =
+    c.may_follow.ensures ∙ ap (may_follow _) kind-read in
     sym (pass_stop c.loop-word.invariant stepped.inside (sym tested ∙ c.if-not-may_follow.true))
 
 pub loop-word-smaller : goal.loop-word-smaller
 loop-word-smaller c =
     let sheet : List ℕ = c.args.s.now in
     -- the same of a word of the loop, after the one before it
-    let stepped : Stepped sheet c.loop-word.cursor c.in-Word-word_after.word c.in-Word-word_after.next = step_word _ _ _ _ (sym c.word_after-in-loop-word.ensures ∙ c.in-Word-word_after.is) in
+    let stepped : Stepped sheet c.loop-word.cursor c.in-Word-word_after.word c.in-Word-word_after.next =
+    step_word _ _ _ _ (sym c.word_after-in-loop-word.ensures ∙ c.in-Word-word_after.is) in
     let word = stepped in omega (arith, word.inside, word.moved)
 
 pub loop-word-preserved : goal.loop-word-preserved
 loop-word-preserved c =
     let sheet : List ℕ = c.args.s.now in
     -- the same of a word of the loop, after the one before it
-    let stepped : Stepped sheet c.loop-word.cursor c.in-Word-word_after.word c.in-Word-word_after.next = step_word _ _ _ _ (sym c.word_after-in-loop-word.ensures ∙ c.in-Word-word_after.is) in
+    let stepped : Stepped sheet c.loop-word.cursor c.in-Word-word_after.word c.in-Word-word_after.next =
+    step_word _ _ _ _ (sym c.word_after-in-loop-word.ensures ∙ c.in-Word-word_after.is) in
     let kind-read : c.kind_of-kind.result ≡ kind sheet c.loop-word.cursor.place = step_kind stepped c.kind_of-kind.ensures in
-    let tested : c.may_follow.result ≡ may_follow c.loop-word.before (kind sheet c.loop-word.cursor.place) = c.may_follow.ensures ∙ ap (may_follow _) kind-read in
+    let tested : c.may_follow.result ≡ may_follow c.loop-word.before (kind sheet c.loop-word.cursor.place) =
+    c.may_follow.ensures ∙ ap (may_follow _) kind-read in
     let word = stepped in
     rw (word.moved, kind-read) (pass_on c.loop-word.invariant word.inside (sym tested ∙ c.if-not-may_follow.false))

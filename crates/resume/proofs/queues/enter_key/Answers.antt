@@ -26,27 +26,32 @@ tail_of-tail-requires c = omega (arith, c.requires.in_range, c.requires.sofar.re
 pub label_of-key-requires : goal.label_of-key-requires
 label_of-key-requires c =
     -- THE TAIL is the arc's
-    let tail-there : c.tail_of-tail.result.0 ≡ tail (graph_of c.args.s.now) c.args.a.0 = c.tail_of-tail.ensures ∙ c.requires.sofar.relaid.laid.fixed_ok.arc_rows.tails _ c.requires.in_range in
+    let tail-there : c.tail_of-tail.result.0 ≡ tail (graph_of c.args.s.now) c.args.a.0 =
+    c.tail_of-tail.ensures ∙ c.requires.sofar.relaid.laid.fixed_ok.arc_rows.tails _ c.requires.in_range in
     let graph = c.requires.sofar.relaid.laid.fixed_ok.ok.graph in
     omega (arith, tail-there, graph.tail_in_lem _ c.requires.in_range, graph.few_nodes)
 
 pub update_arc-requires : goal.update_arc-requires
 update_arc-requires c =
     -- THE TAIL is the arc's
-    let tail-there : c.tail_of-tail.result.0 ≡ tail (graph_of c.args.s.now) c.args.a.0 = c.tail_of-tail.ensures ∙ c.requires.sofar.relaid.laid.fixed_ok.arc_rows.tails _ c.requires.in_range in
+    let tail-there : c.tail_of-tail.result.0 ≡ tail (graph_of c.args.s.now) c.args.a.0 =
+    c.tail_of-tail.ensures ∙ c.requires.sofar.relaid.laid.fixed_ok.arc_rows.tails _ c.requires.in_range in
     -- THE ARC has a key, which is what is read in the array
     let keyed : has_key (graph_of c.args.s.now) c.args.table.now c.args.a.0 ≡ true = sym c.has_key.ensures ∙ c.if-not-has_key.false in
-    let read : c.label_of-key.result ≡ at (own_in (graph_of c.args.s.now) c.args.table.now) c.args.a.0 = c.label_of-key.ensures ∙ ap (at (label_section c.args.state.now)) tail-there ∙ key_read c.requires.sofar.relaid _ c.requires.in_range keyed in
+    let read : c.label_of-key.result ≡ at (own_in (graph_of c.args.s.now) c.args.table.now) c.args.a.0 =
+    c.label_of-key.ensures ∙ ap (at (label_section c.args.state.now)) tail-there ∙ key_read c.requires.sofar.relaid _ c.requires.in_range keyed in
     let K = c.requires in
     record { graph = _; division = _; queues = _; holds = K.sofar.holds; updating = key_asks K keyed read }
 
 pub returns : goal.returns
 returns c =
     -- THE TAIL is the arc's
-    let tail-there : c.tail_of-tail.result.0 ≡ tail (graph_of c.args.s.now) c.args.a.0 = c.tail_of-tail.ensures ∙ c.requires.sofar.relaid.laid.fixed_ok.arc_rows.tails _ c.requires.in_range in
+    let tail-there : c.tail_of-tail.result.0 ≡ tail (graph_of c.args.s.now) c.args.a.0 =
+    c.tail_of-tail.ensures ∙ c.requires.sofar.relaid.laid.fixed_ok.arc_rows.tails _ c.requires.in_range in
     -- THE ARC has a key, which is what is read in the array
     let keyed : has_key (graph_of c.args.s.now) c.args.table.now c.args.a.0 ≡ true = sym c.has_key.ensures ∙ c.if-not-has_key.false in
-    let read : c.label_of-key.result ≡ at (own_in (graph_of c.args.s.now) c.args.table.now) c.args.a.0 = c.label_of-key.ensures ∙ ap (at (label_section c.args.state.now)) tail-there ∙ key_read c.requires.sofar.relaid _ c.requires.in_range keyed in
+    let read : c.label_of-key.result ≡ at (own_in (graph_of c.args.s.now) c.args.table.now) c.args.a.0 =
+    c.label_of-key.ensures ∙ ap (at (label_section c.args.state.now)) tail-there ∙ key_read c.requires.sofar.relaid _ c.requires.in_range keyed in
     let K = c.requires in
     let has = keyed in
     key_entered K has read (c.update_arc.ensures _ _ _ K.sofar.holds (key_asks K has read))

@@ -20,7 +20,8 @@ count_arcs-arcs-requires c =
 
 pub returns-then-buffer-arcs : goal.returns-then-buffer-arcs
 unfolding top
-returns-then-buffer-arcs c = (found_short _ _ _ _ c.label_of.ensures c.if-label_of-eq-NONE.false c.count_arcs-arcs.ensures.0 c.if-buffer-arcs.true, left_refused _ _ _ _ _)
+returns-then-buffer-arcs c
+    = (found_short _ _ _ _ c.label_of.ensures c.if-label_of-eq-NONE.false c.count_arcs-arcs.ensures.0 c.if-buffer-arcs.true, left_refused _ _ _ _ _)
 
 pub write_arcs-requires : goal.write_arcs-requires
 unfolding top

@@ -13,7 +13,18 @@ use Rattle.procedure.specs.State.{State}
 use Rattle.procedure.specs.Procedure.{process_leaf}
 use Rattle.run_counts.specs.Figures.{figures_in}
 use Rattle.run_arrays.specs.States.{Represents, Workable}
-use Rattle.run_engine.proofs.leaf.Leaves.{Weighed, region_fits, leaf_count_fits, leaf_arc_in, leaf_tail_in, leaf_head_in, leaf_stays, leaf_asks, lowered_held, leaf_falls}
+use Rattle.run_engine.proofs.leaf.Leaves.{
+  Weighed,
+  region_fits,
+  leaf_count_fits,
+  leaf_arc_in,
+  leaf_tail_in,
+  leaf_head_in,
+  leaf_stays,
+  leaf_asks,
+  lowered_held,
+  leaf_falls,
+}
 use Rattle.run_engine.proofs.leaf.process_leaf.Goals as goal
 
 pub arc_of-a-requires : goal.arc_of-a-requires
@@ -59,7 +70,23 @@ pub returns-then-wide-sum : goal.returns-then-wide-sum
 unfolding top
 returns-then-wide-sum c g d spans s R W leaf =
     -- THE SUM is weighed against the head's label
-    let weighed : (g : Graph) → (d : Division) → (spans : List ℕ) → (s : State) → let a = c.args in Represents g d spans s a.fixed.now a.weights.now a.state.now a.winners.now (figures_in a.counts.now) → Workable d a.r.0 (process_leaf g d a.r.0 s) → is_leaf d a.r.0 ≡ true → Weighed g d spans s a.fixed.now a.weights.now a.state.now a.winners.now (figures_in a.counts.now) a.r.0 c.arc_of-a.result.0 c.tail_of-tail.result.0 c.head_of-head.result.0 c.wide.result c.wide-2.result c.wide-3.result = λ g d spans s R W leaf. record { represents = R; workable = W; leaf = leaf; row = c.arc_of-a.ensures; from = c.tail_of-tail.ensures; to = c.head_of-head.ensures; tail_label = c.wide.ensures.0 ∙ c.label_of.ensures; arc_length_lem = c.wide-2.ensures.0 ∙ c.length_of.ensures; head_label = c.wide-3.ensures.0 ∙ c.label_of-2.ensures } in
+    let weighed : (g : Graph) → (d : Division) → (spans : List ℕ) → (s : State) → let a = c.args in Represents g d spans s a.fixed.now a.weights.now
+    a.state.now a.winners.now (figures_in a.counts.now) → Workable d a.r.0 (process_leaf g d a.r.0 s) → is_leaf d a.r.0 ≡ true
+    → Weighed g d spans s a.fixed.now a.weights.now a.state.now a.winners.now (figures_in a.counts.now) a.r.0 c.arc_of-a.result.0 c.tail_of-tail.result.0
+    c.head_of-head.result.0 c.wide.result c.wide-2.result c.wide-3.result =
+    λ g d spans s R W leaf. record {
+      represents = R;
+      workable = W;
+      leaf = leaf;
+      row = c.arc_of-a.ensures;
+      from = c.tail_of-tail.ensures;
+      to = c.head_of-head.ensures;
+      tail_label
+          = c.wide.ensures.0 ∙ c.label_of.ensures;
+      arc_length_lem = c.wide-2.ensures.0 ∙ c.length_of.ensures;
+      head_label = c.wide-3.ensures.0
+          ∙ c.label_of-2.ensures;
+    } in
     leaf_stays (weighed _ _ _ _ R W leaf) c.if-wide-sum.true c.set_own_key.ensures c.updates_of.ensures c.count_leaf.ensures
 
 pub lower_label-requires : goal.lower_label-requires
@@ -68,7 +95,23 @@ lower_label-requires c = search (rules, leaf_head_in)
 pub update_outgoing-n-requires : goal.update_outgoing-n-requires
 update_outgoing-n-requires c =
     -- THE SUM is weighed against the head's label
-    let weighed : (g : Graph) → (d : Division) → (spans : List ℕ) → (s : State) → let a = c.args in Represents g d spans s a.fixed.now a.weights.now a.state.now a.winners.now (figures_in a.counts.now) → Workable d a.r.0 (process_leaf g d a.r.0 s) → is_leaf d a.r.0 ≡ true → Weighed g d spans s a.fixed.now a.weights.now a.state.now a.winners.now (figures_in a.counts.now) a.r.0 c.arc_of-a.result.0 c.tail_of-tail.result.0 c.head_of-head.result.0 c.wide.result c.wide-2.result c.wide-3.result = λ g d spans s R W leaf. record { represents = R; workable = W; leaf = leaf; row = c.arc_of-a.ensures; from = c.tail_of-tail.ensures; to = c.head_of-head.ensures; tail_label = c.wide.ensures.0 ∙ c.label_of.ensures; arc_length_lem = c.wide-2.ensures.0 ∙ c.length_of.ensures; head_label = c.wide-3.ensures.0 ∙ c.label_of-2.ensures } in
+    let weighed : (g : Graph) → (d : Division) → (spans : List ℕ) → (s : State) → let a = c.args in Represents g d spans s a.fixed.now a.weights.now
+    a.state.now a.winners.now (figures_in a.counts.now) → Workable d a.r.0 (process_leaf g d a.r.0 s) → is_leaf d a.r.0 ≡ true
+    → Weighed g d spans s a.fixed.now a.weights.now a.state.now a.winners.now (figures_in a.counts.now) a.r.0 c.arc_of-a.result.0 c.tail_of-tail.result.0
+    c.head_of-head.result.0 c.wide.result c.wide-2.result c.wide-3.result =
+    λ g d spans s R W leaf. record {
+      represents = R;
+      workable = W;
+      leaf = leaf;
+      row = c.arc_of-a.ensures;
+      from = c.tail_of-tail.ensures;
+      to = c.head_of-head.ensures;
+      tail_label
+          = c.wide.ensures.0 ∙ c.label_of.ensures;
+      arc_length_lem = c.wide-2.ensures.0 ∙ c.length_of.ensures;
+      head_label = c.wide-3.ensures.0
+          ∙ c.label_of-2.ensures;
+    } in
     let pre = c.requires in
     let w = weighed _ _ _ _ pre.represents pre.workable pre.leaf in
     let lower = c.if-wide-sum.false in
@@ -96,7 +139,23 @@ pub returns : goal.returns
 unfolding top
 returns c g d spans s R W leaf =
     -- THE SUM is weighed against the head's label
-    let weighed : (g : Graph) → (d : Division) → (spans : List ℕ) → (s : State) → let a = c.args in Represents g d spans s a.fixed.now a.weights.now a.state.now a.winners.now (figures_in a.counts.now) → Workable d a.r.0 (process_leaf g d a.r.0 s) → is_leaf d a.r.0 ≡ true → Weighed g d spans s a.fixed.now a.weights.now a.state.now a.winners.now (figures_in a.counts.now) a.r.0 c.arc_of-a.result.0 c.tail_of-tail.result.0 c.head_of-head.result.0 c.wide.result c.wide-2.result c.wide-3.result = λ g d spans s R W leaf. record { represents = R; workable = W; leaf = leaf; row = c.arc_of-a.ensures; from = c.tail_of-tail.ensures; to = c.head_of-head.ensures; tail_label = c.wide.ensures.0 ∙ c.label_of.ensures; arc_length_lem = c.wide-2.ensures.0 ∙ c.length_of.ensures; head_label = c.wide-3.ensures.0 ∙ c.label_of-2.ensures } in
+    let weighed : (g : Graph) → (d : Division) → (spans : List ℕ) → (s : State) → let a = c.args in Represents g d spans s a.fixed.now a.weights.now
+    a.state.now a.winners.now (figures_in a.counts.now) → Workable d a.r.0 (process_leaf g d a.r.0 s) → is_leaf d a.r.0 ≡ true
+    → Weighed g d spans s a.fixed.now a.weights.now a.state.now a.winners.now (figures_in a.counts.now) a.r.0 c.arc_of-a.result.0 c.tail_of-tail.result.0
+    c.head_of-head.result.0 c.wide.result c.wide-2.result c.wide-3.result =
+    λ g d spans s R W leaf. record {
+      represents = R;
+      workable = W;
+      leaf = leaf;
+      row = c.arc_of-a.ensures;
+      from = c.tail_of-tail.ensures;
+      to = c.head_of-head.ensures;
+      tail_label
+          = c.wide.ensures.0 ∙ c.label_of.ensures;
+      arc_length_lem = c.wide-2.ensures.0 ∙ c.length_of.ensures;
+      head_label = c.wide-3.ensures.0
+          ∙ c.label_of-2.ensures;
+    } in
     let w = weighed _ _ _ _ R W leaf in
     let lower = c.if-wide-sum.false in
     let label = c.lower_label.ensures in

@@ -12,8 +12,10 @@ use Rattle.run_engine.proofs.region.+process_inner_process_region.Given as goal
 
 abbrev pub invariant-process_inner-loop-left : goal.invariant-process_inner-loop-left
 invariant-process_inner-loop-left l =
-    (g : Graph) (d : Division) (spans : List ℕ) (s₀ : State) → Framed g d spans l.fixed l.weights l.r.0 l.initial.left s₀ l.initial.state l.initial.winners (figures_in l.initial.counts)
-    → ((s : State) × Looping g d spans l.fixed l.weights (alive g d l.r.0) (turn g d spans l.r.0) l.initial.left s₀ l.left s l.state l.winners (figures_in l.counts))
+    (g : Graph) (d : Division) (spans : List ℕ) (s₀ : State)
+    → Framed g d spans l.fixed l.weights l.r.0 l.initial.left s₀ l.initial.state l.initial.winners (figures_in l.initial.counts)
+    → ((s : State) × Looping g d spans l.fixed l.weights (alive g d l.r.0) (turn g d spans l.r.0) l.initial.left s₀ l.left s l.state l.winners
+    (figures_in l.counts))
 
 abbrev pub decreases-process_inner-loop-left : goal.decreases-process_inner-loop-left
 decreases-process_inner-loop-left l = l.left

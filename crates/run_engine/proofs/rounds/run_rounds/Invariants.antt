@@ -13,7 +13,8 @@ use Rattle.run_engine.proofs.rounds.run_rounds.Given as goal
 
 abbrev pub invariant-loop-left : goal.invariant-loop-left
 invariant-loop-left l =
-    (g : Graph) (d : Division) (spans : List ℕ) (s₀ : State) → Represents g d spans s₀ l.fixed l.weights l.initial.state l.initial.winners (figures_in l.initial.counts)
+    (g : Graph) (d : Division) (spans : List ℕ) (s₀ : State)
+    → Represents g d spans s₀ l.fixed l.weights l.initial.state l.initial.winners (figures_in l.initial.counts)
     → Small (more g d spans l.initial.left s₀)
     → ((s : State) × Looping g d spans l.fixed l.weights (running g d) (round g d spans) l.initial.left s₀ l.left s l.state l.winners (figures_in l.counts))
 

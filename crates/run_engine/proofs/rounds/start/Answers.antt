@@ -29,7 +29,9 @@ pub update_outgoing-n-requires : goal.update_outgoing-n-requires
 unfolding top
 update_outgoing-n-requires c =
     -- THE QUEUES are cleared
-    let cleared : (g : Graph) → (d : Division) → (spans : List ℕ) → let a = c.args in Blank g d spans a.fixed.now a.weights.now a.source.0 a.count → QueuesOk d a.fixed.now (replicate (regions d) top) c.clear.new.winners = λ g d spans B. c.clear.ensures d (can_build B.fixed_ok B.planned (search rules)) B.all_regions in
+    let cleared : (g : Graph) → (d : Division) → (spans : List ℕ) → let a = c.args in Blank g d spans a.fixed.now a.weights.now a.source.0 a.count
+    → QueuesOk d a.fixed.now (replicate (regions d) top) c.clear.new.winners =
+    λ g d spans B. c.clear.ensures d (can_build B.fixed_ok B.planned (search rules)) B.all_regions in
     let pre = c.requires in
     let B = pre.blank in
     record {
@@ -44,7 +46,9 @@ pub returns : goal.returns
 unfolding top
 returns c g d spans B =
     -- THE QUEUES are cleared
-    let cleared : (g : Graph) → (d : Division) → (spans : List ℕ) → let a = c.args in Blank g d spans a.fixed.now a.weights.now a.source.0 a.count → QueuesOk d a.fixed.now (replicate (regions d) top) c.clear.new.winners = λ g d spans B. c.clear.ensures d (can_build B.fixed_ok B.planned (search rules)) B.all_regions in
+    let cleared : (g : Graph) → (d : Division) → (spans : List ℕ) → let a = c.args in Blank g d spans a.fixed.now a.weights.now a.source.0 a.count
+    → QueuesOk d a.fixed.now (replicate (regions d) top) c.clear.new.winners =
+    λ g d spans B. c.clear.ensures d (can_build B.fixed_ok B.planned (search rules)) B.all_regions in
     let none = c.requires.none in
     let K = c.set_label.ensures in
     let held = start_held B none K (cleared _ _ _ B) in

@@ -58,7 +58,9 @@ update-requires c =
     -- THE KEY FELL
     let fell : let a = c.args in a.key < at (own_section a.state.now) a.a.0 = omega (arith, c.own_key_of-old.ensures, c.if-old-key.false) in
     -- and the leaf's parent is found
-    let climbs : (g : Graph) → (d : Division) → (q : Queues) → let a = c.args in HoldsQueues g d q a.fixed.now a.state.now a.winners.now a.count → UpdatingArc g d q a.fixed.now a.a.0 a.key → c.parent_of.result.0 ≡ parent d c.leaf_of-leaf.result.0 = λ g d q H U. c.parent_of.ensures d H.keys.valid.seated.laid.planned.counted (leaf_region U c.leaf_of-leaf.ensures) in
+    let climbs : (g : Graph) → (d : Division) → (q : Queues) → let a = c.args in HoldsQueues g d q a.fixed.now a.state.now a.winners.now a.count
+    → UpdatingArc g d q a.fixed.now a.a.0 a.key → c.parent_of.result.0 ≡ parent d c.leaf_of-leaf.result.0 =
+    λ g d q H U. c.parent_of.ensures d H.keys.valid.seated.laid.planned.counted (leaf_region U c.leaf_of-leaf.ensures) in
     let pre = c.requires in
     let K = c.set_own_key.ensures in
     record {
@@ -73,7 +75,9 @@ returns c g d q H U =
     -- THE KEY FELL
     let fell : let a = c.args in a.key < at (own_section a.state.now) a.a.0 = omega (arith, c.own_key_of-old.ensures, c.if-old-key.false) in
     -- and the leaf's parent is found
-    let climbs : (g : Graph) → (d : Division) → (q : Queues) → let a = c.args in HoldsQueues g d q a.fixed.now a.state.now a.winners.now a.count → UpdatingArc g d q a.fixed.now a.a.0 a.key → c.parent_of.result.0 ≡ parent d c.leaf_of-leaf.result.0 = λ g d q H U. c.parent_of.ensures d H.keys.valid.seated.laid.planned.counted (leaf_region U c.leaf_of-leaf.ensures) in
+    let climbs : (g : Graph) → (d : Division) → (q : Queues) → let a = c.args in HoldsQueues g d q a.fixed.now a.state.now a.winners.now a.count
+    → UpdatingArc g d q a.fixed.now a.a.0 a.key → c.parent_of.result.0 ≡ parent d c.leaf_of-leaf.result.0 =
+    λ g d q H U. c.parent_of.ensures d H.keys.valid.seated.laid.planned.counted (leaf_region U c.leaf_of-leaf.ensures) in
     let K = c.set_own_key.ensures in
     let up = climbs _ _ _ H U in
     let asks = arc_climb_asks U H K fell c.leaf_of-leaf.ensures up in

@@ -14,7 +14,9 @@ loop-r-init c = (refl, λ d keys e E. valid_none E)
 pub build_tree-requires : goal.build_tree-requires
 build_tree-requires c =
     -- the trees below the loop's region are valid, with every key none, for a division whose trees can be built at the call
-    let valid : (d : Division) → let args = c.args in Buildable d args.rows.now args.weights.now args.winners.now → args.count ≡ regions d → ValidBelow d args.rows.now (replicate (regions d) top) c.loop-r.winners c.loop-r.r = λ d B e. c.loop-r.invariant.1 d _ e (c.enter_children.ensures d B e) in
+    let valid : (d : Division) → let args = c.args in Buildable d args.rows.now args.weights.now args.winners.now → args.count ≡ regions d
+    → ValidBelow d args.rows.now (replicate (regions d) top) c.loop-r.winners c.loop-r.r =
+    λ d B e. c.loop-r.invariant.1 d _ e (c.enter_children.ensures d B e) in
     let pre = c.requires in
     record {
       division = _;
@@ -34,5 +36,7 @@ loop-r-preserved c =
 pub returns : goal.returns
 returns c d B e =
     -- the trees below the loop's region are valid, with every key none, for a division whose trees can be built at the call
-    let valid : (d : Division) → let args = c.args in Buildable d args.rows.now args.weights.now args.winners.now → args.count ≡ regions d → ValidBelow d args.rows.now (replicate (regions d) top) c.loop-r.winners c.loop-r.r = λ d B e. c.loop-r.invariant.1 d _ e (c.enter_children.ensures d B e) in
+    let valid : (d : Division) → let args = c.args in Buildable d args.rows.now args.weights.now args.winners.now → args.count ≡ regions d
+    → ValidBelow d args.rows.now (replicate (regions d) top) c.loop-r.winners c.loop-r.r =
+    λ d B e. c.loop-r.invariant.1 d _ e (c.enter_children.ensures d B e) in
     valid_regions (valid d B e) (omega (arith, c.loop-r-test.false, e))

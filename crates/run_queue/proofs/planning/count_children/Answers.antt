@@ -22,7 +22,8 @@ overflow_add-counted c =
     let counting : Counting c.requires.division c.loop-c.rows c.loop-c.c = c.loop-c.invariant _ c.requires.known in
     let inside : c.loop-c.c < regions c.requires.division = omega (arith, c.loop-c-test.true, c.requires.known.all) in
     -- it and its parent have rows, and the parent's count can rise
-    let bounds : CountBounds c.loop-c.rows c.loop-c.c (at c.args.parents.now c.loop-c.c) c.children_of-lower.result = count_bounds c.requires.known counting inside c.children_of-lower.ensures in
+    let bounds : CountBounds c.loop-c.rows c.loop-c.c (at c.args.parents.now c.loop-c.c) c.children_of-lower.result =
+    count_bounds c.requires.known counting inside c.children_of-lower.ensures in
     omega (arith, bounds.fits)
 
 pub set_field-requires : goal.set_field-requires
@@ -31,7 +32,8 @@ set_field-requires c =
     let counting : Counting c.requires.division c.loop-c.rows c.loop-c.c = c.loop-c.invariant _ c.requires.known in
     let inside : c.loop-c.c < regions c.requires.division = omega (arith, c.loop-c-test.true, c.requires.known.all) in
     -- it and its parent have rows, and the parent's count can rise
-    let bounds : CountBounds c.loop-c.rows c.loop-c.c (at c.args.parents.now c.loop-c.c) c.children_of-lower.result = count_bounds c.requires.known counting inside c.children_of-lower.ensures in
+    let bounds : CountBounds c.loop-c.rows c.loop-c.c (at c.args.parents.now c.loop-c.c) c.children_of-lower.result =
+    count_bounds c.requires.known counting inside c.children_of-lower.ensures in
     (omega arith, bounds.row)
 
 pub set_field-requires-in-loop-c : goal.set_field-requires-in-loop-c
@@ -40,7 +42,8 @@ set_field-requires-in-loop-c c =
     let counting : Counting c.requires.division c.loop-c.rows c.loop-c.c = c.loop-c.invariant _ c.requires.known in
     let inside : c.loop-c.c < regions c.requires.division = omega (arith, c.loop-c-test.true, c.requires.known.all) in
     -- it and its parent have rows, and the parent's count can rise
-    let bounds : CountBounds c.loop-c.rows c.loop-c.c (at c.args.parents.now c.loop-c.c) c.children_of-lower.result = count_bounds c.requires.known counting inside c.children_of-lower.ensures in
+    let bounds : CountBounds c.loop-c.rows c.loop-c.c (at c.args.parents.now c.loop-c.c) c.children_of-lower.result =
+    count_bounds c.requires.known counting inside c.children_of-lower.ensures in
     (omega arith, omega (arith, bounds.row, c.set_field.auto))
 
 pub set_field-requires-in-loop-c-2 : goal.set_field-requires-in-loop-c-2
@@ -49,7 +52,8 @@ set_field-requires-in-loop-c-2 c =
     let counting : Counting c.requires.division c.loop-c.rows c.loop-c.c = c.loop-c.invariant _ c.requires.known in
     let inside : c.loop-c.c < regions c.requires.division = omega (arith, c.loop-c-test.true, c.requires.known.all) in
     -- it and its parent have rows, and the parent's count can rise
-    let bounds : CountBounds c.loop-c.rows c.loop-c.c (at c.args.parents.now c.loop-c.c) c.children_of-lower.result = count_bounds c.requires.known counting inside c.children_of-lower.ensures in
+    let bounds : CountBounds c.loop-c.rows c.loop-c.c (at c.args.parents.now c.loop-c.c) c.children_of-lower.result =
+    count_bounds c.requires.known counting inside c.children_of-lower.ensures in
     (omega arith, omega (arith, bounds.row_parent, c.set_field-in-loop-c.auto, c.set_field.auto))
 
 pub loop-c-preserved : goal.loop-c-preserved

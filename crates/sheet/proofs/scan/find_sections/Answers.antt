@@ -11,14 +11,16 @@ past_kind-arcs-requires c = omega (arith, kind_le 3 c.args.s.now 2)
 pub past_arcs-regions-requires : goal.past_arcs-regions-requires
 past_arcs-regions-requires c =
     -- the arcs begin where the holds end
-    let arcs-begin : c.past_kind-arcs.result.place ≡ arcs_at c.args.s.now = let holds = c.past_kind-holds.ensures in omega (arith, holds, c.past_kind-arcs.ensures, ap (kind_from 13 c.args.s.now) holds) in
+    let arcs-begin : c.past_kind-arcs.result.place ≡ arcs_at c.args.s.now =
+    let holds = c.past_kind-holds.ensures in omega (arith, holds, c.past_kind-arcs.ensures, ap (kind_from 13 c.args.s.now) holds) in
     omega (arith, arcs-begin, kind_le 3 c.args.s.now 2, kind_le 13 c.args.s.now (holds_at c.args.s.now))
 
 -- all sections are where the calls have said
 pub returns : goal.returns
 returns c =
     -- the arcs begin where the holds end
-    let arcs-begin : c.past_kind-arcs.result.place ≡ arcs_at c.args.s.now = let holds = c.past_kind-holds.ensures in omega (arith, holds, c.past_kind-arcs.ensures, ap (kind_from 13 c.args.s.now) holds) in
+    let arcs-begin : c.past_kind-arcs.result.place ≡ arcs_at c.args.s.now =
+    let holds = c.past_kind-holds.ensures in omega (arith, holds, c.past_kind-arcs.ensures, ap (kind_from 13 c.args.s.now) holds) in
     let s = c.args.s.now in
     let count = ap (arcs_from s) arcs-begin in
     record {

@@ -41,7 +41,8 @@ loop-v-preserved c =
     let label = c.label_of.ensures in (
       omega arith,
       elim c.if-label_of-ne-NONE.branch [
-        | then-label_of-ne-NONE w ↦ w.count-is ∙ ap (λ (n : ℕ). n + 1) sofar ∙ sym (count_in_lem (reached_in table) v (reached-in table v label w.if-label_of-ne-NONE.true))
+        | then-label_of-ne-NONE w ↦ w.count-is ∙ ap (λ (n : ℕ). n + 1) sofar
+            ∙ sym (count_in_lem (reached_in table) v (reached-in table v label w.if-label_of-ne-NONE.true))
         | else-label_of-ne-NONE w ↦ w.count-is ∙ sofar ∙ sym (count_out (reached_in table) v (unreached-in table v label w.if-label_of-ne-NONE.false))
       ],
     )

@@ -26,7 +26,9 @@ loop-v-init c = (omega arith, all_none _)
 pub returns-then-not-label_within : goal.returns-then-not-label_within
 returns-then-not-label_within c =
     -- what is computed is the node's test
-    let decided : c.label_within.result ≡ label_bounded c.args.s.now c.args.table.now c.loop-v.v = c.label_within.ensures ∙ within_bounded c.args.s.now c.args.table.now c.node_count-nodes.ensures c.count_reached.ensures (omega arith) c.highest_label-highest.ensures in
+    let decided : c.label_within.result ≡ label_bounded c.args.s.now c.args.table.now c.loop-v.v =
+    c.label_within.ensures
+    ∙ within_bounded c.args.s.now c.args.table.now c.node_count-nodes.ensures c.count_reached.ensures (omega arith) c.highest_label-highest.ensures in
     sym (all_miss _ _ _ (omega arith) (sym decided ∙ c.if-not-label_within.true))
 
 pub overflow_add-v : goal.overflow_add-v
@@ -35,7 +37,9 @@ overflow_add-v c = omega (arith, few_nodes)
 pub loop-v-preserved : goal.loop-v-preserved
 loop-v-preserved c =
     -- what is computed is the node's test
-    let decided : c.label_within.result ≡ label_bounded c.args.s.now c.args.table.now c.loop-v.v = c.label_within.ensures ∙ within_bounded c.args.s.now c.args.table.now c.node_count-nodes.ensures c.count_reached.ensures (omega arith) c.highest_label-highest.ensures in
+    let decided : c.label_within.result ≡ label_bounded c.args.s.now c.args.table.now c.loop-v.v =
+    c.label_within.ensures
+    ∙ within_bounded c.args.s.now c.args.table.now c.node_count-nodes.ensures c.count_reached.ensures (omega arith) c.highest_label-highest.ensures in
     (omega arith, all_more _ _ (search rules) (sym decided ∙ c.if-not-label_within.false))
 
 pub returns : goal.returns

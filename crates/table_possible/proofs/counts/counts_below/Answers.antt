@@ -11,7 +11,8 @@ pub loop-i-init : goal.loop-i-init
 loop-i-init c = (omega arith, all_none _)
 
 pub returns-then-count_of-ge-COUNT_LIMIT : goal.returns-then-count_of-ge-COUNT_LIMIT
-returns-then-count_of-ge-COUNT_LIMIT c = sym (all_miss _ _ _ c.loop-i-test.true (sym (ap below c.count_of.ensures) ∙ le-ltb _ _ c.if-count_of-ge-COUNT_LIMIT.true))
+returns-then-count_of-ge-COUNT_LIMIT c = sym
+    (all_miss _ _ _ c.loop-i-test.true (sym (ap below c.count_of.ensures) ∙ le-ltb _ _ c.if-count_of-ge-COUNT_LIMIT.true))
 
 pub loop-i-preserved : goal.loop-i-preserved
 loop-i-preserved c = (omega arith, all_more _ _ (search rules) (sym (ap below c.count_of.ensures) ∙ lt-ltb _ _ c.if-count_of-ge-COUNT_LIMIT.false))

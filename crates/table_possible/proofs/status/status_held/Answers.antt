@@ -12,12 +12,14 @@ pub returns-then-some_key : goal.returns-then-some_key
 unfolding status_test
 returns-then-some_key c =
     -- what is found is whether anything has a key
-    let found : any (has_key (graph_of c.args.s.now) c.args.table.now) (arcs (graph_of c.args.s.now)) ≡ c.some_key.result = ap (any _) (graph_arcs c.args.s.now) ∙ sym c.some_key.ensures in
+    let found : any (has_key (graph_of c.args.s.now) c.args.table.now) (arcs (graph_of c.args.s.now)) ≡ c.some_key.result =
+    ap (any _) (graph_arcs c.args.s.now) ∙ sym c.some_key.ensures in
     rw (found ∙ c.if-some_key.true, ← c.status_of-status.ensures)
 
 pub returns : goal.returns
 unfolding status_test
 returns c =
     -- what is found is whether anything has a key
-    let found : any (has_key (graph_of c.args.s.now) c.args.table.now) (arcs (graph_of c.args.s.now)) ≡ c.some_key.result = ap (any _) (graph_arcs c.args.s.now) ∙ sym c.some_key.ensures in
+    let found : any (has_key (graph_of c.args.s.now) c.args.table.now) (arcs (graph_of c.args.s.now)) ≡ c.some_key.result =
+    ap (any _) (graph_arcs c.args.s.now) ∙ sym c.some_key.ensures in
     rw (found ∙ c.if-some_key.false, ← c.status_of-status.ensures)

@@ -37,5 +37,6 @@ unfolding top
 returns c =
     -- the answer that is asked for
     let fits : Bool = node_fits c.args.s.now c.args.table.now c.args.exact c.args.v.0 in
-    let an-arc : let a = c.predecessor_of-a.result in a < arc_count c.args.s.now → feeds c.args.s.now c.args.table.now c.args.exact a c.args.v.0 ≡ fits = λ some. search (rules, fits_arc) in
+    let an-arc : let a = c.predecessor_of-a.result in a < arc_count c.args.s.now → feeds c.args.s.now c.args.table.now c.args.exact a c.args.v.0 ≡ fits =
+    λ some. search (rules, fits_arc) in
     c.feeds.ensures ∙ an-arc (omega arith)
