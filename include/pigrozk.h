@@ -34,7 +34,7 @@ extern "C" {
 #endif
 
 /* A stack of so many bytes has room for each call. No theorem speaks of a stack: tests/c/stack.c measures it, on a sheet of height 15, as 184,839 bytes for
- * a run, 184,983 for a resume, 58,567 for a canonical form, 11,719 for a route and 9,383 for a judgement, and on one of 36,924 bytes as 29,911 for a
+ * a run, 185,015 for a resume, 61,703 for a canonical form, 14,711 for a route and 12,471 for a judgement, and on one of 36,924 bytes as 33,063 for a
  * conversion. */
 #define PIGROZK_STACK_BYTES 196608
 
