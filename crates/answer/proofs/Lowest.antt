@@ -1,5 +1,4 @@
--- The lowest refusal that applies: lists of cases one after the other, a list of which none applies, a test that applies less often, one that stands twice, and
--- the number of a refusal that applies.
+-- The lowest refusal that applies: lists of cases one after the other, a list of which none applies, a test that applies less often, one that stands twice.
 use Prim.Native.Nat.{ℕ, zero, suc}
 use mathlib.Core.Bool.{Bool, false, cond}
 use mathlib.Core.List.{List, [], ◌∷◌, ◌++◌}
@@ -9,7 +8,6 @@ use native.Mathlib.Omega.{arith}
 use lib.Dec.{eqb}
 use Rattle.indices.proofs.Steps.{by_truth}
 use Rattle.answer.specs.Answer.{Refusal, input, number_of, Answer, accepted, refused, Case, ◌when◌, lowest}
-use Rattle.answer.specs.Inner.{numbered}
 
 -- the cases of the second list are looked at where none of the first applies
 pub lowest_append : (xs ys : List Case) (answer : Answer) → lowest (xs ++ ys) answer ≡ lowest xs (lowest ys answer)
@@ -41,15 +39,6 @@ pub lowest_twice : (ys : List Case) (r r' : Refusal) (test : Bool) (answer : Ans
     → lowest (xs ++ (r when test ∷ r' when test ∷ ys)) answer ≡ lowest (xs ++ (r when test ∷ ys)) answer
 lowest_twice ys r r' test answer [] = by_truth test (λ h. rw h) (λ h. rw h)
 lowest_twice ys r r' test answer (x ∷ xs) = ap (λ (a : Answer). cond x.applies (refused x.refusal) a) (lowest_twice ys r r' test answer xs)
-
--- a number other than 0 is a refusal
-a_refusal : (n : ℕ) → (n ≡ 0 → ⊥) → numbered n ≡ refused (input n)
-a_refusal zero ne = absurd (ne refl)
-a_refusal (suc n) ne = refl
-
--- the number that a stage of the judge hands up stands, whatever is looked at after it
-pub stage_stops : (xs : List Case) (answer : Answer) (n : ℕ) → (n ≡ 0 → ⊥) → numbered n ≡ lowest xs accepted → numbered n ≡ lowest xs answer
-stage_stops xs answer n ne e = a_refusal n ne ∙ sym (lowest_stop xs answer (input n) (sym e ∙ a_refusal n ne))
 
 -- the test of refusal n in a list, or false where the list has no such number
 abbrev pub test_of : List Case → ℕ → Bool

@@ -2,3 +2,4 @@ pub mod Answer
 pub mod Said
 pub mod Codes
 pub mod Inner
+pub mod Reasons

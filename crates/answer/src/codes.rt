@@ -25,52 +25,62 @@ const ROUTE: u32 = 65536;
 // The code of nothing written; that of more is higher by the count of its bytes.
 const WRITTEN: u32 = 131072;
 
-// The number of a refusal.
-pub fn number_of(fault: Fault) -> u8
-    ensures { result ≡ number_of (refusal_of fault) }
-{
-    match fault {
-        Fault::Input(n) => n,
-        Fault::State(n) => n,
+impl Fault {
+    // The number of the refusal.
+    pub fn number(self) -> u8
+        ensures { result ≡ number_of (refusal_of self) }
+    {
+        match self {
+            Fault::Input(n) => n,
+            Fault::State(n) => n,
+        }
     }
 }
 
-pub fn judged_code(judged: Judged) -> u32
-    ensures { result ≡ code_of (judge_said judged) }
-{
-    match judged {
-        Judged::Accepted => ACCEPTED,
-        Judged::Refused(fault) => number_of(fault) as u32,
+impl Judged {
+    pub fn code(self) -> u32
+        ensures { result ≡ code_of (judge_said self) }
+    {
+        match self {
+            Judged::Accepted => ACCEPTED,
+            Judged::Refused(fault) => u32::from(fault.number()),
+        }
     }
 }
 
-pub fn ran_code(ran: Ran) -> u32
-    ensures { result ≡ code_of (run_said ran) }
-{
-    match ran {
-        Ran::Ended => ENDED,
-        Ran::Paused => PAUSED,
-        Ran::Refused(fault) => number_of(fault) as u32,
+impl Ran {
+    pub fn code(self) -> u32
+        ensures { result ≡ code_of (run_said self) }
+    {
+        match self {
+            Ran::Ended => ENDED,
+            Ran::Paused => PAUSED,
+            Ran::Refused(fault) => u32::from(fault.number()),
+        }
     }
 }
 
-pub fn routed_code(routed: Routed) -> u32
-    requires { figure_of (route_said routed) < 2 ^ 28 }
-    ensures { result ≡ code_of (route_said routed) }
-{
-    match routed {
-        Routed::Route(arcs) => ROUTE + arcs,
-        Routed::NoRoute => NO_ROUTE,
-        Routed::Refused(fault) => number_of(fault) as u32,
+impl Routed {
+    pub fn code(self) -> u32
+        requires { figure_of (route_said self) < 2 ^ 28 }
+        ensures { result ≡ code_of (route_said self) }
+    {
+        match self {
+            Routed::Route(arcs) => ROUTE + arcs,
+            Routed::NoRoute => NO_ROUTE,
+            Routed::Refused(fault) => u32::from(fault.number()),
+        }
     }
 }
 
-pub fn copied_code(copied: Copied) -> u32
-    requires { figure_of (copied_said copied) < 2 ^ 28 }
-    ensures { result ≡ code_of (copied_said copied) }
-{
-    match copied {
-        Copied::Written(bytes) => WRITTEN + bytes,
-        Copied::Refused(fault) => number_of(fault) as u32,
+impl Copied {
+    pub fn code(self) -> u32
+        requires { figure_of (copied_said self) < 2 ^ 28 }
+        ensures { result ≡ code_of (copied_said self) }
+    {
+        match self {
+            Copied::Written(bytes) => WRITTEN + bytes,
+            Copied::Refused(fault) => u32::from(fault.number()),
+        }
     }
 }

@@ -5,6 +5,7 @@ pub mod codes;
 pub mod copied;
 pub mod judged;
 pub mod ran;
+pub mod reason;
 pub mod routed;
 
 // Whether the input or the state was at fault, and the number alone.

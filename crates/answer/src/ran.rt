@@ -12,11 +12,14 @@ pub enum Ran {
     Refused(Fault),
 }
 
-pub fn of_status(over: bool) -> Ran
-    ensures { run_said result ≡ (if over then ended else paused) }
-{
-    if over {
-        return Ran::Ended;
+impl Ran {
+    // The answer of a run that is over, or is not.
+    pub fn of_status(over: bool) -> Self
+        ensures { run_said result ≡ (if over then ended else paused) }
+    {
+        if over {
+            return Ran::Ended;
+        }
+        Ran::Paused
     }
-    Ran::Paused
 }

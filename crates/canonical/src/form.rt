@@ -1,19 +1,19 @@
 // The canonical form of an accepted sheet, written into a lent buffer.
-ghost use Rattle.std.specs.Prelude.{◌≡◌, ◌++◌, length, drop};
+ghost use Rattle.std.specs.Prelude.{◌≡◌, ◌≤◌, ◌++◌, length, drop};
 ghost use Rattle.canonical_form.specs.Canonical.{canonical};
-ghost use Rattle.canonical.specs.Lent.{OutLent, FormLent};
+ghost use Rattle.canonical.specs.Lent.{FormLent};
 
-use sheet::Sections;
+use run_layout::outline::Outline;
 
 // An entry for each region, region 0 too, which has no word; and the four entries of each arc's row.
 const REGIONS: usize = sheet::MOST_REGION_WORDS + 1;
 
 const ARC_ROWS: usize = 4 * sheet::MOST_ARCS;
 
-// Writes the canonical form at the front of `out`. The other slices are room to work in, and nothing is promised of them.
+// Writes the canonical form at the front of `out`. The other slices are room to work in, and nothing is promised of them. They are no struct: two fields of one
+// that is lent can't be lent in parts at once.
 fn fill_form(
-    sheet: &[u8],
-    sections: Sections,
+    o: &Outline,
     arcs: &mut [u16],
     parents: &mut [u16],
     sizes: &mut [u16],
@@ -21,30 +21,28 @@ fn fill_form(
     numbers: &mut [u16],
     out: &mut [u8],
 )
-    requires { FormLent sheet.now sections arcs.old parents.old sizes.old nexts.old numbers.old out.old }
-    ensures { out.new ≡ canonical sheet.now ++ drop (length sheet.now) out.old }
+    requires { FormLent o.now.sheet.now arcs.old parents.old sizes.old nexts.old numbers.old out.old }
+    ensures { out.new ≡ canonical o.now.sheet.now ++ drop (length o.now.sheet.now) out.old }
 {
-    let d = sheet_reader::region_words(sheet, sections);
-    let n = d.len() / 4 + 1;
-    let m = sections.arcs;
-    let e = sections.after;
+    let n = o.sizes.regions;
+    let m = o.sizes.arcs;
+    let e = o.sheet.after();
     canonical_numbers::number_regions(
-        d,
-        m,
+        o,
         &mut arcs[..4 * m],
         &mut parents[..n],
         &mut sizes[..n],
         &mut nexts[..n],
         &mut numbers[..n],
     );
-    sheet_writer::write_words(sheet, 0, e, out, 0);
-    crate::regions::write_regions(d, &numbers[..n], e, out);
+    sheet_writer::write_words(o.sheet.bytes(), 0, e, out, 0);
+    crate::regions::write_regions(o.sheet, &numbers[..n], out);
 }
 
 // The same, with arrays to work in.
-pub fn write_form(sheet: &[u8], sections: Sections, out: &mut [u8])
-    requires { OutLent sheet.now sections out.old }
-    ensures { out.new ≡ canonical sheet.now ++ drop (length sheet.now) out.old }
+pub fn write_form(o: &Outline, out: &mut [u8])
+    requires { length o.now.sheet.now ≤ length out.old }
+    ensures { out.new ≡ canonical o.now.sheet.now ++ drop (length o.now.sheet.now) out.old }
 {
     let mut arcs = [0u16; ARC_ROWS];
     let mut parents = [0u16; REGIONS];
@@ -52,8 +50,7 @@ pub fn write_form(sheet: &[u8], sections: Sections, out: &mut [u8])
     let mut nexts = [0u16; REGIONS];
     let mut numbers = [0u16; REGIONS];
     fill_form(
-        sheet,
-        sections,
+        o,
         &mut arcs,
         &mut parents,
         &mut sizes,

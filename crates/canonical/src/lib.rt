@@ -9,9 +9,11 @@ ghost use Rattle.answer.specs.Said.{copied_said};
 ghost use Rattle.judgement.specs.Judgement.{Accepted};
 ghost use Rattle.calls.specs.Canonical.{canonical_answer, out_after};
 
-use answer::Fault;
 pub use answer::copied::Copied;
+use answer::reason::Reason;
 use judge::Judged;
+use run_layout::outline::Outline;
+use sheet::located::Sheet;
 
 // Refusal 31: the buffer is shorter than what is to be written, which is as long as the sheet.
 fn no_room(sheet: &[u8], out: &[u8]) -> bool
@@ -27,11 +29,11 @@ fn canonical_accepted(sheet: &[u8], out: &mut [u8]) -> Copied
         × (out.new ≡ out_after sheet.now out.old) }
 {
     if no_room(sheet, out) {
-        return Copied::Refused(Fault::Input(31));
+        return Copied::Refused(Reason::ShortBuffer.into());
     }
     let count = sheet.len() as u32;
-    let sections = sheet::scan::find_sections(sheet);
-    crate::form::write_form(sheet, sections, out);
+    let s = Sheet::new(sheet);
+    crate::form::write_form(&Outline::new(&s), out);
     Copied::Written(count)
 }
 

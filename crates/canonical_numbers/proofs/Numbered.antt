@@ -6,13 +6,16 @@ use native.Mathlib.Omega.{arith}
 use borrow.Author.Tests.{lt-ltb}
 use lib.ListN.{length}
 use Rattle.sheet.specs.Words.{top}
-use Rattle.sheet.specs.Sections.{region_words}
+use Rattle.sheet.specs.Sections.{arc_count, region_words}
 use Rattle.sheet.specs.Regions.{region_count}
+use Rattle.judgement.specs.Judgement.{Accepted}
 use Rattle.judgement.proofs.Accepted.{few_region_words, few_arcs}
 use Rattle.run_arrays.specs.Rows.{row_leaf}
-use Rattle.procedure.specs.Division.{Division, regions, arc_of, leaf_of}
+use Rattle.procedure.specs.Division.{Division, arc_of, leaf_of}
 use Rattle.procedure.specs.OfSheet.{division_of}
 use Rattle.procedure.proofs.OfSheet.{graph_arcs, division_regions, division_arc, division_leaf}
+use Rattle.run_layout.specs.declared.sizes.Sizes.{Sizes}
+use Rattle.run_layout.specs.InUse.{Outlined}
 use Rattle.run_layout.specs.Arcs.{LeavesEntered}
 use Rattle.run_layout.specs.Regions.{ParentsLent, ParentsEntered}
 use Rattle.run_layout.proofs.Represented.{nested, parents_of}
@@ -20,7 +23,16 @@ use Rattle.canonical_form.proofs.Numbering.{lowest_leaf}
 use Rattle.canonical_form.proofs.Proper.{division_ok, proper}
 use Rattle.canonical_form.proofs.Accepted.{leaf_later, arc_below_top, arc_number}
 use Rattle.canonical_numbers.specs.Numbers.{ParentsLaid, SizesFound, LeafOf, Starting}
-use Rattle.canonical_numbers.specs.Numberable.{Numberable}
+
+-- an accepted sheet b whose region words are d, with m arcs
+pub record Numberable (b d : List ℕ) (m : ℕ) : Type 0 where
+  pub accepted : Accepted b
+  pub words_of : d ≡ region_words b
+  pub arcs_of : m ≡ arc_count b
+
+-- which an outline gives
+pub numberable : {b d : List ℕ} {z : Sizes} → Outlined b z → d ≡ region_words b → Numberable b d z.arcs
+numberable O is = record { accepted = O.accepted; words_of = is; arcs_of = O.in_use.arcs_all }
 
 module _ {b d : List ℕ} {m : ℕ} (N : Numberable b d m) where
   abbrev D : Division
@@ -28,9 +40,6 @@ module _ {b d : List ℕ} {m : ℕ} (N : Numberable b d m) where
 
   pub parents_lent : {parents : List ℕ} → length parents ≡ region_count d → ParentsLent d parents
   parents_lent e = record { nested = nested b N.accepted N.words_of; each_region = e }
-
-  pub each_region : region_count d ≡ regions D
-  each_region = ap region_count N.words_of ∙ sym (division_regions b)
 
   pub parents_laid : {parents : List ℕ} → ParentsEntered d parents → ParentsLaid D parents
   parents_laid E =

@@ -3,24 +3,27 @@
 
 pub mod preorder;
 
-ghost use Rattle.std.specs.Prelude.{List, ℕ};
 ghost use Rattle.procedure.specs.OfSheet.{division_of};
 ghost use Rattle.canonical_numbers.specs.Numbers.{Numbers};
-ghost use Rattle.canonical_numbers.specs.Numberable.{Numberable, Roomy};
+ghost use Rattle.canonical_numbers.specs.Room.{Roomy};
 
-// The new number of each region. The other slices are room to work in, and nothing is promised of them.
+use run_layout::outline::Outline;
+
+// The new number of each region. The other slices are room to work in, and nothing is promised of them; they are no list of structs, since a pass that the
+// layout of a run has too fills the parents alone.
 pub fn number_regions(
-    d: &[u8],
-    m: usize,
+    o: &Outline,
     arcs: &mut [u16],
     parents: &mut [u16],
     sizes: &mut [u16],
     nexts: &mut [u16],
     numbers: &mut [u16],
 )
-    requires { (b : List ℕ) × Numberable b d.now m × Roomy d.now m arcs.old parents.old sizes.old nexts.old numbers.old }
-    ensures { (b : List ℕ) → Numberable b d.now m → Numbers (division_of b) numbers.new }
+    requires { Roomy o.now.sizes arcs.old parents.old sizes.old nexts.old numbers.old }
+    ensures { Numbers (division_of o.now.sheet.now) numbers.new }
 {
+    let d = sheet_reader::region_words(o.sheet);
+    let m = o.sizes.arcs;
     run_layout::arcs::enter_leaves(d, arcs);
     run_layout::regions::enter_parents(d, parents);
     crate::preorder::count_sizes(parents, sizes);

@@ -9,12 +9,10 @@ pub fn count_sizes(parents: &[u16], sizes: &mut [u16])
     requires { SizesLent parents.now sizes.old }
     ensures { (d : Division) → ParentsLaid d parents.now → SizesFound d sizes.new }
 {
-    run_arrays::rows::fill(sizes, 1);
-    let mut r = parents.len() - 1;
-    while 0 < r {
-        let p = parents[r] as usize;
-        sizes[p] = sizes[p] + sizes[r];
-        r -= 1;
+    sizes.fill(1);
+    for r in (1..parents.len()).rev() {
+        let p = usize::from(parents[r]);
+        sizes[p] += sizes[r];
     }
 }
 
@@ -24,9 +22,9 @@ fn climb(parents: &[u16], sizes: &[u16], leaf: u16, nexts: &mut [u16], rises: &m
     ensures { (d : Division) (a : ℕ) → Ready d a parents.now sizes.now leaf nexts.old rises.old
         → Rising d (suc a) (regions d) nexts.new rises.new }
 {
-    let mut r = leaf as usize;
+    let mut r = usize::from(leaf);
     while rises[r] == 0 {
-        let p = parents[r] as usize;
+        let p = usize::from(parents[r]);
         let size = sizes[r];
         let next = nexts[p];
         rises[r] = next;
@@ -41,8 +39,8 @@ fn begin_rises(nexts: &mut [u16], rises: &mut [u16])
     ensures { (nexts.new ≡ replicate (length nexts.old) 1)
         × (rises.new ≡ set (replicate (length rises.old) 0) 0 1) }
 {
-    run_arrays::rows::fill(nexts, 1);
-    run_arrays::rows::fill(rises, 0);
+    nexts.fill(1);
+    rises.fill(0);
     rises[0] = 1;
 }
 
@@ -59,11 +57,9 @@ fn climb_all(
     ensures { (d : Division) → Starting d m parents.now sizes.now arcs.now
         → Rising d 0 (regions d) nexts.old rises.old → Risen d rises.new }
 {
-    let mut a = 0;
-    while a < m {
+    for a in 0..m {
         let leaf = arcs[4 * a + run_arrays::rows::LEAF];
         climb(parents, sizes, leaf, nexts, rises);
-        a += 1;
     }
 }
 
@@ -89,13 +85,9 @@ pub fn add_rises(parents: &[u16], rises: &mut [u16])
     ensures { (d : Division) → ParentsLaid d parents.now → Risen d rises.old → Numbers d rises.new }
 {
     rises[0] = 0;
-    let n = parents.len();
-    let mut r = 1;
-    while r < n {
+    for r in 1..parents.len() {
         let above = parents[r];
-        let p = above as usize;
-        let number = rises[p];
-        rises[r] = rises[r] + number;
-        r += 1;
+        let number = rises[usize::from(above)];
+        rises[r] += number;
     }
 }

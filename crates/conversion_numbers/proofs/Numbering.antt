@@ -1,6 +1,6 @@
 -- New numbers that are entered one after the other, and what an entry tells of its index.
 use Rattle.std.specs.Prelude.{if◌then◌else◌}
-use Prim.Native.Nat.{ℕ, ◌+◌, ◌≤◌, ◌<◌}
+use Prim.Native.Nat.{ℕ, ◌+◌, ◌<◌}
 use mathlib.Core.Bool.{Bool, true, false, not}
 use mathlib.Core.Path.{◌≡◌, sym, ap, ◌∙◌}
 use mathlib.Core.List.{List}
@@ -44,10 +44,6 @@ numbering_none kept {numbers = numbers} long =
     record { long = long; number = sym (count_none kept); entries = entered_none (λ i. i) (number_of kept) numbers }
 
 module _ {kept : ℕ → Bool} {size : ℕ} {numbers : List ℕ} {i next : ℕ} (N : Numbering kept size numbers i next) where
-  -- the next number is no larger than the index
-  pub next_small : next ≤ i
-  next_small = omega (arith, N.number, count_le kept i)
-
   pub numbering_more : (k : Bool) (x : ℕ) → i < size → k ≡ kept i → x ≡ (if k then next else dropped)
       → Numbering kept size (set numbers i x) (i + 1) (next + bool_byte k)
   unfolding number_of

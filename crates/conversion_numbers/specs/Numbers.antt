@@ -1,11 +1,8 @@
 -- The new numbers of the arcs and regions that are kept, an entry for each arc and each region. Definitions.
-use Rattle.std.specs.Prelude.{ℕ, ◌≤◌, Bool, List, ◌≡◌, length, if◌then◌else◌}
+use Rattle.std.specs.Prelude.{ℕ, Bool, List, ◌≡◌, length, if◌then◌else◌}
 use Rattle.indices.specs.Tests.{count}
-use Rattle.sheet.specs.Limits.{most_arcs, arc_numbers, region_numbers}
-use Rattle.sheet.specs.declared.Sections.{Sections}
 use Rattle.sheet.specs.Sections.{hold_count, arc_count, region_words}
 use Rattle.sheet.specs.Regions.{region_count}
-use Rattle.sheet.specs.Inner.{Located}
 use Rattle.judgement.specs.Judgement.{Convertible}
 use Rattle.conversion.specs.Converted.{kept_arc, new_arc, kept_region, converted_regions, new_height}
 use Rattle.conversion.specs.Inner.{Numbers}
@@ -18,24 +15,11 @@ dropped = 65535
 unfoldable pub number_of : (ℕ → Bool) → ℕ → ℕ
 number_of kept i = if kept i then count kept i else dropped
 
--- a sheet with no more arcs than it may have, the places of its sections, and an entry for each arc
-pub record ArcsLent (b : List ℕ) (sections : Sections) (numbers : List ℕ) : Type 0 where
-  pub located : Located b sections
-  pub few : arc_count b ≤ most_arcs
-  pub room : length numbers ≡ arc_numbers
-
 -- a convertible sheet whose region words are d, and its arcs' numbers
 pub record ArcsNumbered (b d arcs : List ℕ) : Type 0 where
   pub convertible : Convertible b
   pub words_of : d ≡ region_words b
   pub arc_numbers_lem : Numbers (number_of (kept_arc b)) arcs (arc_count b)
-
--- a convertible sheet, the places of its sections, and an entry for each arc and region
-pub record Lent (b : List ℕ) (sections : Sections) (arcs regions : List ℕ) : Type 0 where
-  pub convertible : Convertible b
-  pub located : Located b sections
-  pub arc_room : length arcs ≡ arc_numbers
-  pub region_room : length regions ≡ region_numbers
 
 -- and the numbers of its regions
 pub record Numbered (b d arcs regions : List ℕ) : Type 0 where

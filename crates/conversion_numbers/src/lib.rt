@@ -4,13 +4,18 @@
 pub mod arcs;
 pub mod regions;
 
-ghost use Rattle.std.specs.Prelude.{◌≡◌, if◌then◌else◌};
+ghost use Rattle.std.specs.Prelude.{◌≡◌, ◌≤◌, ◌<◌, ℕ, Bool, length};
+ghost use Rattle.indices.specs.Tests.{count};
 ghost use Rattle.sheet.specs.Sections.{region_words};
-ghost use Rattle.conversion_numbers.specs.Numbers.{dropped, Lent, Numbered, Counted};
+ghost use Rattle.judgement.specs.Judgement.{Convertible};
+ghost use Rattle.conversion.specs.Inner.{Numbers};
+ghost use Rattle.conversion_numbers.specs.Numbers.{number_of, dropped, Numbered, Counted};
 
-use sheet::{ARC_NUMBERS, REGION_NUMBERS, Sections};
+use crate::regions::ArcNumbers;
+use sheet::located::Sheet;
+use sheet::{ARC_NUMBERS, REGION_NUMBERS};
 
-// Stands where the number of an arc or region would, if it is not kept.
+// Stands where the number of an arc or region would, if it is not kept: a number, so that the entries of the lent arrays take two bytes each.
 pub const DROPPED: u16 = 65535;
 
 // How many spans, holds, arcs and region words are kept.
@@ -22,35 +27,41 @@ pub struct Kept {
     pub words: usize,
 }
 
-// The entry of an arc or region: its number if it is kept.
-fn number_of(kept: bool, number: u16) -> u16
-    ensures { result ≡ (if kept then number else dropped) }
+// Enters the new number of each index below n that stays, and `DROPPED` for another one. How many stay.
+fn number<F: Fn(usize) -> bool>(numbers: &mut [u16], n: usize, stays: F) -> u16
+    requires room { n ≤ length numbers.old }
+    requires few { n ≤ dropped }
+    requires asked { (i : ℕ) → i < n → F.pre stays i }
+    ensures { (p : ℕ → Bool) → ((i : ℕ) (b : Bool) → i < n → F.post stays i b → b ≡ p i)
+        → Numbers (number_of p) numbers.new n × (result ≡ count p n) }
 {
-    if kept {
-        return number;
+    let mut next: u16 = 0;
+    for i in 0..n {
+        let kept = stays(i);
+        numbers[i] = if kept { next } else { DROPPED };
+        next += u16::from(kept);
     }
-    DROPPED
+    next
 }
 
 // Numbers the arcs and regions that are kept.
 pub fn number_kept(
-    s: &[u8],
-    sections: Sections,
-    d: &[u8],
+    s: &Sheet,
     arcs: &mut [u16; ARC_NUMBERS],
     regions: &mut [u16; REGION_NUMBERS],
 ) -> Kept
-    requires { Lent s.now sections arcs.old regions.old × (d.now ≡ region_words s.now) }
-    ensures { Numbered s.now d.now arcs.new regions.new × Counted s.now result }
+    requires { Convertible s.now }
+    ensures { Numbered s.now (region_words s.now) arcs.new regions.new × Counted s.now result }
 {
     let mut best = [0u16; REGION_NUMBERS];
-    let arcs_kept = crate::arcs::number_arcs(s, sections, arcs);
-    let height = crate::regions::hand_heights(d, arcs, &mut best);
-    let regions_kept = crate::regions::number_regions(d, arcs, &best, regions);
+    let arcs_kept = crate::arcs::number_arcs(s, arcs);
+    let numbered = ArcNumbers::new(s, arcs);
+    let height = numbered.hand_heights(&mut best);
+    let regions_kept = numbered.number_regions(&best, regions);
     Kept {
-        spans: height as usize,
-        holds: sections.first - 2 - sections.spans,
-        arcs: arcs_kept as usize,
-        words: regions_kept as usize - 1,
+        spans: usize::from(height),
+        holds: s.holds(),
+        arcs: usize::from(arcs_kept),
+        words: usize::from(regions_kept) - 1,
     }
 }

@@ -10,7 +10,7 @@ use Rattle.indices.specs.Columns.{selected}
 use Rattle.indices.specs.Tests.{count}
 use Rattle.indices.proofs.Selected.{selected_none, selected_more, selected_length}
 use Rattle.sheet_writer.specs.Words.{words_put}
-use Rattle.sheet_writer.proofs.Words.{put_length, put_none, put_then}
+use Rattle.sheet_writer.proofs.Words.{put_none, put_then}
 
 -- of n indices those before i are passed, and the words of each that is kept are written from a place on
 pub record Writing (kept : ℕ → Bool) (entries : ℕ → List ℕ) (n : ℕ) (before : List ℕ) (place : ℕ) (out : List ℕ) (i : ℕ) : Type 0 where
@@ -22,9 +22,6 @@ module _ {kept : ℕ → Bool} {entries : ℕ → List ℕ} {n : ℕ} {before : 
   writing_none = record { within = omega arith; sofar = sym (ap (words_put before place) (selected_none kept entries) ∙ put_none before place) }
 
   module _ {out : List ℕ} {i : ℕ} (W : Writing kept entries n before place out i) where
-    pub writing_long : length out ≡ length before
-    writing_long = ap length W.sofar ∙ put_length before place (selected kept entries i)
-
     -- w words for each index
     pub writing_more : {out' : List ℕ} (w : ℕ) → ((j : ℕ) → length (entries j) ≡ w) → i < n
         → out' ≡ words_put out (place + w * count kept i) (if kept i then entries i else []) → Writing kept entries n before place out' (i + 1)

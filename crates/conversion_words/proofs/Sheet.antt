@@ -8,29 +8,28 @@ use lib.ListN.{length, drop, length-append}
 use Rattle.indices.specs.Columns.{column}
 use Rattle.indices.proofs.Columns.{length_column, column_ext, column_append}
 use Rattle.sheet.specs.Words.{words, word}
-use Rattle.sheet.specs.declared.Sections.{Sections}
+use Rattle.sheet.specs.Sections.{span_count}
 use Rattle.sheet.proofs.Bytes.{length_bytes}
-use Rattle.sheet.proofs.Bounds.{located_inside}
+use Rattle.sheet.proofs.Bounds.{regions_inside}
 use Rattle.sheet_writer.specs.Words.{words_from, words_put}
 use Rattle.sheet_writer.proofs.Words.{put_next, put_front}
 use Rattle.judgement.specs.Judgement.{Convertible}
-use Rattle.judgement.proofs.Accepted.{few_arcs}
+use Rattle.judgement.proofs.Accepted.{front_there}
 use Rattle.conversion.specs.Converted.{converted_arcs, converted_regions, converted_spans, converted_holds, converted_words, converted}
 use Rattle.conversion.proofs.Heights.{height_lower}
 use Rattle.conversion.proofs.Sections.{arcs_long, new_bytes}
 use Rattle.conversion_numbers.specs.declared.Kept.{Kept}
-use Rattle.conversion_words.specs.Writing.{ArcsWritable, RegionsWritable, SheetWritable}
+use Rattle.conversion_words.specs.Writing.{SheetWritable}
 
-module _ {b : List ℕ} {sections : Sections} {d arcs regions : List ℕ} {kept : Kept} {out : List ℕ}
-    (W : SheetWritable b sections d arcs regions kept out) where
+module _ {b arcs regions : List ℕ} {kept : Kept} {out : List ℕ} (W : SheetWritable b arcs regions kept out) where
   abbrev ok : Convertible b
   ok = W.numbered.arcs_numbered.convertible
 
   -- BOUNDS
   pub record Bounds : Type 0 where
     -- what is read lies within the sheet
-    pub spans_in : kept.spans ≤ sections.spans
-    pub holds_in : 2 + sections.spans + kept.holds ≤ words b
+    pub spans_in : kept.spans ≤ span_count b
+    pub holds_in : 2 + span_count b + kept.holds ≤ words b
     -- and what is written has room
     pub arcs_are : length (converted_arcs b) ≡ 2 * kept.arcs
     pub words_are : length (converted_regions b) ≡ kept.words
@@ -38,31 +37,19 @@ module _ {b : List ℕ} {sections : Sections} {d arcs regions : List ℕ} {kept 
 
   pub bounds : Bounds
   bounds = record {
-    spans_in = omega (arith, W.counted.spans_kept, W.located.spans_all, height_lower b ok);
-    holds_in = omega (arith, W.counted.holds_kept, W.located.spans_all, W.located.regions_from, located_inside W.located);
+    spans_in = omega (arith, W.counted.spans_kept, height_lower b ok);
+    holds_in = omega (arith, W.counted.holds_kept, regions_inside b (front_there b ok));
     arcs_are = omega (arith, W.counted.arcs_kept, arcs_long b);
     words_are = sym W.counted.words_kept;
     room = omega (arith, W.room, new_bytes b ok, W.counted.spans_kept, W.counted.holds_kept, W.counted.arcs_kept, W.counted.words_kept);
   }
-
-  module _ {now : List ℕ} (same : length now ≡ length out) where
-    pub arcs_writable : {place : ℕ} → place ≡ 2 + kept.spans + kept.holds → ArcsWritable b sections arcs now place
-    arcs_writable is = let f = bounds in record {
-      located = W.located;
-      few = few_arcs b ok;
-      numbers = W.numbered.arcs_numbered.arc_numbers_lem;
-      room = omega arith;
-    }
-
-    pub regions_writable : {place : ℕ} → place ≡ 2 + kept.spans + kept.holds + 2 * kept.arcs → RegionsWritable b d arcs regions now place
-    regions_writable is = let f = bounds in record { numbered = W.numbered; room = omega arith }
 
   -- THE PARTS
   abbrev front : List ℕ
   front = words_from b 0 (2 + kept.spans)
 
   abbrev holds : List ℕ
-  holds = words_from b (2 + sections.spans) kept.holds
+  holds = words_from b (2 + span_count b) kept.holds
 
   front_is : front ≡ word b 0 ∷ word b 1 ∷ converted_spans b
   unfolding converted_spans column
@@ -73,7 +60,7 @@ module _ {b : List ℕ} {sections : Sections} {d arcs regions : List ℕ} {kept 
 
   holds_is : holds ≡ converted_holds b
   unfolding converted_holds
-  holds_is = rw (W.located.spans_all, W.counted.holds_kept)
+  holds_is = rw W.counted.holds_kept
 
   whole : front ++ holds ++ converted_arcs b ++ converted_regions b ≡ converted_words b
   unfolding converted_words
@@ -90,7 +77,7 @@ module _ {b : List ℕ} {sections : Sections} {d arcs regions : List ℕ} {kept 
       let f = bounds in
       let one : i ≡ length front = omega (arith, length_column (2 + kept.spans) (λ k. word b (0 + k))) in
       let two : j ≡ length (front ++ holds) =
-      omega (arith, length-append front holds, length_column kept.holds (λ k. word b (2 + sections.spans + k))) in
+      omega (arith, length-append front holds, length_column kept.holds (λ k. word b (2 + span_count b + k))) in
       let three : k ≡ length (front ++ holds ++ converted_arcs b) = omega (arith, length-append (front ++ holds) (converted_arcs b)) in
       put_next out (front ++ holds ++ converted_arcs b) (converted_regions b) three
       (put_next out (front ++ holds) (converted_arcs b) two (put_next out front holds one first second) third) fourth

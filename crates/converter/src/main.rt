@@ -21,7 +21,7 @@ fn write_converted(sheet: &[u8], out: &mut [u8]) -> usize
 {
     let copied = convert::convert(sheet, out);
     match copied {
-        Copied::Refused(fault) => listing::write_refused(answer::codes::number_of(fault), out),
+        Copied::Refused(fault) => listing::write_refused(fault.number(), out),
         Copied::Written(bytes) => bytes as usize,
     }
 }

@@ -10,3 +10,5 @@ pub mod Columns
 pub mod Entries
 pub mod Selected
 pub mod Stores
+pub mod Scans
+pub mod Counted

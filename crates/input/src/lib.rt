@@ -15,6 +15,7 @@ pub fn read_full<R: Read>(stream: &mut R, buffer: &mut [u8]) -> io::Result<usize
     ensures bytes { IfOk result (λ n. Consumes (R.remaining stream.old) (R.remaining stream.new) (take n buffer.new)) }
     ensures whole { IfOk result (λ n. n < length buffer.new → IsAtEnd (R.remaining stream.new)) }
 {
+    // The count stays: it is the answer, and each read says how far it goes on.
     let mut done = 0;
     while done < buffer.len() {
         let n = stream.read(&mut buffer[done..])?;

@@ -1,4 +1,4 @@
--- What a stage of the judge may take from the stages before it, and how their numbers make one answer.
+-- What a stage of the judge may take from the stages before it, and how their refusals make one answer.
 use Prim.Native.Nat.{ℕ, ◌≤◌}
 use mathlib.Core.Bool.{Bool, false}
 use mathlib.Core.List.{List, ◌++◌}
@@ -6,9 +6,8 @@ use mathlib.Core.Path.{◌≡◌, sym, ap, ◌∙◌}
 use Rattle.sheet.specs.Limits.{most_nodes, most_arcs, most_arcs_each_way, most_region_words}
 use Rattle.sheet.specs.Words.{words}
 use Rattle.sheet.specs.Sections.{node_count, span_count, arc_count, region_words}
-use Rattle.answer.specs.Answer.{accepted, Case, lowest}
-use Rattle.answer.specs.Inner.{numbered}
-use Rattle.answer.proofs.Lowest.{lowest_append, lowest_clear, stage_stops, clear_of}
+use Rattle.answer.specs.Answer.{Refusal, accepted, refused, Case, lowest}
+use Rattle.answer.proofs.Lowest.{lowest_append, lowest_stop, lowest_clear, clear_of}
 use Rattle.judgement.specs.Form.{wrong_size, out_of_order, bit_set}
 use Rattle.judgement.specs.Judgement.{form_refusals, count_refusals, arc_refusals, division_refusals, refusals_by, judgement_by}
 use Rattle.judgement.proofs.Clear.{few_nodes, few_arcs, few_region_words}
@@ -52,12 +51,12 @@ module _ (retired : Bool) (b : List ℕ) where
     later : judgement_by retired b ≡ lowest (count_refusals b) (lowest (of_arcs retired b) (lowest (of_division b) accepted))
     later = staged ∙ lowest_clear (form_refusals b) _ form
 
-    pub count_stops : {n : ℕ} → (n ≡ 0 → ⊥) → numbered n ≡ lowest (count_refusals b) accepted → numbered n ≡ judgement_by retired b
-    count_stops {n} ne e = stage_stops (count_refusals b) _ n ne e ∙ sym later
+    pub count_stops : {r : Refusal} → refused r ≡ lowest (count_refusals b) accepted → refused r ≡ judgement_by retired b
+    count_stops {r} e = sym (lowest_stop (count_refusals b) _ r (sym e)) ∙ sym later
 
     module _ (count : lowest (count_refusals b) accepted ≡ accepted) where
-      pub arc_stops : {n : ℕ} → (n ≡ 0 → ⊥) → numbered n ≡ lowest (of_arcs retired b) accepted → numbered n ≡ judgement_by retired b
-      arc_stops {n} ne e = stage_stops (of_arcs retired b) _ n ne e ∙ sym (later ∙ lowest_clear (count_refusals b) _ count)
+      pub arc_stops : {r : Refusal} → refused r ≡ lowest (of_arcs retired b) accepted → refused r ≡ judgement_by retired b
+      arc_stops {r} e = sym (lowest_stop (of_arcs retired b) _ r (sym e)) ∙ sym (later ∙ lowest_clear (count_refusals b) _ count)
 
       pub division_decides : lowest (of_arcs retired b) accepted ≡ accepted → {d : List ℕ} {arcs spans : ℕ} → d ≡ region_words b → arcs ≡ arc_count b
           → spans ≡ span_count b → lowest (division_refusals d arcs spans) accepted ≡ judgement_by retired b

@@ -4,108 +4,91 @@
 pub mod degrees;
 pub mod self_arcs;
 
-ghost use Rattle.std.specs.Prelude.{◌≡◌, leb, ◌≤◌, ◌<◌};
+ghost use Rattle.std.specs.Prelude.{◌≡◌, ◌≤◌, ◌<◌};
 ghost use Rattle.indices.specs.Tests.{any};
 ghost use Rattle.sheet.specs.Limits.{most_nodes, most_arcs, most_arcs_each_way};
 ghost use Rattle.sheet.specs.Sections.{node_count, arc_count};
-ghost use Rattle.sheet.specs.Inner.{Located};
-ghost use Rattle.sheet.specs.Arcs.{end_of};
 ghost use Rattle.answer.specs.Answer.{accepted, lowest};
-ghost use Rattle.answer.specs.Inner.{numbered};
+ghost use Rattle.answer.specs.Reasons.{checked};
 ghost use Rattle.judgement.specs.Form.{arc_bits};
-ghost use Rattle.judgement.specs.Arcs.{end_outside};
+ghost use Rattle.judgement.specs.Arcs.{end_outside, ends_outside, lengths_outside, holds_outside};
 ghost use Rattle.judgement.specs.Judgement.{arc_refusals};
 ghost use Rattle.judge_arcs.specs.Fields.{field_refusals};
 
-use sheet::{Arc, Sections};
+use answer::reason::Reason;
+use sheet::Arc;
+use sheet::located::Sheet;
 
 // Refusal 3, of the arcs: a bit set that must be zero.
-pub fn bit_set(s: &[u8], sections: Sections) -> bool
-    requires { Located s.now sections × (arc_count s.now < 65536) }
+pub fn bit_set(s: &Sheet) -> bool
+    requires { arc_count s.now < 65536 }
     ensures { result ≡ any (arc_bits s.now) (arc_count s.now) }
 {
-    let arcs = sections.arcs as u16;
-    let mut a: u16 = 0;
-    while a < arcs {
-        if sheet::fields::ends_payload(s, sections, Arc(a)) >= 1048576 {
-            return true;
-        }
-        a += 1;
-    }
-    false
-}
-
-// Whether one end of an arc is no node.
-fn one_end_outside(s: &[u8], sections: Sections, a: Arc, head: bool) -> bool
-    requires { Located s.now sections × (a.0 < arc_count s.now) }
-    ensures { result ≡ leb (node_count s.now) (end_of head s.now a.0) }
-{
-    let v = sheet::fields::end_at(s, sections, a, head);
-    sheet::node_count(s) <= v.0 as u32
+    (0..s.arcs() as u16).any(|a| s.ends_payload(Arc(a)) >= 1048576)
 }
 
 // Whether an end of an arc is no node.
-fn arc_outside(s: &[u8], sections: Sections, a: Arc) -> bool
-    requires { Located s.now sections × (a.0 < arc_count s.now) }
+fn arc_outside(s: &Sheet, a: Arc) -> bool
+    requires { a.0 < arc_count s.now }
     ensures { result ≡ end_outside s.now a.0 }
 {
-    if one_end_outside(s, sections, a, false) {
-        return true;
-    }
-    one_end_outside(s, sections, a, true)
+    let n = s.node_count();
+    n <= u32::from(s.tail(a).0) || n <= u32::from(s.head(a).0)
 }
 
-// Refusals 8, 9 and 34: the number, or 0. All are looked for in one pass over the arcs.
-fn field_refusal(s: &[u8], sections: Sections) -> u8
-    requires { Located s.now sections × (arc_count s.now ≤ most_arcs) }
-    ensures { numbered result ≡ lowest (field_refusals s.now) accepted }
+// Refusal 8: some arc has an end that is no node.
+fn ends_outside(s: &Sheet) -> bool
+    requires { arc_count s.now ≤ most_arcs }
+    ensures { result ≡ ends_outside s.now }
 {
-    let arcs = sections.arcs as u16;
-    let mut outside = false;
-    let mut long = false;
-    let mut held = false;
-    let mut a: u16 = 0;
-    while a < arcs {
-        if arc_outside(s, sections, Arc(a)) {
-            outside = true;
-        }
-        if sheet::fields::length_at(s, sections, Arc(a)) > sheet::MOST_LENGTH {
-            long = true;
-        }
-        if sheet::fields::taken_length_at(s, sections, Arc(a)) > sheet::MOST_LENGTH {
-            held = true;
-        }
-        a += 1;
-    }
-    if outside {
-        return 8;
-    }
-    if long {
-        return 9;
-    }
-    if held {
-        return 34;
-    }
-    0
+    (0..s.arcs() as u16).any(|a| arc_outside(s, Arc(a)))
 }
 
-// Refusals 8 to 10, 34 after 9, and 35 after 10 where self-arcs are retired: the number, or 0.
-pub fn arc_refusal(s: &[u8], sections: Sections, retired: bool) -> u8
-    requires { Located s.now sections × (arc_count s.now ≤ most_arcs) × (node_count s.now ≤ most_nodes) }
-    ensures { numbered result ≡ lowest (arc_refusals most_arcs_each_way retired s.now) accepted }
+// Refusal 9: some length is above its limit.
+fn lengths_outside(s: &Sheet) -> bool
+    requires { arc_count s.now ≤ most_arcs }
+    ensures { result ≡ lengths_outside s.now }
 {
-    let field = field_refusal(s, sections);
-    if field != 0 {
-        return field;
+    (0..s.arcs() as u16).any(|a| s.length(Arc(a)) > sheet::MOST_LENGTH)
+}
+
+// Refusal 34: some length with its tail's hold added is above that limit.
+fn holds_outside(s: &Sheet) -> bool
+    requires { arc_count s.now ≤ most_arcs }
+    ensures { result ≡ holds_outside s.now }
+{
+    (0..s.arcs() as u16).any(|a| s.taken_length(Arc(a)) > sheet::MOST_LENGTH)
+}
+
+// Refusals 8, 9 and 34.
+fn check_fields(s: &Sheet) -> Result<(), Reason>
+    requires { arc_count s.now ≤ most_arcs }
+    ensures { checked result ≡ lowest (field_refusals s.now) accepted }
+{
+    if ends_outside(s) {
+        return Err(Reason::Ends);
     }
-    if crate::degrees::too_many_at_node(s, sections) {
-        return 10;
+    if lengths_outside(s) {
+        return Err(Reason::Length);
     }
-    if !retired {
-        return 0;
+    if holds_outside(s) {
+        return Err(Reason::HeldLength);
     }
-    if crate::self_arcs::self_arcs(s, sections) {
-        return 35;
+    Ok(())
+}
+
+// Refusals 8 to 10, 34 after 9, and 35 after 10 where self-arcs are retired.
+#[tactic(auto, unfolding(judgement::specs::Judgement::arc_refusals))]
+pub fn check_arcs(s: &Sheet, retired: bool) -> Result<(), Reason>
+    requires { (arc_count s.now ≤ most_arcs) × (node_count s.now ≤ most_nodes) }
+    ensures { checked result ≡ lowest (arc_refusals most_arcs_each_way retired s.now) accepted }
+{
+    check_fields(s)?;
+    if crate::degrees::too_many_at_node(s) {
+        return Err(Reason::Degree);
     }
-    0
+    if retired && crate::self_arcs::self_arcs(s) {
+        return Err(Reason::SelfArc);
+    }
+    Ok(())
 }

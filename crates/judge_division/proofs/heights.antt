@@ -1,3 +1,2 @@
-mod Turn
 mod Held
 mod Childless

@@ -1,3 +1,2 @@
-pub mod Parents
 pub mod Heights
 pub mod Nesting

@@ -1,61 +1,51 @@
 // The heights of the regions, for the judge and for a run: one pass from the last region back, in which each region hands its height and one more to its
 // parent, which keeps the largest.
-ghost use Rattle.std.specs.Prelude.{◌≡◌, true, false, max, ◌≤◌, ◌<◌, get_or, replicate};
+ghost use Rattle.std.specs.Prelude.{◌≡◌, [], ◌∷◌, max, ◌≤◌, ◌<◌, get_or, replicate, OnOk, OnErr};
 ghost use Rattle.sheet.specs.Limits.{region_numbers};
 ghost use Rattle.sheet.specs.Words.{words};
+ghost use Rattle.answer.specs.Answer.{input, ◌when◌, accepted, lowest};
+ghost use Rattle.answer.specs.Reasons.{checked};
 ghost use Rattle.judgement.specs.Division.{childless_regions};
 ghost use Rattle.judge_division.specs.Heights.{Passable, raised, handed_up, holds_none, HeightsFound};
 
+use crate::parents::Nested;
+use answer::reason::Reason;
 use sheet::{REGION_NUMBERS, Region};
-
-// The larger of two numbers.
-pub fn larger(a: u16, b: u16) -> u16
-    ensures { result ≡ max a b }
-{
-    if a < b {
-        return b;
-    }
-    a
-}
 
 // Region r holds the largest of what is handed to it.
 pub fn hand_to(heights: &mut [u16; REGION_NUMBERS], r: Region, x: u16)
     requires { r.0 < region_numbers }
     ensures { heights.new ≡ raised heights.old r.0 x }
 {
-    let i = r.0 as usize;
-    heights[i] = larger(heights[i], x);
+    let i = usize::from(r.0);
+    heights[i] = heights[i].max(x);
 }
 
-// The turn of region r: whether it is inner and holds 0. If not, it hands what it holds and one more to its parent; if so, nothing is handed up.
-fn without_child(d: &[u8], heights: &mut [u16; REGION_NUMBERS], r: Region) -> bool
-    requires { Passable d.now × (0 < r.0) × (r.0 ≤ words d.now) × (get_or heights.old r.0 0 < 65535) }
-    ensures { (result ≡ holds_none d.now heights.old r.0)
-        × (result ≡ false → heights.new ≡ handed_up d.now heights.old r.0)
-        × (result ≡ true → heights.new ≡ heights.old) }
+// The turn of region r: refusal 13 if it is inner and holds 0. If not, it hands what it holds and one more to its parent.
+fn hand_up(n: &Nested, heights: &mut [u16; REGION_NUMBERS], r: Region) -> Result<(), Reason>
+    requires { (0 < r.0) × (r.0 ≤ words n.now.bytes.now) × (get_or heights.old r.0 0 < 65535) }
+    ensures answer { checked result ≡ lowest (input 13 when holds_none n.now.bytes.now heights.old r.0 ∷ []) accepted }
+    ensures handed { OnOk result (heights.new ≡ handed_up n.now.bytes.now heights.old r.0) }
+    ensures kept { OnErr result (heights.new ≡ heights.old) }
 {
-    let i = r.0 as usize;
-    let own = heights[i];
-    let least = !sheet::fields::is_leaf(d, r) as u16;
+    let own = heights[usize::from(r.0)];
+    let least = u16::from(!sheet::fields::is_leaf(n.bytes, r));
     if own < least {
-        return true;
+        return Err(Reason::Childless);
     }
-    hand_to(heights, crate::parents::parent_of(d, r), own + 1);
-    false
+    hand_to(heights, n.parent(r), own + 1);
+    Ok(())
 }
 
-// Finds each region's height, where refusal 11 does not apply. Whether refusal 13 does: a region whose turn comes with 0 is a leaf or has no child.
-pub fn find_heights(d: &[u8], heights: &mut [u16; REGION_NUMBERS]) -> bool
-    requires { Passable d.now × (heights.old ≡ replicate region_numbers 0) }
-    ensures { (result ≡ childless_regions d.now) × (result ≡ false → HeightsFound d.now heights.new) }
+// Finds each region's height, or refusal 13: a region whose turn comes with 0 is a leaf or has no child.
+pub fn find_heights(n: &Nested, heights: &mut [u16; REGION_NUMBERS]) -> Result<(), Reason>
+    requires { heights.old ≡ replicate region_numbers 0 }
+    ensures answer { checked result ≡ lowest (input 13 when childless_regions n.now.bytes.now ∷ []) accepted }
+    ensures found { OnOk result (HeightsFound n.now.bytes.now heights.new) }
 {
-    let mut r = (d.len() / 4) as u16;
-    while 0 < r {
-        if without_child(d, heights, Region(r)) {
-            return true;
-        }
-        r -= 1;
+    for r in (1..=(n.bytes.len() / 4) as u16).rev() {
+        hand_up(n, heights, Region(r))?;
     }
-    heights[0] = larger(1, heights[0]);
-    false
+    heights[0] = heights[0].max(1);
+    Ok(())
 }

@@ -10,44 +10,38 @@ ghost use Rattle.std.specs.Prelude.{◌≡◌, ◌≤◌};
 ghost use Rattle.sheet.specs.Limits.{most_arcs, most_region_words};
 ghost use Rattle.sheet.specs.Words.{words};
 ghost use Rattle.answer.specs.Answer.{accepted, lowest};
-ghost use Rattle.answer.specs.Inner.{numbered};
+ghost use Rattle.answer.specs.Reasons.{checked};
 ghost use Rattle.judgement.specs.Judgement.{division_refusals};
-ghost use Rattle.judge_division.specs.Heights.{Passable};
 ghost use Rattle.judge_division.specs.Nesting.{nesting_refusals};
 
+use crate::parents::Nested;
+use answer::reason::Reason;
 use sheet::REGION_NUMBERS;
 
-fn wide(x: u16) -> usize
-    ensures { result ≡ x }
-{
-    x as usize
-}
-
-// Refusals 13 and 14, where refusal 11 does not apply: the number, or 0.
-fn nesting_refusal(d: &[u8], spans: usize) -> u8
-    requires { Passable d.now }
-    ensures { numbered result ≡ lowest (nesting_refusals d.now spans) accepted }
+// Refusals 13 and 14.
+#[tactic(auto, unfolding(judgement::specs::Division::spans_differ))]
+fn check_nesting(n: &Nested, spans: usize) -> Result<(), Reason>
+    ensures { checked result ≡ lowest (nesting_refusals n.now.bytes.now spans) accepted }
 {
     let mut heights = [0u16; REGION_NUMBERS];
-    if crate::heights::find_heights(d, &mut heights) {
-        return 13;
+    crate::heights::find_heights(n, &mut heights)?;
+    if spans != usize::from(heights[0]) {
+        return Err(Reason::Height);
     }
-    if spans != wide(heights[0]) {
-        return 14;
-    }
-    0
+    Ok(())
 }
 
-// Refusals 11 to 14 of the region words of a sheet with so many arcs and spans: the number, or 0.
-pub fn division_refusal(d: &[u8], arcs: u16, spans: usize) -> u8
+// Refusals 11 to 14 of the region words of a sheet with so many arcs and spans.
+#[tactic(auto, unfolding(judgement::specs::Judgement::division_refusals))]
+pub fn check_division(d: &[u8], arcs: u16, spans: usize) -> Result<(), Reason>
     requires { (words d.now ≤ most_region_words) × (arcs ≤ most_arcs) }
-    ensures { numbered result ≡ lowest (division_refusals d.now arcs spans) accepted }
+    ensures { checked result ≡ lowest (division_refusals d.now arcs spans) accepted }
 {
     if crate::parents::wrong_parents(d) {
-        return 11;
+        return Err(Reason::Parent);
     }
     if crate::leaves::wrong_leaves(d, arcs) {
-        return 12;
+        return Err(Reason::Leaves);
     }
-    nesting_refusal(d, spans)
+    check_nesting(&Nested { bytes: d }, spans)
 }

@@ -4,15 +4,17 @@ use Rattle.std.proofs.lemmas.List.Edits.{sets}
 use Rattle.calls.specs.Tables.{table_length}
 use Rattle.sheet.specs.Limits.{most_nodes, most_spans}
 use Rattle.listing.specs.Listing.{most_listing}
+use Rattle.listing.specs.declared.text.Text.{Text}
 
--- a text has room in a buffer from a place on
-pub record Room (buffer : List ℕ) (from : ℕ) (text : List ℕ) : Type 0 where
-  pub fits : from + length text ≤ length buffer
+-- bytes have room in the buffer behind the text so far
+pub record Room (text : Text) (bytes : List ℕ) : Type 0 where
+  pub fits : text.place + length bytes ≤ length text.out.now
 
--- `after` is `before` with the text stored from a place on, and `next` is the place after the text
-pub record Wrote (before : List ℕ) (from : ℕ) (text after : List ℕ) (next : ℕ) : Type 0 where
-  pub bytes : after ≡ sets before from text
-  pub place : next ≡ from + length text
+-- the bytes are stored in the same buffer behind the text before
+pub record Wrote (before : Text) (bytes : List ℕ) (after : Text) : Type 0 where
+  pub same : after.out.ghost_name ≡ before.out.ghost_name
+  pub stored : after.out.now ≡ sets before.out.now before.place bytes
+  pub place : after.place ≡ before.place + length bytes
 
 -- a table of a sheet of so many spans and nodes, and room for its listing
 pub record ListingLent (table : List ℕ) (spans nodes : ℕ) (out : List ℕ) : Type 0 where

@@ -1,43 +1,55 @@
-// Texts and numbers, written into a lent buffer: each function writes from a place on, and returns the place after what it wrote.
-ghost use Rattle.std.specs.Prelude.{[], ◌∷◌, ◌<◌, length};
-ghost use Rattle.listing.specs.Text.{digit, decimal};
+// Text that is written into a lent buffer: what is put stands behind what was put before.
+ghost use Rattle.std.specs.Prelude.{◌≡◌, [], ◌∷◌, ◌<◌, length};
+ghost use Rattle.listing.specs.Text.{decimal};
 ghost use Rattle.listing.specs.Inner.{Room, Wrote};
 
-pub fn put_byte(byte: u8, out: &mut [u8], from: usize) -> usize
-    requires { from < length out.old }
-    ensures { Wrote out.old from (byte ∷ []) out.new result }
-{
-    out[from] = byte;
-    from + 1
+#[derive(Drop)]
+pub struct Text<'a> {
+    out: &'a mut [u8],
+    place: usize,
 }
 
-pub fn put_text(text: &[u8], out: &mut [u8], from: usize) -> usize
-    requires { Room out.old from text.now }
-    ensures { Wrote out.old from text.now out.new result }
-{
-    let mut i = 0;
-    while i < text.len() {
-        out[from + i] = text[i];
-        i += 1;
+impl<'a> Text<'a> {
+    // Nothing so far, at the front of the buffer.
+    pub fn new(out: &'a mut [u8]) -> Text<'a>
+        ensures same { result.out.ghost_name ≡ out.entry.ghost_name }
+        ensures begun { (result.out.now ≡ out.old) × (result.place ≡ 0) }
+    {
+        Text { out, place: 0 }
     }
-    from + i
-}
 
-fn put_digit(d: u64, out: &mut [u8], from: usize) -> usize
-    requires { (d < 10) × (from < length out.old) }
-    ensures { Wrote out.old from (digit d ∷ []) out.new result }
-{
-    put_byte(b'0' + d as u8, out, from)
-}
-
-// A number in base ten.
-pub fn put_number(n: u64, out: &mut [u8], from: usize) -> usize
-    requires { Room out.old from (decimal n) }
-    ensures { Wrote out.old from (decimal n) out.new result }
-{
-    if n < 10 {
-        return put_digit(n, out, from);
+    // How many bytes were put.
+    pub fn bytes(&self) -> usize
+        ensures { result ≡ self.now.place }
+    {
+        self.place
     }
-    let next = put_number(n / 10, out, from);
-    put_digit(n % 10, out, next)
+
+    pub fn put_byte(&mut self, byte: u8)
+        requires { Room self.old (byte ∷ []) }
+        ensures { Wrote self.old (byte ∷ []) self.new }
+    {
+        self.put_text(&[byte]);
+    }
+
+    pub fn put_text(&mut self, text: &[u8])
+        requires { Room self.old text.now }
+        ensures { Wrote self.old text.now self.new }
+    {
+        let end = self.place + text.len();
+        self.out[self.place..end].copy_from_slice(text);
+        self.place = end;
+    }
+
+    // A number in base ten. It is put digit by digit, since `write!` promises its text only if it succeeds, and not that it does where there is room.
+    pub fn put_number(&mut self, n: u64)
+        requires { Room self.old (decimal n) }
+        ensures { Wrote self.old (decimal n) self.new }
+    {
+        if n < 10 {
+            return self.put_byte(b'0' + n as u8);
+        }
+        self.put_number(n / 10);
+        self.put_byte(b'0' + (n % 10) as u8);
+    }
 }

@@ -19,7 +19,7 @@ ghost use Rattle.answer.specs.Codes.{code_of};
 pub extern "C" fn pigrozk_judge(sheet: &[u8]) -> u32
     ensures { result ≡ code_of (judgement sheet.now) }
 {
-    answer::codes::judged_code(judge::judge(sheet))
+    judge::judge(sheet).code()
 }
 
 // Runs a sheet to its end: the answer's code, and every word of the table afterwards. Where the sheet is accepted and the table has the usual length, or the
@@ -33,7 +33,7 @@ pub extern "C" fn pigrozk_run(sheet: &[u8], table: &mut [u32]) -> u32
         × (Accepted sheet.now → length table.old ≡ long_length (node_count sheet.now) (arc_count sheet.now)
         → DeliveredLong sheet.now enough_rounds table.new × (result ≡ code_of ended) × (status_in table.new ≡ 1)) }
 {
-    answer::codes::ran_code(run::run(sheet, table))
+    run::run(sheet, table).code()
 }
 
 // Runs a sheet for at most so many rounds: the answer's code, and every word of the table afterwards. Where the sheet is accepted and the table has
@@ -48,7 +48,7 @@ pub extern "C" fn pigrozk_run_limited(sheet: &[u8], rounds: u32, table: &mut [u3
         × (Accepted sheet.now → length table.old ≡ long_length (node_count sheet.now) (arc_count sheet.now)
         → DeliveredLong sheet.now rounds table.new × (result ≡ code_of (status_says (status_in table.new)))) }
 {
-    answer::codes::ran_code(run::run_limited(sheet, rounds, table))
+    run::run_limited(sheet, rounds, table).code()
 }
 
 // Reads the route to a node: the answer's code, every word of the buffer afterwards, and what the answer says of the table.
@@ -58,7 +58,7 @@ pub extern "C" fn pigrozk_route(sheet: &[u8], table: &[u32], node: u32, buffer: 
         × (buffer.new ≡ buffer_after sheet.now table.now node buffer.old)
         × TableKnown sheet.now table.now (route_answer sheet.now table.now node buffer.old) }
 {
-    answer::codes::routed_code(route::route(sheet, table, node, buffer))
+    route::route(sheet, table, node, buffer).code()
 }
 
 // Writes the canonical form of a sheet at the front of `out`: the answer's code, and every byte of `out` afterwards.
@@ -67,7 +67,7 @@ pub extern "C" fn pigrozk_canonical(sheet: &[u8], out: &mut [u8]) -> u32
     ensures { (result ≡ code_of (canonical_answer sheet.now out.old))
         × (out.new ≡ out_after sheet.now out.old) }
 {
-    answer::codes::copied_code(canonical::canonical(sheet, out))
+    canonical::canonical(sheet, out).code()
 }
 
 // Writes the converted sheet at the front of `out`: the answer's code, and every byte of `out` afterwards.
@@ -76,7 +76,7 @@ pub extern "C" fn pigrozk_convert(sheet: &[u8], out: &mut [u8]) -> u32
     ensures { (result ≡ code_of (convert_answer sheet.now out.old))
         × (out.new ≡ convert_out sheet.now out.old) }
 {
-    answer::codes::copied_code(convert::convert(sheet, out))
+    convert::convert(sheet, out).code()
 }
 
 // Resumes a run from a longer table: the answer's code, every word of the table afterwards, and what the answer says of the table. Where the call is not
@@ -89,5 +89,5 @@ pub extern "C" fn pigrozk_resume(sheet: &[u8], rounds: u32, table: &mut [u32]) -
         × (is_refused (resume_answer sheet.now table.old rounds) ≡ false
         → Carried sheet.now table.old rounds) }
 {
-    answer::codes::ran_code(resume::resume(sheet, rounds, table))
+    resume::resume(sheet, rounds, table).code()
 }

@@ -1,6 +1,6 @@
 -- What is printed of a sheet and left in the table, case by case: a refused sheet and an accepted one.
 use Prim.Native.Nat.{ℕ}
-use mathlib.Core.Path.{◌≡◌, sym, ap, ◌∙◌}
+use mathlib.Core.Path.{◌≡◌, sym, ◌∙◌}
 use mathlib.Core.List.{List, ◌++◌}
 use lib.ListN.{length, drop}
 use Rattle.sheet.specs.Sections.{node_count, span_count}
@@ -21,14 +21,13 @@ module _ (b : List ℕ) {table out out_after : List ℕ} {n : ℕ} where
   reported_refusal r e line = record { text = rw e line; words = rw e }
 
   -- of an accepted sheet the listing of its table, which stands at the front of the words lent for it
-  pub reported_listing : {spans nodes : ℕ} {words : List ℕ} → Accepted b → spans ≡ span_count b → nodes ≡ node_count b → words ≡ end_table b
-      → Filled out (listing_of (end_table b) spans nodes) out_after n → Reported b table out (words ++ drop (table_length nodes) table) out_after n
+  pub reported_listing : {words : List ℕ} → Accepted b → words ≡ end_table b
+      → Filled out (listing_of (end_table b) (span_count b) (node_count b)) out_after n
+      → Reported b table out (words ++ drop (table_length (node_count b)) table) out_after n
   unfolding printed words_after
-  reported_listing ok spanned same made lines = record { text = rw (ok.judged, ← spanned, ← same) lines; words = rw (ok.judged, same, made) }
+  reported_listing ok made lines = record { text = rw ok.judged lines; words = rw (ok.judged, made) }
 
 -- what a run of an accepted sheet leaves in a table of the usual length
-pub run_leaves : (b table : List ℕ) {nodes : ℕ} {after : List ℕ} → Accepted b → nodes ≡ node_count b → length table ≡ table_length nodes
+pub run_leaves : (b table : List ℕ) {after : List ℕ} → Accepted b → length table ≡ table_length (node_count b)
     → after ≡ table_after b enough_rounds table → after ≡ end_table b
-run_leaves b table ok same size e =
-    let usual = size ∙ ap table_length same in
-    e ∙ sym (made b enough_rounds table ok (usual_right b table usual)).1 ∙ filled_usual b enough_rounds table usual
+run_leaves b table ok usual e = e ∙ sym (made b enough_rounds table ok (usual_right b table usual)).1 ∙ filled_usual b enough_rounds table usual

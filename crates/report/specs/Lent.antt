@@ -1,11 +1,12 @@
 -- What is asked where an accepted sheet is run and listed. Definitions.
-use Rattle.std.specs.Prelude.{ℕ, ◌≡◌, List}
+use Rattle.std.specs.Prelude.{ℕ, ◌≡◌, ◌≤◌, List, length}
 use Rattle.sheet.specs.Sections.{node_count}
 use Rattle.judgement.specs.Judgement.{Accepted}
-use Rattle.listing.specs.Inner.{ListingLent}
+use Rattle.calls.specs.Tables.{table_length}
+use Rattle.listing.specs.Listing.{most_listing}
 
--- its node count, and what the listing asks
-pub record TableLent (b : List ℕ) (spans nodes : ℕ) (table out : List ℕ) : Type 0 where
+-- words for its table, and room for its listing
+pub record TableLent (b table out : List ℕ) : Type 0 where
   pub accepted : Accepted b
-  pub counted : nodes ≡ node_count b
-  pub lent : ListingLent table spans nodes out
+  pub sized : length table ≡ table_length (node_count b)
+  pub room : most_listing ≤ length out

@@ -8,10 +8,12 @@ ghost use Rattle.calls.specs.Tables.{table_length};
 ghost use Rattle.listing.specs.Listing.{listing_of, most_listing};
 ghost use Rattle.listing.specs.Printed.{end_table, Filled, printed, Reported};
 ghost use Rattle.sheet.specs.Limits.{most_nodes};
+ghost use Rattle.sheet.specs.Sections.{node_count, span_count};
 ghost use Rattle.report.specs.Lent.{TableLent};
 
 use judge::Judged;
 use sheet::MOST_NODES;
+use sheet::located::Sheet;
 use std::io;
 use table::words::HEADER;
 
@@ -19,34 +21,24 @@ use table::words::HEADER;
 pub const MOST_TABLE: usize = HEADER + 2 * MOST_NODES as usize;
 
 // Runs an accepted sheet to its end in a table of its size, and writes the listing.
-fn report_table(
-    sheet: &[u8],
-    spans: usize,
-    nodes: usize,
-    table: &mut [u32],
-    out: &mut [u8],
-) -> usize
-    requires { TableLent sheet.now spans nodes table.old out.old }
+#[tactic(auto, using(judgement::proofs::Accepted::few_nodes, judgement::proofs::Accepted::few_spans))]
+fn report_table(sheet: &Sheet, table: &mut [u32], out: &mut [u8]) -> usize
+    requires { TableLent sheet.now table.old out.old }
     ensures { (table.new ≡ end_table sheet.now)
-        × Filled out.old (listing_of (end_table sheet.now) spans nodes) out.new result }
+        × Filled out.old (listing_of (end_table sheet.now) (span_count sheet.now) (node_count sheet.now)) out.new result }
 {
-    run::run(sheet, table);
-    listing::write_listing(table, spans, nodes, out)
+    run::run(sheet.bytes(), table);
+    listing::write_listing(table, sheet.spans(), sheet.node_count() as usize, out)
 }
 
+#[tactic(auto, using(judgement::proofs::Accepted::front_there, judgement::proofs::Accepted::few_nodes))]
 fn report_accepted(sheet: &[u8], table: &mut [u32], out: &mut [u8]) -> usize
     requires { Accepted sheet.now × (table_length most_nodes ≤ length table.old) × (most_listing ≤ length out.old) }
     ensures { Reported sheet.now table.old out.old table.new out.new result }
 {
-    let sections = sheet::scan::find_sections(sheet);
-    let nodes = sheet::node_count(sheet) as usize;
-    report_table(
-        sheet,
-        sections.spans,
-        nodes,
-        &mut table[..table::length::table_length(nodes)],
-        out,
-    )
+    let sheet = Sheet::new(sheet);
+    let words = table::length::table_length(sheet.node_count() as usize);
+    report_table(&sheet, &mut table[..words], out)
 }
 
 // Writes what is printed of a sheet to the front of the buffer, and returns how many bytes it has. The second promise follows from the first, in the
@@ -58,7 +50,7 @@ pub fn report(sheet: &[u8], table: &mut [u32], out: &mut [u8]) -> usize
 {
     let judged = judge::judge(sheet);
     match judged {
-        Judged::Refused(fault) => listing::write_refused(answer::codes::number_of(fault), out),
+        Judged::Refused(fault) => listing::write_refused(fault.number(), out),
         Judged::Accepted => report_accepted(sheet, table, out),
     }
 }

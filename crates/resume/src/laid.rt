@@ -1,39 +1,22 @@
 // What is laid out, resumed: the table's state entered, worked for at most so many rounds more, and written over the old.
-ghost use Rattle.resume.specs.Outcome.{ResumableLaid, Outcome};
+ghost use Rattle.calls.specs.InParts.{Standing};
+ghost use Rattle.run_layout.specs.Layout.{Laid};
+ghost use Rattle.resume.specs.Outcome.{Outcome};
 
-use run_arrays::arrays::{FIXED, PLACES, STATE, WEIGHTS};
-use run_counts::array::COUNTS;
-use run_layout::sizes::Sizes;
-use sheet::NONE;
+use run_arrays::arrays::{Layout, Run};
+use run_layout::outline::Outline;
+use table::lent::LongTable;
 
 // Resumes what is laid out for at most `limit` rounds more. Whether the new state has ended.
-pub fn resume_laid(
-    s: &[u8],
-    sizes: Sizes,
-    fixed: &[u16; FIXED],
-    weights: &[u32; WEIGHTS],
-    limit: u64,
-    table: &mut [u32],
-) -> bool
-    requires { ResumableLaid s.now sizes fixed.now weights.now table.old }
-    ensures { Outcome s.now table.old limit result table.new }
+pub fn resume_laid(o: &Outline, layout: &Layout, limit: u64, table: &mut [u32]) -> bool
+    requires { Standing o.now.sheet.now table.old × Laid o.now.sheet.now layout.now }
+    ensures { Outcome o.now.sheet.now table.old limit result table.new }
 {
-    let mut state = [NONE; STATE];
-    let mut winners = [0u64; PLACES];
-    let mut counts = [0u64; COUNTS];
-    let nodes = sizes.nodes as u16;
-    crate::entered::enter_nodes(table, nodes, &mut state);
-    crate::entered::enter_counts(table, &mut counts);
-    let regions = sizes.regions as u16;
-    crate::queues::rebuild(s, fixed, weights, table, &mut state, &mut winners, regions);
-    run_table::finish(
-        fixed,
-        weights,
-        &mut state,
-        &mut winners,
-        &mut counts,
-        limit,
-        sizes.nodes,
-        table,
-    )
+    let mut run = Run::zero();
+    run.clear();
+    crate::entered::enter_nodes(table, o.sizes.nodes as u16, &mut run);
+    crate::entered::enter_counts(table, &mut run.counts);
+    let long = LongTable::new(o.sheet, table);
+    crate::queues::rebuild(&long, layout, &mut run, o.sizes.regions as u16);
+    run_table::finish(layout, &mut run, limit, o.sizes.nodes, table)
 }

@@ -6,72 +6,45 @@ ghost use Rattle.procedure.specs.OfSheet.{graph_of, division_of};
 ghost use Rattle.procedure.specs.Table.{updates_place};
 ghost use Rattle.calls.specs.Tables.{count_in};
 ghost use Rattle.calls.specs.LongTables.{state_in};
-ghost use Rattle.run_arrays.specs.States.{LeavesQueues};
-ghost use Rattle.resume.specs.Keys.{Keyless, queues_up_to, KeysUpTo, KeyNext};
+ghost use Rattle.resume.specs.Keys.{Keyless, queues_up_to, KeysUpTo, KeyNext, LeavesQueues};
 
-use run_arrays::arrays::{FIXED, PLACES, STATE, WEIGHTS};
+use run_arrays::arrays::{Layout, Run};
 use sheet::Arc;
+use table::lent::LongTable;
 
 // The key of arc a is entered, if its word says that it has one. How many updates there were.
-fn enter_key(
-    s: &[u8],
-    fixed: &[u16; FIXED],
-    table: &[u32],
-    state: &mut [u32; STATE],
-    winners: &mut [u64; PLACES],
-    a: Arc,
-    count: u64,
-) -> u64
-    requires { KeyNext s.now fixed.now table.now state.old winners.old a.0 count }
-    ensures { LeavesQueues (graph_of s.now) (division_of s.now) (queues_up_to s.now table.now (a.0 + 1))
-        fixed.now state.old state.new winners.new result }
+fn enter_key(long: &LongTable, layout: &Layout, run: &mut Run, a: Arc, count: u64) -> u64
+    requires { let table = long.now.table in KeyNext table.sheet.now layout.now table.words.now run.old a.0 count }
+    ensures { let table = long.now.table in LeavesQueues (graph_of table.sheet.now) (division_of table.sheet.now)
+        (queues_up_to table.sheet.now table.words.now (a.0 + 1)) layout.now run.old run.new result }
 {
-    if !table::read::has_key(s, table, a) {
+    if !long.has_key(a) {
         return count;
     }
-    let tail = run_arrays::arrays::tail_of(fixed, a);
-    let key = run_arrays::arrays::label_of(state, tail);
-    run_engine::updates::update_arc(fixed, state, winners, a, key, count)
+    let key = run.label(layout.tail(a));
+    run_engine::updates::update_arc(layout, &mut run.keys, a, key, count)
 }
 
 // The keys of all arcs are entered. How many updates there were.
-fn enter_keys(
-    s: &[u8],
-    fixed: &[u16; FIXED],
-    table: &[u32],
-    state: &mut [u32; STATE],
-    winners: &mut [u64; PLACES],
-) -> u64
-    requires { KeysUpTo s.now fixed.now table.now state.old winners.old 0 0 }
-    ensures { LeavesQueues (graph_of s.now) (division_of s.now)
-        (queues_up_to s.now table.now (arcs (graph_of s.now)))
-        fixed.now state.old state.new winners.new result }
+fn enter_keys(long: &LongTable, layout: &Layout, run: &mut Run) -> u64
+    requires { let table = long.now.table in KeysUpTo table.sheet.now layout.now table.words.now run.old 0 0 }
+    ensures { let table = long.now.table in LeavesQueues (graph_of table.sheet.now) (division_of table.sheet.now)
+        (queues_up_to table.sheet.now table.words.now (arcs (graph_of table.sheet.now))) layout.now run.old run.new result }
 {
-    let arcs = run_arrays::arrays::arc_count_of(fixed);
     let mut count: u64 = 0;
-    let mut a: u16 = 0;
-    while a < arcs {
-        count = enter_key(s, fixed, table, state, winners, Arc(a), count);
-        a += 1;
+    for a in 0..layout.arcs {
+        count = enter_key(long, layout, run, Arc(a), count);
     }
     count
 }
 
-// The queues that the table stands for, in an array of the state with its labels and no own key; winners may hold anything. There are `count` regions.
-pub fn rebuild(
-    s: &[u8],
-    fixed: &[u16; FIXED],
-    weights: &[u32; WEIGHTS],
-    table: &[u32],
-    state: &mut [u32; STATE],
-    winners: &mut [u64; PLACES],
-    count: u16,
-)
-    requires { Keyless s.now fixed.now weights.now table.now state.old count }
-    ensures { LeavesQueues (graph_of s.now) (division_of s.now)
-        (state_in (graph_of s.now) (division_of s.now) table.now).queues
-        fixed.now state.old state.new winners.new (count_in table.now updates_place) }
+// The queues that the table stands for, in a run with its labels and no own key; winners may hold anything. There are `count` regions.
+pub fn rebuild(long: &LongTable, layout: &Layout, run: &mut Run, count: u16)
+    requires { let table = long.now.table in Keyless table.sheet.now layout.now table.words.now run.old count }
+    ensures { let table = long.now.table in LeavesQueues (graph_of table.sheet.now) (division_of table.sheet.now)
+        (state_in (graph_of table.sheet.now) (division_of table.sheet.now) table.words.now).queues
+        layout.now run.old run.new (count_in table.words.now updates_place) }
 {
-    run_queue::building::clear(fixed, weights, winners, count);
-    let _updates = enter_keys(s, fixed, table, state, winners);
+    run_queue::building::clear(layout, &mut run.keys.winners, count);
+    let _updates = enter_keys(long, layout, run);
 }

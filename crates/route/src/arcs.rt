@@ -1,44 +1,37 @@
 // The arcs of the route to a reached node: counted, and written into a lent buffer.
-ghost use Rattle.std.specs.Prelude.{◌≡◌, ◌++◌, ◌<◌, length, drop};
-ghost use Rattle.calls.specs.Routes.{route_to};
+ghost use Rattle.std.specs.Prelude.{◌≡◌, ◌<◌, false, length};
+ghost use Rattle.calls.specs.Routes.{not_shortest, route_to};
 ghost use Rattle.sheet.specs.Limits.{most_nodes};
-ghost use Rattle.route.specs.Ready.{Ready, Reached, RouteLent};
+ghost use Rattle.route.specs.Reached.{Reached, RouteLent};
 
-use sheet::{Node, Sections};
+use sheet::Node;
+use table::lent::Table;
 
-// How many arcs the route to a reached node has.
-pub fn count_arcs(s: &[u8], sections: Sections, table: &[u32], v: Node) -> usize
-    requires { Ready s.now sections table.now × Reached s.now table.now v.0 }
-    ensures { (result ≡ length (route_to s.now table.now v.0)) × (result < most_nodes) }
+// How many arcs the route to a reached node has. The loop follows predecessors, whose number is not known before.
+#[tactic(auto, using(crate::proofs::arcs::Following::count_steps))]
+pub fn count_arcs(table: &Table, v: Node) -> usize
+    requires { (not_shortest table.now.sheet.now table.now.words.now ≡ false) × Reached table.now.sheet.now table.now.words.now v.0 }
+    ensures { (result ≡ length (route_to table.now.sheet.now table.now.words.now v.0)) × (result < most_nodes) }
 {
-    let home = sheet::source_number(s);
+    let home = table.sheet.source_number();
     let mut u = v;
-    let mut arcs: usize = 0;
+    let mut arcs = 0;
     while u.0 as u32 != home {
-        u = table::read::previous(s, sections, table, u);
+        u = table.previous(u);
         arcs += 1;
     }
     arcs
 }
 
-// Writes the route to a reached node, of so many arcs, at the front of the buffer, from its last arc to its first.
-pub fn write_arcs(
-    s: &[u8],
-    sections: Sections,
-    table: &[u32],
-    v: Node,
-    arcs: usize,
-    buffer: &mut [u32],
-)
-    requires { RouteLent s.now sections table.now v.0 arcs buffer.old }
-    ensures { buffer.new ≡ route_to s.now table.now v.0 ++ drop arcs buffer.old }
+// Writes the route to a reached node, from its last arc to its first, into as many words as it has arcs.
+#[tactic(auto, using(crate::proofs::arcs::Following::write_steps))]
+pub(crate) fn write_arcs(table: &Table, v: Node, way: &mut [u32])
+    requires { RouteLent table.now.sheet.now table.now.words.now v.0 (length way.old) }
+    ensures { way.new ≡ route_to table.now.sheet.now table.now.words.now v.0 }
 {
     let mut u = v;
-    let mut left = arcs;
-    while 0 < left {
-        let place = left - 1;
-        buffer[place] = table::read::predecessor_of(table, u);
-        u = table::read::previous(s, sections, table, u);
-        left -= 1;
+    for place in (0..way.len()).rev() {
+        way[place] = table.predecessor(u);
+        u = table.previous(u);
     }
 }

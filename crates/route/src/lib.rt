@@ -10,28 +10,31 @@ ghost use Rattle.calls.specs.Routes.{route_answer, left_by, buffer_after, TableK
 ghost use Rattle.answer.specs.Said.{route_said};
 
 use answer::Fault;
+use answer::reason::Reason;
 pub use answer::routed::Routed;
 use judge::Judged;
 use sheet::Node;
+use sheet::located::Sheet;
+use table::lent::Table;
 
 // The answer for an accepted sheet.
-fn route_accepted(s: &[u8], table: &[u32], node: u32, buffer: &mut [u32]) -> Routed
+#[tactic(auto, using(crate::proofs::Stages::stages), unfolding(calls::specs::Routes::left_by))]
+fn route_accepted(s: &Sheet, words: &[u32], node: u32, buffer: &mut [u32]) -> Routed
     requires { Accepted s.now }
-    ensures { (route_said result ≡ route_answer s.now table.now node buffer.old)
-        × (buffer.new ≡ left_by s.now table.now (route_said result) node buffer.old) }
+    ensures { (route_said result ≡ route_answer s.now words.now node buffer.old)
+        × (buffer.new ≡ left_by s.now words.now (route_said result) node buffer.old) }
 {
     if crate::found::node_outside(s, node) {
-        return Routed::Refused(Fault::Input(15));
+        return Routed::Refused(Fault::from(Reason::Node));
     }
-    let sections = sheet::scan::find_sections(s);
-    if table::read::wrong_length(s, sections, table) {
-        return Routed::Refused(Fault::State(21));
+    if table::form::wrong_length(s, words) {
+        return Routed::Refused(Fault::from(Reason::TableLength));
     }
-    let number = table_shortest::table_refusal(s, sections, table);
-    if number != 0 {
-        return Routed::Refused(Fault::State(number));
+    let table = Table::new(s, words);
+    match table_shortest::check_table(&table) {
+        Ok(()) => crate::found::find_route(&table, Node(node as u16), buffer),
+        Err(reason) => Routed::Refused(Fault::from(reason)),
     }
-    crate::found::find_route(s, sections, table, Node(node as u16), buffer)
 }
 
 // Reads the route to a node: the arcs from the source on, at the front of the buffer.
@@ -40,9 +43,8 @@ pub fn route(sheet: &[u8], table: &[u32], node: u32, buffer: &mut [u32]) -> Rout
         × (buffer.new ≡ buffer_after sheet.now table.now node buffer.old)
         × TableKnown sheet.now table.now (route_said result) }
 {
-    let judged = judge::judge(sheet);
-    match judged {
-        Judged::Accepted => route_accepted(sheet, table, node, buffer),
+    match judge::judge(sheet) {
+        Judged::Accepted => route_accepted(&Sheet::new(sheet), table, node, buffer),
         Judged::Refused(fault) => Routed::Refused(fault),
     }
 }

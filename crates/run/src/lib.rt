@@ -13,9 +13,11 @@ ghost use Rattle.calls.specs.Tables.{table_length, long_length, status_says, sta
 ghost use Rattle.calls.specs.Runs.{run_answer, table_after, Delivered, DeliveredLong};
 ghost use Rattle.answer.specs.Said.{run_said};
 
-use answer::Fault;
 pub use answer::ran::Ran;
+use answer::reason::Reason;
 use judge::Judged;
+use run_layout::outline::Outline;
+use sheet::located::Sheet;
 
 // More rounds than any run has: 2^56.
 const ENOUGH_ROUNDS: u64 = 72057594037927936;
@@ -26,11 +28,11 @@ fn run_accepted(sheet: &[u8], limit: u64, table: &mut [u32]) -> Ran
     ensures { (run_said result ≡ run_answer sheet.now limit table.old)
         × (table.new ≡ table_after sheet.now limit table.old) }
 {
-    let sections = sheet::scan::find_sections(sheet);
-    if table::read::wrong_length(sheet, sections, table) {
-        return Ran::Refused(Fault::State(21));
+    let s = Sheet::new(sheet);
+    if table::form::wrong_length(&s, table) {
+        return Ran::Refused(Reason::TableLength.into());
     }
-    answer::ran::of_status(crate::arrays::run_in_arrays(sheet, sections, limit, table))
+    Ran::of_status(crate::arrays::run_in_arrays(&Outline::new(&s), limit, table))
 }
 
 // Runs a sheet for at most `limit` rounds.
@@ -69,5 +71,5 @@ pub fn run_limited(sheet: &[u8], rounds: u32, table: &mut [u32]) -> Ran
         × (Accepted sheet.now → length table.old ≡ long_length (node_count sheet.now) (arc_count sheet.now)
         → DeliveredLong sheet.now rounds table.new × (run_said result ≡ status_says (status_in table.new))) }
 {
-    run_judged(sheet, rounds as u64, table)
+    run_judged(sheet, u64::from(rounds), table)
 }

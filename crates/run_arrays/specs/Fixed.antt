@@ -1,4 +1,4 @@
--- The arrays that a run only reads, and the graph, division and spans that they represent. Definitions.
+-- What a run only reads, and the graph, division and spans that it represents. Definitions.
 use Rattle.std.specs.Prelude.{ℕ, ◌≤◌, ◌<◌, true, false, ◌≡◌, List, length}
 use Rattle.indices.specs.Columns.{at}
 use Rattle.sheet.specs.Limits.{most_arcs_each_way, most_spans}
@@ -7,7 +7,8 @@ use Rattle.procedure.specs.Division.{Division, regions, arc_of, is_leaf, leaf_of
 use Rattle.theory_shortest.specs.WellFormed.{WellFormed}
 use Rattle.run_arrays.specs.Rows.{row_tail, row_head, row_leaf, row_next}
 use Rattle.run_arrays.specs.Links.{Links}
-use Rattle.run_arrays.specs.Sections.{most_regions, region_arc_section, arc_row_section, first_section, arc_count_of, span_section, height_section}
+use Rattle.run_arrays.specs.Sections.{most_regions}
+use Rattle.run_arrays.specs.declared.arrays.Layout.{Layout}
 
 -- An arc's row: tail, head, leaf, and the next arc with the same tail.
 pub record ArcRows (g : Graph) (d : Division) (rows : List ℕ) : Type 0 where
@@ -38,13 +39,13 @@ pub record HasSpan (heights : List ℕ) (r : ℕ) : Type 0 where
   pub positive : 0 < at heights r
   pub few : at heights r ≤ most_spans
 
--- They represent a well-formed graph, division and spans. The rows of the queues are told by the queues' own record.
-pub record FixedOk (g : Graph) (d : Division) (spans fixed weights : List ℕ) : Type 0 where
+-- It represents a well-formed graph, division and spans. The rows of the queues are told by the queues' own record.
+pub record FixedOk (g : Graph) (d : Division) (spans : List ℕ) (layout : Layout) : Type 0 where
   pub ok : WellFormed most_arcs_each_way g d spans
-  pub arc_rows : ArcRows g d (arc_row_section fixed)
-  pub links : ArcLinks g (arc_row_section fixed) (first_section fixed)
-  pub arc_count_lem : arc_count_of fixed ≡ arcs g
-  pub region_arcs : RegionArcs d (region_arc_section fixed)
-  pub lengths : (a : ℕ) → a < arcs g → at weights a ≡ len g a
-  pub heights : RegionHeights d (height_section weights)
-  pub each_span : (h : ℕ) → h < length spans → at (span_section weights) h ≡ at spans h
+  pub arc_rows : ArcRows g d layout.arc_rows
+  pub links : ArcLinks g layout.arc_rows layout.firsts
+  pub arc_count_lem : layout.arcs ≡ arcs g
+  pub region_arcs : RegionArcs d layout.region_arcs
+  pub lengths : (a : ℕ) → a < arcs g → at layout.lengths a ≡ len g a
+  pub heights : RegionHeights d layout.heights
+  pub each_span : (h : ℕ) → h < length spans → at layout.spans h ≡ at spans h

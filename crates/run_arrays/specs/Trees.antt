@@ -8,7 +8,7 @@ use Rattle.indices.specs.Tests.{count}
 use Rattle.procedure.specs.Division.{Division, regions, parent, is_leaf, is_child, height}
 use Rattle.procedure.specs.Queues.{min_key}
 use Rattle.run_arrays.specs.Rows.{field}
-use Rattle.run_arrays.specs.Sections.{most_regions, height_section}
+use Rattle.run_arrays.specs.Sections.{most_regions}
 use Rattle.run_arrays.specs.Fixed.{RegionHeights}
 
 -- what a step of the height adds to a rank, more than any region's number, and a step of the key to an entry, more than any rank
@@ -125,10 +125,10 @@ pub record LaidOut (d : Division) (rows winners : List ℕ) : Type 0 where
   pub room : 2 * regions d ≤ length winners
 
 -- What the trees are built from: rows and places that are laid out, and the height of each region among the weights.
-pub record Buildable (d : Division) (rows weights winners : List ℕ) : Type 0 where
+pub record Buildable (d : Division) (rows heights winners : List ℕ) : Type 0 where
   pub laid : LaidOut d rows winners
   pub few : regions d ≤ most_regions
-  pub heights : RegionHeights d (height_section weights)
+  pub tall : RegionHeights d heights
 
 -- The children are entered: there is a key of 32 bits for each region, and each region but 0 stands with its key and rank at its place in its parent's tree.
 pub record Seated (d : Division) (rows keys winners : List ℕ) : Type 0 where
@@ -157,9 +157,9 @@ pub record SomeParent (rows : List ℕ) (c : ℕ) : Type 0 where
   pub inside : c < regions division
 
 -- what the trees of so many regions are built from
-pub record SomeBuildable (rows weights winners : List ℕ) (count : ℕ) : Type 0 where
+pub record SomeBuildable (rows heights winners : List ℕ) (count : ℕ) : Type 0 where
   pub division : Division
-  pub buildable : Buildable division rows weights winners
+  pub buildable : Buildable division rows heights winners
   pub all_regions : count ≡ regions division
 
 -- valid queues, and one of the regions

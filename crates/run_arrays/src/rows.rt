@@ -1,5 +1,5 @@
 // Rows of four numbers in one slice, a row for each region and for each arc. And links from an arc to the next with the same tail.
-ghost use Rattle.std.specs.Prelude.{◌≡◌, ◌+◌, ◌*◌, ◌<◌, length, set, replicate};
+ghost use Rattle.std.specs.Prelude.{◌≡◌, ◌+◌, ◌*◌, ◌<◌, set};
 ghost use Rattle.run_arrays.specs.Rows.{field, row_count};
 ghost use Rattle.run_arrays.specs.Links.{Linkable, Linked};
 
@@ -29,38 +29,14 @@ pub fn set_field(rows: &mut [u16], i: u16, k: usize, x: u16)
     rows[place] = x;
 }
 
-pub fn fill(a: &mut [u16], v: u16)
-    ensures { a.new ≡ replicate (length a.old) v }
-{
-    let mut i = 0;
-    while i < a.len() {
-        a[i] = v;
-        i += 1;
-    }
-}
-
-// `to` becomes `from`.
-pub fn copy(from: &[u16], to: &mut [u16])
-    requires { length from.now ≡ length to.old }
-    ensures { to.new ≡ from.now }
-{
-    let mut i = 0;
-    while i < to.len() {
-        to[i] = from[i];
-        i += 1;
-    }
-}
-
 // Fills in each arc's next one with the same tail and each node's first arc, from the last arc back; 'none' is the number of arcs.
 pub fn link(arcs: &mut [u16], firsts: &mut [u16])
     requires { Linkable arcs.old firsts.old }
     ensures { Linked arcs.old arcs.new firsts.new }
 {
     let m = (arcs.len() / 4) as u16;
-    fill(firsts, m);
-    let mut a = m;
-    while 0 < a {
-        a -= 1;
+    firsts.fill(m);
+    for a in (0..m).rev() {
         let v = field(arcs, a, TAIL) as usize;
         let next = firsts[v];
         set_field(arcs, a, NEXT, next);

@@ -92,10 +92,7 @@ pub fn entry_region(entry: u64) -> Region
 pub fn lower(a: u64, b: u64) -> u64
     ensures { result ≡ min a b }
 {
-    if b < a {
-        return b;
-    }
-    a
+    a.min(b)
 }
 
 // The place that is decided together with this one.

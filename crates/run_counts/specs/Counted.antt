@@ -15,7 +15,3 @@ inner_counted c = record { rounds = c.rounds; leaves = c.leaves; inner = c.inner
 -- that many updates
 abbrev pub updates_set : Counts → ℕ → Counts
 updates_set c updates = record { rounds = c.rounds; leaves = c.leaves; inner = c.inner; updates = updates }
-
--- a leaf more, with the updates after its working
-abbrev pub leaf_counted : Counts → ℕ → Counts
-leaf_counted c updates = updates_set (leaf_added c) updates

@@ -1,5 +1,5 @@
 // The eighteen counts of a run in one array, which is lent: those of the inner regions by height. Each counting takes the four counts at one height out
-// as a struct, has them counted by a function over that struct, and puts back what has grown.
+// as a struct, counts in that struct, and puts back what has grown.
 ghost use Rattle.std.specs.Prelude.{◌≡◌, ◌+◌, ◌<◌};
 ghost use Rattle.run_counts.specs.Figures.{figures_in, counts_at, InnerFits, HasLevel, started, round_more, leaf_more, inner_more};
 
@@ -29,6 +29,7 @@ fn counts_at(counts: &[u64], level: usize) -> Counts
     }
 }
 
+#[tactic(auto, unfolding(crate::specs::Figures::updates_in))]
 pub fn updates_of(counts: &[u64; COUNTS]) -> u64
     ensures { result ≡ (figures_in counts.now).updates }
 {
@@ -43,11 +44,13 @@ pub fn start(counts: &mut [u64; COUNTS], updates: u64)
     counts[UPDATES_PLACE] = updates;
 }
 
+#[tactic(auto, using(crate::proofs::array::Stores::round_stored))]
 pub fn count_round(counts: &mut [u64; COUNTS])
     requires { (figures_in counts.old).rounds + 1 < 18446744073709551616 }
     ensures { figures_in counts.new ≡ round_more (figures_in counts.old) }
 {
-    let c = crate::count_round(counts_at(counts, 0));
+    let mut c = counts_at(counts, 0);
+    c.add_round();
     counts[ROUNDS_PLACE] = c.rounds;
 }
 
@@ -56,16 +59,20 @@ pub fn count_leaf(counts: &mut [u64; COUNTS], updates: u64)
     requires { (figures_in counts.old).leaves + 1 < 18446744073709551616 }
     ensures { figures_in counts.new ≡ leaf_more (figures_in counts.old) updates }
 {
-    let c = crate::count_leaf(counts_at(counts, 0), updates);
+    let mut c = counts_at(counts, 0);
+    c.add_leaf();
+    c.set_updates(updates);
     counts[LEAVES_PLACE] = c.leaves;
     counts[UPDATES_PLACE] = c.updates;
 }
 
 // An inner region, at the level of its height.
+#[tactic(auto, using(crate::proofs::array::Stores::inner_stored))]
 pub fn count_inner(counts: &mut [u64; COUNTS], level: usize)
     requires { InnerFits (figures_in counts.old) level }
     ensures { figures_in counts.new ≡ inner_more (figures_in counts.old) level }
 {
-    let c = crate::count_inner(counts_at(counts, level));
+    let mut c = counts_at(counts, level);
+    c.add_inner();
     counts[INNER_PLACE + level] = c.inner;
 }

@@ -1,3 +1,2 @@
-mod Fronts
 pub mod Laying
 pub mod Represented

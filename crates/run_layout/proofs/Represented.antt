@@ -1,8 +1,8 @@
 -- The parts that are laid out represent the graph and the division of an accepted sheet.
 use Prim.Native.Nat.{ℕ, ◌*◌, ◌<◌}
-use mathlib.Core.Bool.{Bool, true, false}
+use mathlib.Core.Bool.{true}
 use mathlib.Core.Path.{◌≡◌, refl, sym, ap, ◌∙◌}
-use mathlib.Core.List.{List}
+use mathlib.Core.List.{List, [], ◌∷◌}
 use native.Mathlib.Omega.{arith}
 use borrow.Author.Tests.{eq-eqb, lt-ltb}
 use lib.Dec.{eqb}
@@ -14,6 +14,11 @@ use Rattle.sheet.specs.Words.{words, top}
 use Rattle.sheet.specs.Sections.{node_count, source, arc_count, region_words}
 use Rattle.sheet.specs.Arcs.{tail, head}
 use Rattle.sheet.specs.Regions.{region_count, leaf_word, arc_word, is_leaf, leaf_arc}
+use Rattle.std.specs.Prelude.{Result, Ok, Err, OnOk}
+use Rattle.answer.specs.declared.reason.Reason.{Reason}
+use Rattle.answer.specs.Answer.{input, ◌when◌, accepted, lowest}
+use Rattle.answer.specs.Reasons.{refusal_for, checked}
+use Rattle.answer.proofs.Lowest.{refused≢accepted}
 use Rattle.judgement.specs.Judgement.{Accepted}
 use Rattle.judgement.specs.Division.{leaf_of_arc, childless_regions}
 use Rattle.judgement.proofs.Accepted.{
@@ -136,9 +141,11 @@ module _ (b : List ℕ) (ok : Accepted b) where
   pub passable : {d : List ℕ} → d ≡ region_words b → Passable d
   passable e = rw e (record { few = few_region_words b ok; parents = parents_right b ok })
 
-  pub heights_known : {d heights : List ℕ} {childless : Bool} → d ≡ region_words b → childless ≡ childless_regions d
-      → (childless ≡ false → HeightsFound d heights) → HeightsFound d heights
-  heights_known e told found = found (told ∙ ap childless_regions e ∙ children_there b ok)
+  pub heights_known : {d heights : List ℕ} (outcome : Result (Unit {0}) Reason) → d ≡ region_words b
+      → checked outcome ≡ lowest (input 13 when childless_regions d ∷ []) accepted → OnOk outcome (HeightsFound d heights) → HeightsFound d heights
+  heights_known (Ok done) e told found = found
+  heights_known (Err reason) e told found =
+      absurd (refused≢accepted (refusal_for reason) (rw (ap childless_regions e ∙ children_there b ok) at told))
 
   pub parents_of : {d parents : List ℕ} → d ≡ region_words b → ParentsEntered d parents → ParentsOf (division_of b) parents
   parents_of {d} {parents} e entered =

@@ -3,6 +3,7 @@ use Rattle.std.specs.Prelude.{ℕ, ◌≤◌, ◌≡◌, List}
 use Rattle.sheet.specs.Limits.{most_nodes, most_arcs, most_spans}
 use Rattle.sheet.specs.Sections.{node_count, arc_count, span_count, region_words}
 use Rattle.sheet.specs.Regions.{region_count}
+use Rattle.judgement.specs.Judgement.{Accepted}
 use Rattle.run_arrays.specs.Sections.{most_regions}
 use Rattle.run_layout.specs.declared.sizes.Sizes.{Sizes}
 
@@ -16,3 +17,8 @@ pub record InUse (b : List ℕ) (z : Sizes) : Type 0 where
   pub few_arcs : z.arcs ≤ most_arcs
   pub few_spans : z.spans ≤ most_spans
   pub few_regions : z.regions ≤ most_regions
+
+-- an accepted sheet, whose sizes are known
+pub record Outlined (b : List ℕ) (z : Sizes) : Type 0 where
+  pub accepted : Accepted b
+  pub in_use : InUse b z

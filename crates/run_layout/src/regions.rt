@@ -13,11 +13,8 @@ pub fn enter_parents(d: &[u8], parents: &mut [u16])
     requires { ParentsLent d.now parents.old }
     ensures { ParentsEntered d.now parents.new }
 {
-    let n = d.len() / 4;
-    let mut k = 0;
-    while k < n {
+    for k in 0..d.len() / 4 {
         parents[k + 1] = sheet::fields::parent_word(d, k) as u16;
-        k += 1;
     }
 }
 
@@ -29,8 +26,7 @@ fn entered_arc(d: &[u8], r: Region) -> u16
     if !sheet::fields::is_leaf(d, r) {
         return run_arrays::arrays::INNER;
     }
-    let i = r.0 as usize;
-    sheet::fields::arc_word(d, i - 1).0
+    sheet::fields::arc_word(d, usize::from(r.0) - 1).0
 }
 
 // Each region's arc.
@@ -38,19 +34,9 @@ pub fn enter_region_arcs(d: &[u8], arcs: &mut [u16])
     requires { (words d.now ≤ most_region_words) × (length arcs.old ≡ region_count d.now) }
     ensures { arcs.new ≡ column (region_count d.now) (arc_entered d.now) }
 {
-    let n = (d.len() / 4 + 1) as u16;
-    let mut r: u16 = 0;
-    while r < n {
-        let i = r as usize;
-        arcs[i] = entered_arc(d, Region(r));
-        r += 1;
+    for (r, arc) in arcs.iter_mut().enumerate() {
+        *arc = entered_arc(d, Region(r as u16));
     }
-}
-
-fn wide(x: u16) -> u32
-    ensures { result ≡ x }
-{
-    x as u32
 }
 
 // The first heights that were found.
@@ -58,9 +44,7 @@ pub fn enter_heights(found: &[u16; REGION_NUMBERS], heights: &mut [u32])
     requires { length heights.old ≤ region_numbers }
     ensures { heights.new ≡ column (length heights.old) (at found.now) }
 {
-    let mut i = 0;
-    while i < heights.len() {
-        heights[i] = wide(found[i]);
-        i += 1;
+    for (i, height) in heights.iter_mut().enumerate() {
+        *height = u32::from(found[i]);
     }
 }

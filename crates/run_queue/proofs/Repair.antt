@@ -7,7 +7,7 @@ use native.Mathlib.Omega.{arith}
 use lib.ListN.{length, set}
 use Rattle.indices.specs.Columns.{at}
 use Rattle.indices.proofs.Steps.{by_equal}
-use Rattle.procedure.specs.Division.{Division, regions}
+use Rattle.procedure.specs.Division.{Division, regions, parent}
 use Rattle.theory.proofs.Chosen.{parent_child}
 use Rattle.run_arrays.specs.Rows.{field}
 use Rattle.run_arrays.specs.Trees.{entry_of, entry_rank, rank, entry, Siblings, child_count, tree_start, place, QueuesOk}
@@ -31,12 +31,12 @@ pub record Repairing (d : Division) (r : ℕ) (rows keys winners : List ℕ) (st
 -- it begins at the place of c, where its key k was written, beside the rank that stood there
 pub repair_start : {d : Division} {rows keys winners : List ℕ} {c up start p below best : ℕ} (k : ℕ) → QueuesOk d rows keys winners → Lies d rows c up start p
     → 0 < c → c < regions d → k < 4294967296 → below ≡ entry_rank (at winners (start + p)) → best ≡ entry_of k below
-    → Repairing d up rows (set keys c k) (set winners (start + p) best) start p best
+    → Repairing d (parent d c) rows (set keys c k) (set winners (start + p) best) start p best
 repair_start {d} {rows} {keys} {winners} {c} {start = start} {p = p} k Q L pos inside small stood is =
     let h = parent_child d c pos inside in
     let P = Q.seated.laid.planned in
     let there : at winners (start + p) ≡ entry d keys c = rw (seat_at P L pos inside) (Q.seated.stands c pos inside) in
-    rw (seat_at P L pos inside, is, stood ∙ rank_in P.counted.numbered keys c inside there, L.over, L.own ∙ P.seats c pos inside) (record {
+    rw (seat_at P L pos inside, is, stood ∙ rank_in P.counted.numbered keys c inside there, L.own ∙ P.seats c pos inside) (record {
       row = rw L.over at L.row;
       valid = written c k Q pos inside small;
       low = omega (arith, seat_low d h, seat_high d h);

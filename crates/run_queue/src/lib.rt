@@ -56,6 +56,7 @@ pub fn write(rows: &[u16], winners: &mut [u64], child: Region, key: u32)
     let rank = run_arrays::trees::entry_rank(winners[start + place]);
     let mut best = run_arrays::trees::entry_of(key, rank);
     winners[start + place] = best;
+    // The places are halved, which no range counts.
     while 1 < place {
         best = run_arrays::trees::lower(best, winners[start + run_arrays::trees::sibling(place)]);
         place = place / 2;

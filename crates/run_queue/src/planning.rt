@@ -12,18 +12,15 @@ fn count_children(parents: &[u16], rows: &mut [u16])
     requires { ForDivision (λ d. ParentsOf d parents.now) rows.old }
     ensures { (d : Division) → ParentsOf d parents.now → Ranked d rows.new }
 {
-    run_arrays::rows::fill(rows, 0);
+    rows.fill(0);
     let n = parents.len() as u16;
-    let mut c: u16 = 1;
-    while c < n {
-        let i = c as usize;
-        let parent = Region(parents[i]);
+    for c in 1..n {
+        let parent = Region(parents[c as usize]);
         let lower = run_arrays::trees::children_of(rows, parent);
         let counted = lower + 1;
         run_arrays::rows::set_field(rows, c, PARENT, parent.0);
         run_arrays::rows::set_field(rows, c, SEAT, lower);
         run_arrays::rows::set_field(rows, parent.0, CHILDREN, counted);
-        c += 1;
     }
 }
 
@@ -34,11 +31,9 @@ fn lay_trees(rows: &mut [u16])
 {
     let n = (rows.len() / 4) as u16;
     let mut start: u16 = 0;
-    let mut r: u16 = 0;
-    while r < n {
+    for r in 0..n {
         run_arrays::rows::set_field(rows, r, START, start);
         start = start + 2 * run_arrays::trees::children_of(rows, Region(r));
-        r += 1;
     }
 }
 
@@ -48,13 +43,11 @@ fn seat_children(rows: &mut [u16])
     ensures { (d : Division) → Started d rows.old → length rows.old ≡ 4 * regions d → Planned d rows.new }
 {
     let n = (rows.len() / 4) as u16;
-    let mut c: u16 = 1;
-    while c < n {
+    for c in 1..n {
         let parent = run_arrays::trees::parent_of(rows, Region(c));
         let place = run_arrays::trees::children_of(rows, parent)
             + run_arrays::trees::seat_of(rows, Region(c));
         run_arrays::rows::set_field(rows, c, SEAT, place);
-        c += 1;
     }
 }
 

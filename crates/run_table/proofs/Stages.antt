@@ -1,4 +1,4 @@
--- From arrays that represent a state to its table: counts, labels and predecessors fit the usual words, and the key words are made of the own keys.
+-- From a run that represents a state to its table: counts, labels and predecessors fit the usual words, and the key words are made of the own keys.
 use Prim.Native.Nat.{ℕ, ◌-◌, ◌≤◌}
 use mathlib.Core.Bool.{Bool}
 use mathlib.Core.Path.{◌≡◌, sym, ap, subst, ◌∙◌}
@@ -22,8 +22,9 @@ use Rattle.calls.specs.Tables.{table_length, long_length}
 use Rattle.calls.proofs.Counts.{counts_length_lem}
 use Rattle.theory_calls.specs.Tabled.{Tabled}
 use Rattle.theory_calls.proofs.Formed.{each_count, all_labels, all_predecessors, each_label, each_predecessor}
-use Rattle.run_counts.specs.Figures.{Figures, counts_of}
-use Rattle.run_arrays.specs.Sections.{label_section, predecessor_section, own_section}
+use Rattle.run_counts.specs.Figures.{figures_in, counts_of}
+use Rattle.run_arrays.specs.declared.arrays.Layout.{Layout}
+use Rattle.run_arrays.specs.declared.arrays.Run.{Run}
 use Rattle.run_arrays.specs.States.{Represents}
 use Rattle.table.specs.Countable.{Countable}
 use Rattle.run_table.specs.Finish.{FormFits, Finished}
@@ -63,34 +64,34 @@ module _ (n : ℕ) (table front : List ℕ) (room : n ≤ length table) (all : l
       → put_mid n (length whole - n) whole rest ≡ usual ++ key_words (take (length table - t) keys) (length table - t)
   form_written keys {rest = rest} size words keyed owned = both_parts rest ∙ rw (words, keyed, rest_long, owned, size)
 
-module _ {b : List ℕ} {s : State} {fixed weights state winners : List ℕ} {c : Figures} {n : ℕ} (ok : Accepted b)
-    (R : Represents (graph_of b) (division_of b) (spans_of b) s fixed weights state winners c) (T : Tabled b s) (all : n ≡ node_count b) where
+module _ {b : List ℕ} {s : State} {layout : Layout} {run : Run} {n : ℕ} (ok : Accepted b)
+    (R : Represents (graph_of b) (division_of b) (spans_of b) s layout run) (T : Tabled b s) (all : n ≡ node_count b) where
   is_front : n ≡ (graph_of b).nodes
   is_front = all ∙ sym (graph_nodes b)
 
-  same_labels : take n (label_section state) ≡ s.labels
-  same_labels = ap (λ (m : ℕ). take m (label_section state)) is_front ∙ R.labels
+  same_labels : take n run.labels ≡ s.labels
+  same_labels = ap (λ (m : ℕ). take m run.labels) is_front ∙ R.labels
 
-  same_predecessors : take n (predecessor_section state) ≡ s.predecessors
-  same_predecessors = ap (λ (m : ℕ). take m (predecessor_section state)) is_front ∙ R.predecessors
+  same_predecessors : take n run.predecessors ≡ s.predecessors
+  same_predecessors = ap (λ (m : ℕ). take m run.predecessors) is_front ∙ R.predecessors
 
-  same_counts : counts_of c ≡ counts s
-  same_counts = rw (R.rounds, R.leaves, R.inner, R.queues.keys.counted)
+  same_counts : counts_of (figures_in run.counts) ≡ counts s
+  same_counts = rw (R.rounds, R.leaves, R.inner, R.queues.held.counted)
 
-  same_own : take (arcs (graph_of b)) (own_section state) ≡ s.queues.own
+  same_own : take (arcs (graph_of b)) run.keys.own ≡ s.queues.own
   same_own = R.queues.own
 
-  labelled : length (take n (label_section state)) ≡ n
+  labelled : length (take n run.labels) ≡ n
   labelled = ap length same_labels ∙ all_labels b ok s T ∙ sym all
 
-  fed : length (take n (predecessor_section state)) ≡ n
+  fed : length (take n run.predecessors) ≡ n
   fed = ap length same_predecessors ∙ all_predecessors b ok s T ∙ sym all
 
   countable : Countable (counts s)
   countable = record { all = counts_length_lem s T.levelled.fifteen; small = each_count s T.levelled.fifteen _ T.small }
 
   -- what the writing of the table asks
-  pub form_fits : {words : ℕ} → table_length n ≤ words → words ≤ long_length n (arc_count b) → FormFits c state n words
+  pub form_fits : {words : ℕ} → table_length n ≤ words → words ≤ long_length n (arc_count b) → FormFits run n words
   form_fits room few = record {
     nodes = record {
       few = omega (arith, all, few_nodes b ok);
@@ -111,11 +112,11 @@ module _ {b : List ℕ} {s : State} {fixed weights state winners : List ℕ} {c 
   -- and what is then in it
   pub finished : {words : ℕ} {hasEnded : Bool} {table : List ℕ} → words ≤ long_length n (arc_count b) → hasEnded ≡ ended (graph_of b) (division_of b) s
       → table
-      ≡ table_of hasEnded (counts_of c) (take n (label_section state)) (take n (predecessor_section state)) (length (take n (label_section state)))
-      ++ key_words (take (words - table_length n) (own_section state)) (words - table_length n)
+      ≡ table_of hasEnded (counts_of (figures_in run.counts)) (take n run.labels) (take n run.predecessors) (length (take n run.labels))
+      ++ key_words (take (words - table_length n) run.keys.own) (words - table_length n)
       → Finished b s words hasEnded table
   finished {words} few he written =
       let m = words - table_length n in
-      let keyed : key_words (take m (own_section state)) m ≡ key_words s.queues.own m =
-      key_words_front (own_section state) m (arcs (graph_of b)) (omega (arith, graph_arcs b)) ∙ ap (λ (own : List ℕ). key_words own m) same_own in
+      let keyed : key_words (take m run.keys.own) m ≡ key_words s.queues.own m =
+      key_words_front run.keys.own m (arcs (graph_of b)) (omega (arith, graph_arcs b)) ∙ ap (λ (own : List ℕ). key_words own m) same_own in
       record { status = he; written = written ∙ rw (keyed, labelled, he, same_counts, same_labels, same_predecessors, all) }

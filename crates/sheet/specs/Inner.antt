@@ -1,15 +1,13 @@
 -- What functions and laws ask of a sheet and of a nesting: for contracts within the project. Definitions.
-use Rattle.std.specs.Prelude.{ℕ, ◌+◌, ◌≤◌, ◌<◌, List, Bool, false, ◌≡◌, ltb, if◌then◌else◌}
+use Rattle.std.specs.Prelude.{ℕ, ◌+◌, ◌≤◌, ◌<◌, List, Bool, false, ◌≡◌, Option, Some, None, ltb, if◌then◌else◌}
 use Rattle.sheet.specs.declared.Cursor.{Cursor}
 use Rattle.sheet.specs.declared.Sections.{Sections}
-use Rattle.sheet.specs.declared.Step.{Step}
-use Rattle.sheet.specs.declared.Step.TheVariants.{Word, End}
 use Rattle.sheet.specs.Words.{words, word}
 use Rattle.sheet.specs.Sections.{span_count, arcs_at, arc_count, regions_at}
 
--- "A sheet is read word by word from its front": the word at a place with the place after it, or the end
-abbrev pub step_at : List ℕ → Cursor → Step
-step_at b c = if ltb c.place (words b) then Word (word b c.place) (record { place = c.place + 1 }) else End
+-- "A sheet is read word by word from its front": the word at a place with the place after it, or none
+abbrev pub step_at : List ℕ → Cursor → Option (ℕ × Cursor)
+step_at b c = if ltb c.place (words b) then Some (word b c.place, record { place = c.place + 1 }) else None
 
 -- the sections of a sheet that has its first two words: how many spans, the word of arc 0, how many arcs, the word after the last of them
 pub record Located (b : List ℕ) (sections : Sections) : Type 0 where

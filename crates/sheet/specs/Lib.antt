@@ -5,3 +5,4 @@ pub mod Arcs
 pub mod Heights
 pub mod Regions
 pub mod Inner
+pub mod Kinds

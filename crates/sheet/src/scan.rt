@@ -1,20 +1,22 @@
 // The sections of a sheet: reading it word by word, and where spans, holds, arcs and region words end.
 ghost use Rattle.std.specs.Prelude.{◌≡◌, ◌&&◌, ◌+◌, ◌*◌, ◌≤◌, ◌<◌, eqb};
 ghost use Rattle.sheet.specs.Words.{words, kind};
+ghost use Rattle.sheet.specs.Kinds.{kind_number};
 ghost use Rattle.sheet.specs.Sections.{part_after, kind_from, arcs_from};
 ghost use Rattle.sheet.specs.Inner.{step_at, Located};
 
-use crate::{Cursor, Sections, Step};
+use crate::kind::Kind;
+use crate::{Cursor, Sections};
 
-// Reads the word at a place: "A sheet is read word by word from its front".
-pub fn next_word(s: &[u8], c: Cursor) -> Step
+// The word at a place with the place after it: "A sheet is read word by word from its front".
+pub fn next_word(s: &[u8], c: Cursor) -> Option<(u32, Cursor)>
     ensures { result ≡ step_at s.now c }
 {
     let i = c.place;
     if i < s.len() / 4 {
-        return Step::Word(crate::word_at(s, i), Cursor { place: i + 1 });
+        return Some((crate::word_at(s, i), Cursor { place: i + 1 }));
     }
-    Step::End
+    None
 }
 
 // The part of the sheet after a place.
@@ -27,20 +29,15 @@ pub fn part_after(s: &[u8], c: Cursor) -> &[u8]
 }
 
 // The place after the words of a kind that stand from c on.
-fn past_kind(s: &[u8], c: Cursor, kind: u32) -> Cursor
+fn past_kind(s: &[u8], c: Cursor, kind: Kind) -> Cursor
     requires { c.place ≤ words s.now }
-    ensures { result.place ≡ c.place + kind_from kind s.now c.place }
+    ensures { result.place ≡ c.place + kind_from (kind_number kind) s.now c.place }
 {
-    let from = c.place;
     let total = s.len() / 4;
-    let mut k = 0;
-    while from + k < total {
-        if crate::kind_at(s, from + k) != kind {
-            return Cursor { place: from + k };
-        }
-        k += 1;
+    let of_kind = (c.place..total).take_while(|i| kind.is_at(s, *i)).count();
+    Cursor {
+        place: c.place + of_kind,
     }
-    Cursor { place: from + k }
 }
 
 // Whether an arc stands at word i: kind 4, then kind 5.
@@ -48,10 +45,7 @@ fn arc_here(s: &[u8], i: usize) -> bool
     requires { i + 1 < words s.now }
     ensures { result ≡ (eqb (kind s.now i) 4 && eqb (kind s.now (i + 1)) 5) }
 {
-    if crate::kind_at(s, i) != 4 {
-        return false;
-    }
-    crate::kind_at(s, i + 1) == 5
+    Kind::Ends.is_at(s, i) && Kind::Length.is_at(s, i + 1)
 }
 
 // The place after the arcs that stand from c on.
@@ -59,19 +53,12 @@ fn past_arcs(s: &[u8], c: Cursor) -> Cursor
     requires { c.place ≤ words s.now }
     ensures { result.place ≡ c.place + 2 * arcs_from s.now c.place }
 {
-    let from = c.place;
-    let pairs = (s.len() / 4 - from) / 2;
-    let mut a = 0;
-    while a < pairs {
-        if !arc_here(s, from + 2 * a) {
-            return Cursor {
-                place: from + 2 * a,
-            };
-        }
-        a += 1;
-    }
+    let pairs = (s.len() / 4 - c.place) / 2;
+    let arcs = (0..pairs)
+        .take_while(|a| arc_here(s, c.place + 2 * *a))
+        .count();
     Cursor {
-        place: from + 2 * a,
+        place: c.place + 2 * arcs,
     }
 }
 
@@ -80,8 +67,8 @@ pub fn find_sections(s: &[u8]) -> Sections
     requires { 2 ≤ words s.now }
     ensures { Located s.now result }
 {
-    let holds = past_kind(s, Cursor { place: 2 }, 3);
-    let arcs = past_kind(s, holds, 13);
+    let holds = past_kind(s, Cursor { place: 2 }, Kind::Span);
+    let arcs = past_kind(s, holds, Kind::Hold);
     let regions = past_arcs(s, arcs);
     Sections {
         spans: holds.place - 2,

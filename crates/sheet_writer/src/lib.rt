@@ -7,10 +7,7 @@ ghost use Rattle.sheet.specs.Words.{words};
 ghost use Rattle.sheet.specs.Regions.{region_word};
 ghost use Rattle.sheet_writer.specs.Words.{words_from, words_put};
 
-// The kinds of region words.
-const INNER_KIND: u32 = 6;
-
-const LEAF_KIND: u32 = 7;
+use sheet::kind::Kind;
 
 // How many numbers the field of an arc has.
 const ARCS: u32 = sheet::ARC_NUMBERS as u32;
@@ -20,7 +17,7 @@ pub fn inner_word_of(parent: u16) -> u32
     requires { parent < region_numbers }
     ensures { result ≡ region_word false parent 0 }
 {
-    sheet::word_of(INNER_KIND, parent as u32)
+    Kind::Inner.word(u32::from(parent))
 }
 
 // The word of a leaf.
@@ -28,7 +25,7 @@ pub fn leaf_word_of(parent: u16, arc: u16) -> u32
     requires { (parent < region_numbers) × (arc < arc_numbers) }
     ensures { result ≡ region_word true parent arc }
 {
-    sheet::word_of(LEAF_KIND, parent as u32 * ARCS + arc as u32)
+    Kind::Leaf.word(u32::from(parent) * ARCS + u32::from(arc))
 }
 
 // Word i of `out` becomes w.
@@ -37,10 +34,7 @@ pub fn put_word(out: &mut [u8], i: usize, w: u32)
     ensures { out.new ≡ words_put out.old i (w ∷ []) }
 {
     let at = 4 * i;
-    out[at] = (w / 16777216) as u8;
-    out[at + 1] = (w / 65536 % 256) as u8;
-    out[at + 2] = (w / 256 % 256) as u8;
-    out[at + 3] = (w % 256) as u8;
+    out[at..at + 4].copy_from_slice(&w.to_be_bytes());
 }
 
 // The words of a sheet from one on, so many, become those of `out` from word `place` on.
@@ -48,9 +42,6 @@ pub fn write_words(s: &[u8], from: usize, count: usize, out: &mut [u8], place: u
     requires { (from + count ≤ words s.now) × (4 * (place + count) ≤ length out.old) }
     ensures { out.new ≡ words_put out.old place (words_from s.now from count) }
 {
-    let mut k = 0;
-    while k < count {
-        put_word(out, place + k, sheet::word_at(s, from + k));
-        k += 1;
-    }
+    let end = place + count;
+    out[4 * place..4 * end].copy_from_slice(&s[4 * from..4 * (from + count)]);
 }

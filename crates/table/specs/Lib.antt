@@ -1,3 +1,3 @@
 pub mod Countable
 pub mod Writable
-pub mod Fitting
+pub mod Fits

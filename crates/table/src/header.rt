@@ -9,10 +9,8 @@ fn write_counts(table: &mut [u32], counts: &[u64])
     requires { (header_length ≤ length table.old) × Countable counts.now }
     ensures { table.new ≡ sets table.old 1 (count_words counts.now) }
 {
-    let mut i = 0;
-    while i < counts.len() {
-        crate::words::write_count(table, 1 + 2 * i, counts[i]);
-        i += 1;
+    for (i, count) in counts.iter().enumerate() {
+        crate::words::write_count(table, 1 + 2 * i, *count);
     }
 }
 

@@ -2,16 +2,14 @@
 ghost use Rattle.std.specs.Prelude.{◌≡◌, ◌≤◌, length};
 ghost use Rattle.procedure.specs.Table.{key_word, key_words};
 
-use crate::words::KEY_KIND;
+use sheet::kind::Kind;
 
 // The word of an arc whose leaf has this own key, or none.
+#[tactic(auto, unfolding(sheet::specs::Words::top))]
 pub fn key_word(own: u32) -> u32
     ensures { result ≡ key_word own }
 {
-    if own < sheet::NONE {
-        return sheet::word_of(KEY_KIND, 1);
-    }
-    sheet::word_of(KEY_KIND, 0)
+    Kind::Key.word(u32::from(own < sheet::NONE))
 }
 
 // Writes the words of the first arcs, as many as there is room for.
@@ -19,9 +17,7 @@ pub fn write_keys(own: &[u32], words: &mut [u32])
     requires { length words.old ≤ length own.now }
     ensures { words.new ≡ key_words own.now (length words.old) }
 {
-    let mut a = 0;
-    while a < words.len() {
-        words[a] = key_word(own[a]);
-        a += 1;
+    for (a, word) in words.iter_mut().enumerate() {
+        *word = key_word(own[a]);
     }
 }

@@ -1,9 +1,11 @@
 // The answer table: its words, its length (21), what is read of it, and the table of a state written whole.
 #![tactic(auto)]
 
+pub mod form;
 pub mod header;
 pub mod keys;
 pub mod length;
+pub mod lent;
 pub mod read;
 pub mod words;
 
@@ -14,18 +16,16 @@ ghost use Rattle.table.specs.Writable.{Listed, Writable};
 
 use crate::words::HEADER;
 
-// Writes the label and the predecessor of each node, after the header.
+// Writes the label and the predecessor of each node, after the header. The two are slices, as they stand in a run's array.
 fn write_nodes(table: &mut [u32], labels: &[u32], predecessors: &[u32])
     requires { Listed labels.now predecessors.now (length table.old) }
     ensures { table.new ≡ sets table.old header_length
         (node_words labels.now predecessors.now (length labels.now)) }
 {
-    let mut v = 0;
-    while v < labels.len() {
-        let label = crate::words::label_word(labels[v]);
-        let predecessor = crate::words::predecessor_word(predecessors[v]);
-        crate::words::write_pair(table, HEADER + 2 * v, label, predecessor);
-        v += 1;
+    for (v, label) in labels.iter().enumerate() {
+        let first = crate::words::label_word(*label);
+        let second = crate::words::predecessor_word(predecessors[v]);
+        crate::words::write_pair(table, HEADER + 2 * v, first, second);
     }
 }
 

@@ -5,44 +5,33 @@ ghost use Rattle.procedure.specs.Table.{status_word, count_words};
 ghost use Rattle.sheet.specs.Words.{payloads, word_of};
 
 use sheet::COUNT_BASE;
+use sheet::kind::Kind;
 
 // How many words the counts take, and how many stand before those of the nodes: these, and the status.
 pub const COUNT_WORDS: usize = 2 * run_counts::array::COUNTS;
 
 pub const HEADER: usize = 1 + COUNT_WORDS;
 
-// The kinds of table words.
-pub const STATUS_KIND: u32 = 8;
-
-pub const LABEL_KIND: u32 = 9;
-
-pub const PREDECESSOR_KIND: u32 = 10;
-
-pub const COUNT_KIND: u32 = 11;
-
-pub const KEY_KIND: u32 = 12;
-
+// The word of the status.
 pub fn status_word(ended: bool) -> u32
     ensures { result ≡ status_word ended }
 {
-    if ended {
-        return sheet::word_of(STATUS_KIND, 1);
-    }
-    sheet::word_of(STATUS_KIND, 0)
+    Kind::Status.word(u32::from(ended))
 }
 
+// The words of a node.
 pub fn label_word(label: u32) -> u32
     requires { label < payloads }
     ensures { result ≡ word_of 9 label }
 {
-    sheet::word_of(LABEL_KIND, label)
+    Kind::Label.word(label)
 }
 
 pub fn predecessor_word(predecessor: u32) -> u32
     requires { predecessor < payloads }
     ensures { result ≡ word_of 10 predecessor }
 {
-    sheet::word_of(PREDECESSOR_KIND, predecessor)
+    Kind::Predecessor.word(predecessor)
 }
 
 // Writes a word at place i.
@@ -69,10 +58,5 @@ pub fn write_count(table: &mut [u32], i: usize, count: u64)
 {
     let high = (count / COUNT_BASE) as u32;
     let low = (count % COUNT_BASE) as u32;
-    write_pair(
-        table,
-        i,
-        sheet::word_of(COUNT_KIND, high),
-        sheet::word_of(COUNT_KIND, low),
-    );
+    write_pair(table, i, Kind::Count.word(high), Kind::Count.word(low));
 }

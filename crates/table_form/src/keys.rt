@@ -4,9 +4,9 @@ ghost use Rattle.indices.specs.Tests.{any};
 ghost use Rattle.sheet.specs.Limits.{most_nodes};
 ghost use Rattle.calls.specs.Tables.{long_length, key_place};
 ghost use Rattle.calls.specs.Routes.{wrong_key, wrong_keys};
-ghost use Rattle.table.specs.Fitting.{Fitting};
 
-use sheet::Sections;
+use sheet::kind::Kind;
+use table::lent::Table;
 
 // Whether the word of an arc, behind those of so many nodes, is not of its kind or above 1.
 fn wrong_key(table: &[u32], nodes: usize, a: usize) -> bool
@@ -14,10 +14,7 @@ fn wrong_key(table: &[u32], nodes: usize, a: usize) -> bool
     ensures { result ≡ wrong_key table.now nodes a }
 {
     let i = table::length::table_length(nodes) + a;
-    if crate::kinds::wrong_kind(table, i, table::words::KEY_KIND) {
-        return true;
-    }
-    table::read::payload_at(table, i) > 1
+    !Kind::Key.is_of(table[i]) || table::read::payload_at(table, i) > 1
 }
 
 // Whether the word of one of so many arcs is wrong.
@@ -25,23 +22,14 @@ fn some_wrong_key(table: &[u32], nodes: usize, arcs: usize) -> bool
     requires { (nodes ≤ most_nodes) × (long_length nodes arcs ≤ length table.now) }
     ensures { result ≡ any (wrong_key table.now nodes) arcs }
 {
-    let mut a = 0;
-    while a < arcs {
-        if wrong_key(table, nodes, a) {
-            return true;
-        }
-        a += 1;
-    }
-    false
+    (0..arcs).any(|a| wrong_key(table, nodes, a))
 }
 
 // Whether a key word is wrong: in the usual form there are none.
-pub fn wrong_keys(s: &[u8], sections: Sections, table: &[u32]) -> bool
-    requires { Fitting s.now sections table.now }
-    ensures { result ≡ wrong_keys s.now table.now }
+#[tactic(auto, using(judgement::proofs::Accepted::few_nodes, calls::proofs::Outcome::long_length_lem), unfolding(calls::specs::Routes::wrong_keys))]
+pub fn wrong_keys(table: &Table) -> bool
+    ensures { result ≡ wrong_keys table.now.sheet.now table.now.words.now }
 {
-    if !table::read::is_long(s, sections, table) {
-        return false;
-    }
-    some_wrong_key(table, sheet::node_count(s) as usize, sections.arcs)
+    let s = table.sheet;
+    table.is_long() && some_wrong_key(table.words, s.node_count() as usize, s.arcs())
 }

@@ -12,7 +12,8 @@ use Rattle.theory_shortest.specs.TableTest.{unfed_test}
 use Rattle.calls.specs.Tables.{labels_in, predecessors_in}
 use Rattle.calls.specs.LongTables.{has_key}
 use Rattle.calls.specs.Possible.{table_labels, table_predecessors, feeder_test, keyless_test, done_test, sound_test}
-use Rattle.table.specs.Fitting.{labels, predecessors}
+use Rattle.table.specs.Fits.{labels, predecessors}
+use Rattle.table_shortest.specs.declared.nodes.Allowed.TheVariants.{NotBelow}
 use Rattle.table_shortest.specs.ArcChecks.{source_fits}
 use Rattle.table_shortest.specs.NodeChecks.{node_fits}
 use Rattle.table_shortest.specs.WalkChecks.{node_led}
@@ -22,7 +23,7 @@ use Rattle.table_possible.specs.Held.{arc_held, label_bounded}
 -- source, nodes, that all lead back, arcs, and the bound
 abbrev pub sound_parts : List ℕ → List ℕ → Bool
 sound_parts b table =
-    source_fits b table && (all (node_fits b table false) (node_count b)
+    source_fits b table && (all (node_fits b table NotBelow) (node_count b)
     && (all (node_led b table) (node_count b) && (all (arc_held b table) (arc_count b) && all (label_bounded b table) (node_count b))))
 
 regroup : (s f l u k d h : Bool) → (s && (f && l)) && ((u && k) && (d && h)) ≡ s && ((u && f) && (l && ((k && d) && h)))

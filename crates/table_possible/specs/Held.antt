@@ -5,7 +5,7 @@ use Rattle.procedure.specs.OfSheet.{graph_of}
 use Rattle.calls.specs.Tables.{label_in}
 use Rattle.calls.specs.LongTables.{has_key}
 use Rattle.calls.specs.Possible.{bound_test, keyless_test, done_test}
-use Rattle.table.specs.Fitting.{labels, predecessors}
+use Rattle.table.specs.Fits.{labels, predecessors}
 
 module _ (b table : List ℕ) where
   -- both tests of arc a

@@ -2,39 +2,28 @@
 ghost use Rattle.std.specs.Prelude.{◌≡◌, ◌<◌};
 ghost use Rattle.indices.specs.Tests.{all};
 ghost use Rattle.sheet.specs.Sections.{arc_count};
-ghost use Rattle.table.specs.Fitting.{Long};
 ghost use Rattle.table_possible.specs.Held.{arc_held};
 
-use sheet::{Arc, Sections};
+use sheet::Arc;
+use table::lent::LongTable;
 
 // Whether an arc has no key if its tail is unreached, and else a key or no higher label at its head than it gives.
-fn arc_held(s: &[u8], sections: Sections, table: &[u32], a: Arc) -> bool
-    requires { Long s.now sections table.now × (a.0 < arc_count s.now) }
-    ensures { result ≡ arc_held s.now table.now a.0 }
+#[tactic(auto, using(crate::proofs::arcs::Checked::arc_steps), unfolding(sheet::specs::Words::top))]
+fn arc_held(long: &LongTable, a: Arc) -> bool
+    requires { a.0 < arc_count long.now.table.sheet.now }
+    ensures { result ≡ arc_held long.now.table.sheet.now long.now.table.words.now a.0 }
 {
-    let keyed = table::read::has_key(s, table, a);
-    let from = table::read::label_of(table, sheet::fields::end_at(s, sections, a, false));
+    let keyed = long.has_key(a);
+    let from = long.table.label(long.table.sheet.tail(a));
     if from == sheet::NONE {
         return !keyed;
     }
-    if keyed {
-        return true;
-    }
-    table_shortest::arcs::arc_relaxed(s, sections, table, a)
+    keyed || table_shortest::arcs::arc_relaxed(&long.table, a)
 }
 
 // Whether every arc is so.
-pub fn arcs_held(s: &[u8], sections: Sections, table: &[u32]) -> bool
-    requires { Long s.now sections table.now }
-    ensures { result ≡ all (arc_held s.now table.now) (arc_count s.now) }
+pub fn arcs_held(long: &LongTable) -> bool
+    ensures { result ≡ all (arc_held long.now.table.sheet.now long.now.table.words.now) (arc_count long.now.table.sheet.now) }
 {
-    let arcs = sections.arcs as u16;
-    let mut a: u16 = 0;
-    while a < arcs {
-        if !arc_held(s, sections, table, Arc(a)) {
-            return false;
-        }
-        a += 1;
-    }
-    true
+    (0..long.table.sheet.arcs() as u16).all(|a| arc_held(long, Arc(a)))
 }

@@ -6,10 +6,11 @@ ghost use Rattle.sheet.specs.Sections.{span_count};
 ghost use Rattle.procedure.specs.Table.{inner_place, counts_length};
 ghost use Rattle.calls.specs.Tables.{table_length, count_in};
 ghost use Rattle.calls.specs.Possible.{counts_test};
-ghost use Rattle.table.specs.Fitting.{Fitting};
 
 use run_counts::array::{COUNTS, INNER_PLACE};
-use sheet::{MOST_SPANS, Sections};
+use sheet::MOST_SPANS;
+use table::lent::Table;
+use table::read::count_of;
 
 // 2^55, which a count stays below.
 const COUNT_LIMIT: u64 = 36028797018963968;
@@ -19,38 +20,21 @@ fn counts_below(table: &[u32]) -> bool
     requires { table_length 0 ≤ length table.now }
     ensures { result ≡ all (λ i. ltb (count_in table.now i) (2 ^ 55)) counts_length }
 {
-    let mut i = 0;
-    while i < COUNTS {
-        if table::read::count_of(table, i) >= COUNT_LIMIT {
-            return false;
-        }
-        i += 1;
-    }
-    true
+    (0..COUNTS).all(|i| count_of(table, i) < COUNT_LIMIT)
 }
 
 // Whether the heights from the number of spans on, which are unused, have counts of 0.
 fn unused_zero(table: &[u32], spans: usize) -> bool
-    requires { (spans ≤ most_spans) × (table_length 0 ≤ length table.now) }
+    requires { table_length 0 ≤ length table.now }
     ensures { result ≡ all (λ i. ltb i spans || eqb (count_in table.now (inner_place + i)) 0) most_spans }
 {
-    let mut i = spans;
-    while i < MOST_SPANS {
-        if table::read::count_of(table, INNER_PLACE + i) != 0 {
-            return false;
-        }
-        i += 1;
-    }
-    true
+    (0..MOST_SPANS).all(|i| i < spans || count_of(table, INNER_PLACE + i) == 0)
 }
 
 // Whether every count is below the limit, and 0 at unused heights.
-pub fn counts_held(s: &[u8], sections: Sections, table: &[u32]) -> bool
-    requires { Fitting s.now sections table.now }
-    ensures { result ≡ counts_test (span_count s.now) table.now }
+#[tactic(auto, unfolding(calls::specs::Possible::counts_test))]
+pub fn counts_held(table: &Table) -> bool
+    ensures { result ≡ counts_test (span_count table.now.sheet.now) table.now.words.now }
 {
-    if !counts_below(table) {
-        return false;
-    }
-    unused_zero(table, sections.spans)
+    counts_below(table.words) && unused_zero(table.words, table.sheet.spans())
 }

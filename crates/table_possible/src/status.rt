@@ -5,34 +5,26 @@ ghost use Rattle.sheet.specs.Sections.{arc_count};
 ghost use Rattle.procedure.specs.OfSheet.{graph_of};
 ghost use Rattle.calls.specs.LongTables.{has_key};
 ghost use Rattle.calls.specs.Possible.{status_test};
-ghost use Rattle.table.specs.Fitting.{Long};
 
-use sheet::{Arc, Sections};
+use sheet::Arc;
+use table::lent::LongTable;
 
 // Whether something has a key.
-fn some_key(s: &[u8], sections: Sections, table: &[u32]) -> bool
-    requires { Long s.now sections table.now }
-    ensures { result ≡ any (has_key (graph_of s.now) table.now) (arc_count s.now) }
+fn some_key(long: &LongTable) -> bool
+    ensures { result ≡ any (has_key (graph_of long.now.table.sheet.now) long.now.table.words.now) (arc_count long.now.table.sheet.now) }
 {
-    let arcs = sections.arcs as u16;
-    let mut a: u16 = 0;
-    while a < arcs {
-        if table::read::has_key(s, table, Arc(a)) {
-            return true;
-        }
-        a += 1;
-    }
-    false
+    (0..long.table.sheet.arcs() as u16).any(|a| long.has_key(Arc(a)))
 }
 
 // Whether the status is 0 if something has a key, and else 1.
-pub fn status_held(s: &[u8], sections: Sections, table: &[u32]) -> bool
-    requires { Long s.now sections table.now }
-    ensures { result ≡ status_test (graph_of s.now) table.now }
+#[tactic(auto, using(procedure::proofs::OfSheet::graph_arcs), unfolding(calls::specs::Possible::status_test))]
+pub fn status_held(long: &LongTable) -> bool
+    ensures { result ≡ status_test (graph_of long.now.table.sheet.now) long.now.table.words.now }
 {
-    let status = table::read::status_of(table);
-    if some_key(s, sections, table) {
-        return status == 0;
+    let status = table::read::status_of(long.table.words);
+    if some_key(long) {
+        status == 0
+    } else {
+        status == 1
     }
-    status == 1
 }

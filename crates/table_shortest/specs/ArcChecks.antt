@@ -2,7 +2,7 @@
 use Rattle.std.specs.Prelude.{ℕ, Bool, List}
 use Rattle.procedure.specs.OfSheet.{graph_of}
 use Rattle.theory_shortest.specs.TableTest.{source_test, relaxed_test}
-use Rattle.table.specs.Fitting.{labels, predecessors}
+use Rattle.table.specs.Fits.{labels, predecessors}
 
 module _ (b table : List ℕ) where
   abbrev pub source_fits : Bool

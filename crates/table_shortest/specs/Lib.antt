@@ -2,4 +2,3 @@ pub mod ArcChecks
 pub mod NodeChecks
 pub mod WalkChecks
 pub mod Stamps
-pub mod Numbers

@@ -1,13 +1,12 @@
 -- Stamps: a number at each node that a walk back along predecessors has passed. Definitions.
 use Rattle.std.specs.Prelude.{ℕ, pred, ◌+◌, ◌≤◌, ◌<◌, Bool, true, ◌≡◌, ◌≢◌, List, length}
 use Rattle.indices.specs.Columns.{at}
-use Rattle.sheet.specs.declared.Sections.{Sections}
 use Rattle.sheet.specs.Words.{top}
 use Rattle.sheet.specs.Sections.{node_count, source}
 use Rattle.procedure.specs.Graph.{arcs}
 use Rattle.procedure.specs.OfSheet.{graph_of}
 use Rattle.theory_shortest.specs.TableTest.{leads_back}
-use Rattle.table.specs.Fitting.{Fitting, labels, predecessors, node_before}
+use Rattle.table.specs.Fits.{labels, predecessors, node_before}
 use Rattle.sheet.specs.Limits.{node_numbers}
 
 -- v's predecessor is an arc, and leads from a reached node
@@ -16,8 +15,7 @@ pub record Onward (b table : List ℕ) (v : ℕ) : Type 0 where
   pub from_reached : at (labels b table) (node_before b table v) ≢ top
 
 -- predecessors that can be followed back: every node but the source that is reached has one, from a reached node
-pub record Followable (b : List ℕ) (sections : Sections) (table : List ℕ) : Type 0 where
-  pub fitting : Fitting b sections table
+pub record Followable (b table : List ℕ) : Type 0 where
   pub onward : (v : ℕ) → v < node_count b → at (labels b table) v ≢ top → v ≢ source b → Onward b table v
 
 -- v leads back to the source
@@ -33,7 +31,7 @@ pub record Stamped (b table stamps : List ℕ) (v : ℕ) : Type 0 where
   pub led : (w : ℕ) → w < node_count b → at stamps w ≢ 0 → leads b table w ≡ true
 
 -- a node from which a walk is to go, with the stamps of the walks from the nodes below it
-pub record Walkable (b : List ℕ) (sections : Sections) (table stamps : List ℕ) (v : ℕ) : Type 0 where
-  pub followable : Followable b sections table
+pub record Walkable (b table stamps : List ℕ) (v : ℕ) : Type 0 where
+  pub followable : Followable b table
   pub inside : v < node_count b
   pub stamped : Stamped b table stamps v

@@ -7,42 +7,37 @@ pub mod walk;
 
 ghost use Rattle.std.specs.Prelude.{◌≡◌};
 ghost use Rattle.answer.specs.Answer.{accepted, lowest};
+ghost use Rattle.answer.specs.Reasons.{checked};
 ghost use Rattle.calls.specs.Routes.{not_shortest, table_refusals};
-ghost use Rattle.table.specs.Fitting.{Fitting};
-ghost use Rattle.table_shortest.specs.Numbers.{state_numbered};
 
-use sheet::Sections;
+use crate::nodes::Allowed;
+use answer::reason::Reason;
+use table::lent::Table;
 
 // Refusal 24: a distance is not the shortest, or the predecessors are no routes of those lengths.
-fn not_shortest(s: &[u8], sections: Sections, table: &[u32]) -> bool
-    requires { Fitting s.now sections table.now }
-    ensures { result ≡ not_shortest s.now table.now }
+#[tactic(auto, using(crate::proofs::Parts::shortest_parts, crate::proofs::Parts::fit_followable))]
+fn not_shortest(table: &Table) -> bool
+    ensures { result ≡ not_shortest table.now.sheet.now table.now.words.now }
 {
-    if !crate::arcs::source_fits(s, sections, table) {
-        return true;
-    }
-    if !crate::nodes::nodes_fit(s, sections, table, true) {
-        return true;
-    }
-    if !crate::arcs::arcs_relaxed(s, sections, table) {
-        return true;
-    }
-    !crate::walk::nodes_led(s, sections, table)
+    !(crate::arcs::source_fits(table)
+        && crate::nodes::nodes_fit(table, Allowed::Exactly)
+        && crate::arcs::arcs_relaxed(table)
+        && crate::walk::nodes_led(table))
 }
 
-// Refusals 22 to 24 of a table that has its length: the number, or 0.
-pub fn table_refusal(s: &[u8], sections: Sections, table: &[u32]) -> u8
-    requires { Fitting s.now sections table.now }
-    ensures { state_numbered result ≡ lowest (table_refusals s.now table.now) accepted }
+// Refusals 22 to 24 of a table that fits its sheet.
+#[tactic(auto, unfolding(calls::specs::Routes::table_refusals))]
+pub fn check_table(table: &Table) -> Result<(), Reason>
+    ensures { checked result ≡ lowest (table_refusals table.now.sheet.now table.now.words.now) accepted }
 {
-    if table_form::malformed(s, sections, table) {
-        return 22;
+    if table_form::malformed(table) {
+        return Err(Reason::Malformed);
     }
-    if table_form::is_paused(table) {
-        return 23;
+    if table_form::is_paused(table.words) {
+        return Err(Reason::Paused);
     }
-    if not_shortest(s, sections, table) {
-        return 24;
+    if not_shortest(table) {
+        return Err(Reason::NotShortest);
     }
-    0
+    Ok(())
 }

@@ -1,63 +1,69 @@
 // Tests of a lent table at the nodes: labels that fit their predecessors, exactly (24) or not below what these give (33).
 ghost use Rattle.std.specs.Prelude.{◌≡◌, ◌<◌};
 ghost use Rattle.indices.specs.Tests.{all};
-ghost use Rattle.sheet.specs.Sections.{node_count};
-ghost use Rattle.table.specs.Fitting.{Fitting};
-ghost use Rattle.table_shortest.specs.NodeChecks.{feeds, node_fits, Tried};
+ghost use Rattle.sheet.specs.Sections.{node_count, arc_count};
+ghost use Rattle.table_shortest.specs.NodeChecks.{allowed, feeds, node_fits};
 
-use sheet::{Arc, Node, Sections};
+use sheet::{Arc, Node};
+use table::lent::Table;
 
-// Whether an arc leads to v from a reached node, and v's label is exactly the tail's plus the length, hold added, or, where that is not asked, not below it.
-fn feeds(s: &[u8], sections: Sections, table: &[u32], exact: bool, a: Arc, v: Node) -> bool
-    requires { Tried s.now sections table.now a.0 v.0 }
-    ensures { result ≡ feeds s.now table.now exact a.0 v.0 }
+// What a label may be, beside the sum of its feeder's label and the length, hold added: exactly that, as 24 asks, or not below it, as 33 does.
+#[derive(Clone, Copy)]
+pub enum Allowed {
+    Exactly,
+    NotBelow,
+}
+
+impl Allowed {
+    fn allows(self, sum: u32, label: u32) -> bool
+        ensures { result ≡ allowed self sum label }
+    {
+        match self {
+            Allowed::Exactly => sum == label,
+            Allowed::NotBelow => sum <= label,
+        }
+    }
+}
+
+// Whether an arc leads to v from a reached node, and v's label is allowed by the tail's label and the length, hold added.
+#[tactic(auto, using(crate::proofs::nodes::Checked::feeder_steps), unfolding(sheet::specs::Words::top))]
+fn feeds(table: &Table, allowed: Allowed, a: Arc, v: Node) -> bool
+    requires { (a.0 < arc_count table.now.sheet.now) × (v.0 < node_count table.now.sheet.now) }
+    ensures { result ≡ feeds table.now.sheet.now table.now.words.now allowed a.0 v.0 }
 {
-    let to = sheet::fields::end_at(s, sections, a, true);
-    if to.0 != v.0 {
+    if table.sheet.head(a) != v {
         return false;
     }
-    let from = table::read::label_of(table, sheet::fields::end_at(s, sections, a, false));
+    let from = table.label(table.sheet.tail(a));
     if from == sheet::NONE {
         return false;
     }
-    let sum = from + sheet::fields::taken_length_at(s, sections, a);
-    let label = table::read::label_of(table, v);
-    if exact {
-        return sum == label;
-    }
-    sum <= label
+    let sum = from + table.sheet.taken_length(a);
+    allowed.allows(sum, table.label(v))
 }
 
 // Whether a node has the predecessor that its label asks for: none if it is unreached, and else, but for the source, an arc that feeds it.
-fn node_fits(s: &[u8], sections: Sections, table: &[u32], exact: bool, v: Node) -> bool
-    requires { Fitting s.now sections table.now × (v.0 < node_count s.now) }
-    ensures { result ≡ node_fits s.now table.now exact v.0 }
+#[tactic(auto, using(crate::proofs::nodes::Checked::node_steps), unfolding(sheet::specs::Words::top))]
+fn node_fits(table: &Table, allowed: Allowed, v: Node) -> bool
+    requires { v.0 < node_count table.now.sheet.now }
+    ensures { result ≡ node_fits table.now.sheet.now table.now.words.now allowed v.0 }
 {
-    let a = table::read::predecessor_of(table, v);
-    if table::read::label_of(table, v) == sheet::NONE {
+    let a = table.predecessor(v);
+    if table.label(v) == sheet::NONE {
         return a == sheet::NONE;
     }
-    if v.0 as u32 == sheet::source_number(s) {
+    if u32::from(v.0) == table.sheet.source_number() {
         return true;
     }
-    if a as usize >= sections.arcs {
+    if a as usize >= table.sheet.arcs() {
         return false;
     }
-    feeds(s, sections, table, exact, Arc(a as u16), v)
+    feeds(table, allowed, Arc(a as u16), v)
 }
 
 // Whether every node fits.
-pub fn nodes_fit(s: &[u8], sections: Sections, table: &[u32], exact: bool) -> bool
-    requires { Fitting s.now sections table.now }
-    ensures { result ≡ all (node_fits s.now table.now exact) (node_count s.now) }
+pub fn nodes_fit(table: &Table, allowed: Allowed) -> bool
+    ensures { result ≡ all (node_fits table.now.sheet.now table.now.words.now allowed) (node_count table.now.sheet.now) }
 {
-    let nodes = sheet::node_count(s) as u16;
-    let mut v: u16 = 0;
-    while v < nodes {
-        if !node_fits(s, sections, table, exact, Node(v)) {
-            return false;
-        }
-        v += 1;
-    }
-    true
+    (0..table.sheet.node_count() as u16).all(|v| node_fits(table, allowed, Node(v)))
 }

@@ -4,9 +4,6 @@ use Rattle.answer.specs.Said.{judge_said}
 use Rattle.calls.proofs.Canonical.{refused_sheet}
 use Rattle.canonical.proofs.canonical.Goals as goal
 
-pub canonical_accepted-requires : goal.canonical_accepted-requires
-canonical_accepted-requires c = record { judged = sym c.judge-judged.ensures ∙ ap judge_said c.in-Accepted.is }
-
 pub returns-in-Refused : goal.returns-in-Refused
 returns-in-Refused c =
     let done = refused_sheet _ _ _ (sym c.judge-judged.ensures ∙ ap judge_said c.in-Refused.is) in

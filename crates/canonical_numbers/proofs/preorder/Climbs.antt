@@ -1,16 +1,16 @@
 -- The climbs from all arcs: none had its turn before the first, and after the last every region but 0 did, since it holds an arc.
-use Prim.Native.Nat.{ℕ, ◌≤◌, ◌<◌}
+use Prim.Native.Nat.{ℕ, ◌<◌}
 use mathlib.Core.Bool.{Bool, false, cond}
 use mathlib.Core.Path.{◌≡◌, refl, sym, ap, ◌∙◌}
 use mathlib.Core.List.{List}
 use native.Mathlib.Omega.{arith}
-use borrow.Author.Tests.{lt-ltb, le-ltb}
+use borrow.Author.Tests.{le-ltb}
 use lib.ListN.{length, set, length-set, replicate, length-replicate, get_or-replicate}
 use Rattle.indices.proofs.Steps.{set_elim}
 use Rattle.run_arrays.specs.Rows.{row_leaf}
 use Rattle.procedure.specs.Division.{Division, regions}
 use Rattle.canonical_form.specs.Numbering.{lowest_arc, rise}
-use Rattle.canonical_numbers.specs.Numbers.{passed, Rising, Ready, Starting, Risen}
+use Rattle.canonical_numbers.specs.Numbers.{passed, Rising, Ready, Starting}
 use Rattle.canonical_numbers.proofs.preorder.Counted.{counted_none}
 use Rattle.canonical_numbers.proofs.preorder.Rises.{passed_none}
 
@@ -36,12 +36,3 @@ module _ {d : Division} {m : ℕ} {parents sizes arcRows : List ℕ} (A : Starti
 
   pub climb_ready : {a : ℕ} {nexts rises : List ℕ} → a < m → Rising d a (regions d) nexts rises → Ready d a parents sizes (row_leaf arcRows a) nexts rises
   climb_ready {a} l R = record { laid = A.laid; sized = A.sized; leaf_of_lem = A.leaves a l; rising = R }
-
-  pub rising_ends : {a : ℕ} {nexts rises : List ℕ} → m ≤ a → Rising d a (regions d) nexts rises → Risen d rises
-  rising_ends {a} l R = record {
-    all = R.all;
-    same =
-        λ c pos lc.
-        R.risen c pos lc
-        ∙ ap (λ (b : Bool). cond b (rise d c) 0) (passed_none d a c lc ∙ lt-ltb (lowest_arc d c) a (omega (arith, A.arcs c pos lc)));
-  }

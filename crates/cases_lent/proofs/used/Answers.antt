@@ -1,28 +1,18 @@
--- `used` meets its contract: the words passed, from the last on, hold the filling.
-use mathlib.Core.Path.{sym, ◌∙◌}
-use borrow.Author.Rules.{rules}
-use borrow.Author.Tests.{eq-eqb, ne_eqb}
-use native.Mathlib.Omega.{arith}
+-- `used` meets its contract: those passed, from the last on, hold the filling.
+use Rattle.std.proofs.Common.{◌∙◌, arith}
 use Rattle.cases_lent.specs.Used.{used}
-use Rattle.cases_lent.proofs.Back.{last_used, last_unused, none_used}
+use Rattle.cases_lent.proofs.Back.{none_used, last_used, last_unused}
 use Rattle.cases_lent.proofs.used.Goals as goal
 
-pub loop-n-init : goal.loop-n-init
+pub returns-then-ne : goal.returns-then-ne
 unfolding used
-loop-n-init c = search rules
+returns-then-ne g c =
+    let last = last_used _ _ _ _ c.index-lent-k.is c.FILLING.ensures (omega arith) c.loop-k.auto.k c.if-ne.ensures in
+    (last ∙ c.loop-k.invariant, omega arith)
 
-pub returns-then-words-last : goal.returns-then-words-last
-unfolding used
-returns-then-words-last c = (sym (last_used _ _ _ _ (omega arith) (ne_eqb _ _ c.if-words-last.true)) ∙ c.loop-n.invariant.1, omega arith)
-
-pub loop-n-smaller : goal.loop-n-smaller
-unfolding used
-loop-n-smaller c = search rules
-
-pub loop-n-preserved : goal.loop-n-preserved
-unfolding used
-loop-n-preserved c = (omega arith, last_unused _ _ _ _ (omega arith) (eq-eqb _ _ c.if-words-last.false) ∙ c.loop-n.invariant.1)
+pub loop-k-preserved : goal.loop-k-preserved
+loop-k-preserved g c = last_unused _ _ _ _ c.index-lent-k.is c.FILLING.ensures (omega arith) c.loop-k.auto.k c.if-ne.ensures ∙ c.loop-k.invariant
 
 pub returns : goal.returns
 unfolding used
-returns c = (sym (none_used _ _ _ (omega arith)) ∙ c.loop-n.invariant.1, omega arith)
+returns g c = (none_used _ _ _ _ c.loop-k-test.false ∙ c.loop-k.invariant, omega arith)

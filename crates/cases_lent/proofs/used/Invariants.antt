@@ -1,11 +1,7 @@
-use Prim.Native.Nat.{◌≤◌}
-use mathlib.Core.Path.{◌≡◌}
-use lib.ListN.{length}
-use Rattle.cases_lent.specs.Used.{filling, used_below}
+use Rattle.std.proofs.Common.{◌≡◌, length}
+use Rattle.cases_lent.specs.Used.{used_below}
 use Rattle.cases_lent.proofs.used.Given as goal
 
-abbrev pub invariant-loop-n : goal.invariant-loop-n
-invariant-loop-n l = (l.n ≤ length l.words) × (used_below filling l.words l.n ≡ used_below filling l.words (length l.words))
-
-abbrev pub decreases-loop-n : goal.decreases-loop-n
-decreases-loop-n l = l.n
+-- those from k on hold the filling
+abbrev pub invariant-loop-k : goal.invariant-loop-k
+invariant-loop-k g l = used_below g.T.PartialEq.eq g.T.Lent.FILLING l.lent l.k ≡ used_below g.T.PartialEq.eq g.T.Lent.FILLING l.lent (length l.lent)

@@ -1,6 +1,6 @@
 -- The word of a region that is kept, with its parent and its arc under their new numbers, at the place of its own.
 use Rattle.std.specs.Prelude.{if◌then◌else◌}
-use Prim.Native.Nat.{ℕ, suc, ◌+◌, ◌-◌, ◌*◌, ◌<◌, ◌≤◌}
+use Prim.Native.Nat.{ℕ, suc, ◌+◌, ◌*◌, ◌<◌, ◌≤◌}
 use mathlib.Core.Bool.{true, false, not}
 use mathlib.Core.List.{List, [], ◌∷◌}
 use mathlib.Core.Path.{◌≡◌, sym, ap, ◌∙◌}
@@ -24,7 +24,6 @@ use Rattle.conversion.proofs.Regions.{leaf_kept, parent_kept, new_of_word, new_l
 use Rattle.conversion_numbers.specs.Numbers.{dropped, ArcsNumbered, Numbered}
 use Rattle.conversion_numbers.proofs.Numbering.{number_kept, number_tells}
 use Rattle.conversion_numbers.proofs.regions.Regions.{few, parents, arc_there}
-use Rattle.conversion_words.specs.Writing.{RegionsWritable}
 
 -- how many of the words before word k are kept
 abbrev pub before : List ℕ → ℕ → ℕ
@@ -107,24 +106,19 @@ module _ {b d arcs regions : List ℕ} (N : Numbered b d arcs regions) (k : ℕ)
         unfolding new_word
         leaf_word_lem = rw (← A.words_of, leaf, parent_number, is, arc_number, of)
 
-module _ {b d arcs regions out : List ℕ} {place : ℕ} (W : RegionsWritable b d arcs regions out place) where
-  -- a buffer as long as that
-  pub regions_still : {now : List ℕ} → length now ≡ length out → RegionsWritable b d arcs regions now place
-  regions_still same = record { numbered = W.numbered; room = omega (arith, W.room) }
+module _ {b d arcs regions : List ℕ} (N : Numbered b d arcs regions) (k : ℕ) (l : k < words d) where
+  -- nothing is written of a region that is not kept
+  pub none_written : (out : List ℕ) (place : ℕ) → at regions (k + 1) ≡ dropped → out ≡ words_put out (place + before b k) (word_if_kept b k)
+  none_written out place e = rw (region_dropped N k l e) (sym (put_none out (place + before b k)))
 
-  module _ (k : ℕ) (l : k < words d) where
-    -- nothing is written of a region that is not kept
-    pub none_written : at regions (k + 1) ≡ dropped → out ≡ words_put out (place + before b k) (word_if_kept b k)
-    none_written e = rw (region_dropped W.numbered k l e) (sym (put_none out (place + before b k)))
+  module _ (e : at regions (k + 1) ≡ dropped → ⊥) where
+    -- the place of its word
+    pub word_place : (place i : ℕ) → i ≡ at regions (k + 1) → place + i ≡ place + before b k + 1
+    word_place place i is = omega (arith, number_is N k l (region_kept N k l e))
 
-    module _ (e : at regions (k + 1) ≡ dropped → ⊥) where
-      -- the place of its word
-      word_place : place + at regions (k + 1) - 1 ≡ place + before b k
-      word_place = omega (arith, number_is W.numbered k l (region_kept W.numbered k l e))
+    pub word_room : (place size : ℕ) → 4 * (place + length (converted_regions b)) ≤ size → 4 * (place + before b k) + 4 ≤ size
+    word_room place size room = omega (arith, before_few N k l (region_kept N k l e))
 
-      pub word_room : 4 * (place + before b k) + 4 ≤ length out
-      word_room = omega (arith, W.room, before_few W.numbered k l (region_kept W.numbered k l e))
-
-      pub word_written : {out' : List ℕ} (i w : ℕ) → i ≡ place + at regions (k + 1) - 1 → w ≡ new_word b k → out' ≡ words_put out i (w ∷ [])
-          → out' ≡ words_put out (place + before b k) (word_if_kept b k)
-      word_written i w to is e' = e' ∙ rw (to, word_place, is, region_kept W.numbered k l e)
+    pub word_written : (out : List ℕ) {out' : List ℕ} (place i w : ℕ) → i ≡ place + before b k → w ≡ new_word b k → out' ≡ words_put out i (w ∷ [])
+        → out' ≡ words_put out (place + before b k) (word_if_kept b k)
+    word_written out place i w to is e' = e' ∙ rw (to, is, region_kept N k l e)

@@ -5,9 +5,9 @@ use Rattle.calls.proofs.Convert.{refused_sheet}
 use Rattle.convert.proofs.convert.Goals as goal
 
 pub convert_sheet-requires : goal.convert_sheet-requires
-convert_sheet-requires c = record { judged = sym c.judge_convertible-judged.ensures ∙ ap judge_said c.in-Accepted.is }
+convert_sheet-requires c = record { judged = sym c.judge_convertible.ensures ∙ ap judge_said c.in-Accepted.is }
 
 pub returns-in-Refused : goal.returns-in-Refused
 returns-in-Refused c =
-    let done = refused_sheet _ _ _ (sym c.judge_convertible-judged.ensures ∙ ap judge_said c.in-Refused.is) in
+    let done = refused_sheet _ _ _ (sym c.judge_convertible.ensures ∙ ap judge_said c.in-Refused.is) in
     (sym done.0, sym done.1)

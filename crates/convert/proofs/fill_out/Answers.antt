@@ -1,12 +1,9 @@
 -- `fill_out` meets its contract: what is kept is numbered; 31 where the buffer is too short for it, and otherwise it is written.
-use borrow.Author.Tests.{ltb-true, ltb-false}
-use Prim.Native.Nat.{ℕ, ◌+◌, ◌*◌, ◌≤◌, ◌<◌}
-use mathlib.Core.Bool.{Bool, true, false}
+use Prim.Native.Nat.{ℕ, ◌+◌, ◌*◌, ◌≤◌}
 use mathlib.Core.Path.{◌≡◌, sym, ap, ◌∙◌}
 use mathlib.Core.List.{List}
 use native.Mathlib.Omega.{arith}
 use lib.ListN.{length}
-use lib.Dec.{ltb}
 use Rattle.sheet.specs.Limits.{most_bytes}
 use Rattle.answer.specs.Answer.{written}
 use Rattle.judgement.specs.Judgement.{Convertible}
@@ -31,52 +28,40 @@ sized {b} ok C = record {
   few = omega (arith, new_bytes b ok, no_longer b ok, few_words b (none_applies b ok).size);
 }
 
--- the buffer is too short for the converted sheet, or it has room
-short : {b : List ℕ} (out : List ℕ) {kept : Kept} {r : Bool} → Sized b kept
-    → r ≡ ltb (length out) (4 * (2 + kept.spans + kept.holds + 2 * kept.arcs + kept.words)) → r ≡ true → length out < length (converted b)
-short out f told e = ltb-true _ _ (sym (told ∙ ap (ltb (length out)) f.bytes) ∙ e)
-
-room : {b : List ℕ} (out : List ℕ) {kept : Kept} {r : Bool} → Sized b kept
-    → r ≡ ltb (length out) (4 * (2 + kept.spans + kept.holds + 2 * kept.arcs + kept.words)) → r ≡ false → length (converted b) ≤ length out
-room out f told e = ltb-false _ _ (sym (told ∙ ap (ltb (length out)) f.bytes) ∙ e)
-
 pub overflow_add-bytes : goal.overflow_add-bytes
-overflow_add-bytes c = let f = sized c.requires.convertible c.number_kept-kept.ensures.1 in omega arith
+overflow_add-bytes c = let f = sized c.requires c.number_kept-kept.ensures.1 in omega arith
 
 pub overflow_add-bytes-2 : goal.overflow_add-bytes-2
-overflow_add-bytes-2 c = let f = sized c.requires.convertible c.number_kept-kept.ensures.1 in omega arith
+overflow_add-bytes-2 c = let f = sized c.requires c.number_kept-kept.ensures.1 in omega arith
 
 pub overflow_mul-bytes : goal.overflow_mul-bytes
-overflow_mul-bytes c = let f = sized c.requires.convertible c.number_kept-kept.ensures.1 in omega arith
+overflow_mul-bytes c = let f = sized c.requires c.number_kept-kept.ensures.1 in omega arith
 
 pub overflow_add-bytes-3 : goal.overflow_add-bytes-3
-overflow_add-bytes-3 c = let f = sized c.requires.convertible c.number_kept-kept.ensures.1 in omega arith
+overflow_add-bytes-3 c = let f = sized c.requires c.number_kept-kept.ensures.1 in omega arith
 
 pub overflow_add-bytes-4 : goal.overflow_add-bytes-4
-overflow_add-bytes-4 c = let f = sized c.requires.convertible c.number_kept-kept.ensures.1 in omega arith
+overflow_add-bytes-4 c = let f = sized c.requires c.number_kept-kept.ensures.1 in omega arith
 
 pub overflow_mul-bytes-2 : goal.overflow_mul-bytes-2
-overflow_mul-bytes-2 c = let f = sized c.requires.convertible c.number_kept-kept.ensures.1 in omega arith
+overflow_mul-bytes-2 c = let f = sized c.requires c.number_kept-kept.ensures.1 in omega arith
 
 pub overflow_cast-count : goal.overflow_cast-count
-overflow_cast-count c = let f = sized c.requires.convertible c.number_kept-kept.ensures.1 in omega arith
+overflow_cast-count c = let f = sized c.requires c.number_kept-kept.ensures.1 in omega arith
 
-pub returns-then-no_room : goal.returns-then-no_room
-returns-then-no_room c =
-    let f = sized c.requires.convertible c.number_kept-kept.ensures.1 in
-    let done = too_short _ _ c.requires.convertible (short _ f c.no_room.ensures c.if-no_room.true) in
-    (sym done.0, sym done.1)
+pub returns-then-out-bytes : goal.returns-then-out-bytes
+returns-then-out-bytes c =
+    let f = sized c.requires c.number_kept-kept.ensures.1 in
+    let done = too_short _ _ c.requires (omega arith) in
+    (rw c.from.ensures (sym done.0), sym done.1)
 
 pub write_sheet-requires : goal.write_sheet-requires
-write_sheet-requires c = record {
-  located = c.requires.located;
-  numbered = c.number_kept-kept.ensures.0;
-  counted = c.number_kept-kept.ensures.1;
-  room = room _ (sized c.requires.convertible c.number_kept-kept.ensures.1) c.no_room.ensures c.if-no_room.false;
-}
+write_sheet-requires c =
+    let f = sized c.requires c.number_kept-kept.ensures.1 in
+    record { numbered = c.number_kept-kept.ensures.0; counted = c.number_kept-kept.ensures.1; room = omega arith }
 
 pub returns : goal.returns
 returns c =
-    let f = sized c.requires.convertible c.number_kept-kept.ensures.1 in
-    let done = has_room _ _ c.requires.convertible (room _ f c.no_room.ensures c.if-no_room.false) in
+    let f = sized c.requires c.number_kept-kept.ensures.1 in
+    let done = has_room _ _ c.requires (omega arith) in
     (ap written f.bytes ∙ sym done.0, c.write_sheet.ensures ∙ sym done.1)

@@ -9,7 +9,7 @@ use Rattle.converter.proofs.write_converted.Goals as goal
 pub returns-in-Refused-clause-filled : goal.returns-in-Refused-clause-filled
 returns-in-Refused-clause-filled c =
     line_written _ _ c.requires _ (ap copied_said (sym c.in-Refused.is) ∙ c.convert-copied.ensures.0)
-    (rw (c.number_of.ensures, c.convert-copied.ensures.1) at c.write_refused.ensures)
+    (rw (c.number.ensures, c.convert-copied.ensures.1) at c.write_refused.ensures)
 
 pub returns-in-Written-clause-filled : goal.returns-in-Written-clause-filled
 returns-in-Written-clause-filled c =

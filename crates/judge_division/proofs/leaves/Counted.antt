@@ -1,27 +1,18 @@
 -- How a word changes the counters of leaves: by one at its arc's number if it is a leaf, and else not at all.
-use Prim.Native.Nat.{ℕ, zero, suc, ◌+◌, ◌<◌, ◌≤◌}
+use Prim.Native.Nat.{ℕ, ◌+◌, ◌<◌}
 use mathlib.Core.Bool.{Bool, true, false, and-false}
-use mathlib.Core.List.{List, [], ◌∷◌}
-use mathlib.Core.Path.{◌≡◌, sym, ap, ◌∙◌}
+use mathlib.Core.List.{List}
+use mathlib.Core.Path.{◌≡◌, sym, ◌∙◌}
 use borrow.Author.Tests.{eq-eqb, ne_eqb}
-use native.Mathlib.Nat.{le_of_suc-le-suc, not-suc-le-zero}
+use native.Mathlib.Nat.{add-zero}
 use native.Mathlib.Omega.{arith}
 use mir.Val.{bool_byte}
 use lib.ListN.{length, get_or, set}
+use Rattle.std.proofs.lemmas.List.{set-get_or}
 use Rattle.indices.proofs.Tally.{Tally, tally_in, tally_out}
 use Rattle.indices.proofs.Tests.{count_le}
 use Rattle.sheet.specs.Regions.{leaf_word, arc_word}
 use Rattle.judgement.specs.Division.{leaf_of_arc}
-
-pub a_bit : (b : Bool) → bool_byte b ≤ 1
-a_bit true = omega arith
-a_bit false = omega arith
-
--- an entry stored where it stands
-set_kept : (xs : List ℕ) (i x : ℕ) → i < length xs → x ≡ get_or xs i 0 → set xs i x ≡ xs
-set_kept [] i x l e = absurd (not-suc-le-zero l)
-set_kept (y ∷ ys) zero x l e = ap (λ (h : ℕ). h ∷ ys) e
-set_kept (y ∷ ys) (suc i) x l e = ap (λ (t : List ℕ). y ∷ t) (set_kept ys i x (le_of_suc-le-suc l) e)
 
 module _ (d : List ℕ) where
   -- a leaf counts for its arc and for no other, and any other word for none
@@ -45,4 +36,4 @@ module _ (d : List ℕ) where
         → Tally (leaf_of_arc d) top (set seen i (get_or seen i 0 + bool_byte leaf)) (k + 1)
     word_counted true el e = tally_in (leaf_of_arc d) top seen k t i inside (leaf_counts k i (sym el) e) (λ v. counts_for_one k i v e) room
     word_counted false el e =
-        rw (set_kept seen i (get_or seen i 0 + 0) inside (omega arith)) (tally_out (leaf_of_arc d) top seen k t (λ v. counts_for_none k v (sym el)))
+        rw (add-zero (get_or seen i 0), set-get_or seen i 0) (tally_out (leaf_of_arc d) top seen k t (λ v. counts_for_none k v (sym el)))

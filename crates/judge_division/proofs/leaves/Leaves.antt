@@ -3,13 +3,13 @@ use Prim.Native.Nat.{ℕ, ◌<◌, ◌≤◌}
 use mathlib.Core.Bool.{Bool, true, false, not, or-true}
 use mathlib.Core.List.{List}
 use mathlib.Core.Path.{◌≡◌, refl, sym, ◌∙◌}
-use borrow.Author.Tests.{eqb-true, eq-eqb, ne_eqb, lt-ltb, le-ltb, le-leb, lt-leb, not-false}
+use borrow.Author.Tests.{eqb-true, eqb-false, eq-eqb, ne_eqb, lt-ltb, le-ltb, le-leb, lt-leb, not-true, not-false}
 use native.Mathlib.Omega.{arith}
 use mir.Val.{bool_byte}
 use lib.Dec.{ltb, eqb}
 use Rattle.indices.specs.Tests.{any, count}
 use Rattle.indices.proofs.Steps.{by_order, by_truth}
-use Rattle.indices.proofs.Tests.{and_left, and_right, any_at, any_hit, any_false, count_hit, count_some}
+use Rattle.indices.proofs.Tests.{and_left, and_right, any_at, any_hit, any_found, any_false, count_hit, count_some}
 use Rattle.sheet.specs.Words.{words}
 use Rattle.sheet.specs.Regions.{leaf_word, arc_word}
 use Rattle.judgement.specs.Division.{no_such_arc, leaf_of_arc, not_one_leaf, wrong_leaves}
@@ -42,11 +42,8 @@ module _ (d : List ℕ) where
         let arc : arc_word d k ≡ a = eqb-true (arc_word d k) a (and_right (leaf_word d k) (eqb (arc_word d k) a) h) in
         rw leaf (le-leb arcs (arc_word d k) (omega arith))
 
-    pub right_count : (a : ℕ) → count (leaf_of_arc d a) (words d) ≡ wanted a → wrong_count a ≡ false
-    right_count a e = rw (eq-eqb (count (leaf_of_arc d a) (words d)) (wanted a) e)
-
     -- one wrong count is enough for refusal 12
-    pub one_wrong : (a : ℕ) → (count (leaf_of_arc d a) (words d) ≡ wanted a → ⊥) → wrong_leaves d arcs ≡ true
+    one_wrong : (a : ℕ) → (count (leaf_of_arc d a) (words d) ≡ wanted a → ⊥) → wrong_leaves d arcs ≡ true
     unfolding wrong_leaves
     one_wrong a ne =
         by_order a arcs
@@ -62,7 +59,7 @@ module _ (d : List ℕ) where
         not_zero ne = omega arith
 
     -- none is wrong: refusal 12 does not apply
-    pub none_wrong : any wrong_count 2048 ≡ false → arcs ≤ 2048 → wrong_leaves d arcs ≡ false
+    none_wrong : any wrong_count 2048 ≡ false → arcs ≤ 2048 → wrong_leaves d arcs ≡ false
     unfolding wrong_leaves
     none_wrong ok few = rw (any_false (no_such_arc d arcs) (words d) there) (any_false (not_one_leaf d) arcs once)
       where
@@ -83,3 +80,12 @@ module _ (d : List ℕ) where
               none_wanted (arc_word d k) le,
             )))))
             (λ inner. rw inner)
+
+    -- the counts decide
+    pub counts_decide : arcs ≤ 2048 → any wrong_count 2048 ≡ wrong_leaves d arcs
+    counts_decide few =
+        by_truth (any wrong_count 2048)
+        (λ e.
+        let some : (a : ℕ) × (a < 2048) × (wrong_count a ≡ true) = any_found wrong_count 2048 e in
+        e ∙ sym (one_wrong some.0 (eqb-false _ _ (not-true _ some.2))))
+        (λ e. e ∙ sym (none_wrong e few))

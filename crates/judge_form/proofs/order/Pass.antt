@@ -9,38 +9,46 @@ use lib.Dec.{ltb}
 use Rattle.indices.specs.Tests.{any}
 use Rattle.indices.proofs.Steps.{by_truth}
 use Rattle.indices.proofs.Tests.{any_none, any_more, any_hit}
-use Rattle.sheet.specs.declared.Cursor.{Cursor}
-use Rattle.sheet.specs.declared.Step.TheVariants.{Word, End}
+use Rattle.std.specs.Prelude.{Some, None}
+use Rattle.std.proofs.lemmas.Option.{none-some}
 use Rattle.sheet.specs.Words.{words, word, kind_of, kind}
-use Rattle.sheet.specs.Inner.{step_at}
+use Rattle.sheet_reader.specs.declared.Reader.{Reader}
+use Rattle.sheet_reader.specs.Places.{reads, reader_standing}
 use Rattle.judgement.specs.Kinds.{may_begin, may_follow, may_end, wrong_first, wrong_neighbours, wrong_kinds}
 
--- a step of the cursor
-pub record Stepped (b : List ℕ) (c : Cursor) (w : ℕ) (next : Cursor) : Type 0 where
-  pub inside : c.place < words b
-  pub read : w ≡ word b c.place
-  pub moved : next.place ≡ c.place + 1
+-- a word that a reader gives, which stood at a place of a sheet
+pub record Stepped (b : List ℕ) (at w : ℕ) (r' : Reader) : Type 0 where
+  pub inside : at < words b
+  pub read : w ≡ word b at
+  pub same : r'.sheet.now ≡ b
+  pub moved : r'.place ≡ at + 1
 
-pub step_word : (b : List ℕ) (c : Cursor) (w : ℕ) (next : Cursor) → step_at b c ≡ Word w next → Stepped b c w next
-step_word b c w next e =
-    by_truth (ltb c.place (words b))
-    (λ h.
-    let after : Cursor = record { place = c.place + 1 } in
-    let read : Word (word b c.place) after ≡ Word w next = rw h at e in
-    let same : after ≡ next = cc in
-    record { inside = ltb-true c.place (words b) h; read = cc; moved = ap (λ (x : Cursor). x.place) (sym same) })
-    (λ h. let none : End ≡ Word w next = rw h at e in let z : ◌≡◌ {A = ℕ} 0 1 = cc in absurd (omega arith))
+module _ {b : List ℕ} {at : ℕ} (r r' : Reader) (same : r.sheet.now ≡ b) (here : r.place ≡ at) where
+  pub step_word : {w : ℕ} → reads r (Some w) r' → Stepped b at w r'
+  step_word {w} e =
+      by_truth (ltb r.place (words r.sheet.now))
+      (λ h.
+      let step : (Some w ≡ Some (word r.sheet.now r.place)) × (r' ≡ reader_standing r.sheet (record { place = r.place + 1 })) = rw h at e in
+      record {
+        inside = rw (← same, ← here) (ltb-true r.place (words r.sheet.now) h);
+        read = let e : Some w ≡ Some (word r.sheet.now r.place) = step.0 in let read : w ≡ word r.sheet.now r.place = cc in rw (← same, ← here) read;
+        same = ap (λ (x : Reader). x.sheet.now) step.1 ∙ same;
+        moved = ap (λ (x : Reader). x.place) step.1 ∙ ap (λ (n : ℕ). n + 1) here;
+      })
+      (λ h. let none : (Some w ≡ None) × (r' ≡ r) = rw h at e in absurd (none-some w (sym none.0)))
+
+  pub step_end : reads r None r' → words b ≤ at
+  step_end e =
+      by_truth (ltb r.place (words r.sheet.now))
+      (λ h.
+      let step : (None ≡ Some (word r.sheet.now r.place)) × (r' ≡ reader_standing r.sheet (record { place = r.place + 1 })) = rw h at e in
+      absurd (none-some (word r.sheet.now r.place) step.0))
+      (λ h. rw (← same, ← here) (ltb-false r.place (words r.sheet.now) h))
 
 -- the kind that was read
-pub step_kind : {b : List ℕ} {c next : Cursor} {w k : ℕ} → Stepped b c w next → k ≡ kind_of w → k ≡ kind b c.place
+pub step_kind : {b : List ℕ} {at w k : ℕ} {r' : Reader} → Stepped b at w r' → k ≡ kind_of w → k ≡ kind b at
 unfolding kind
 step_kind st e = e ∙ ap kind_of st.read
-
-pub step_end : (b : List ℕ) (c : Cursor) → step_at b c ≡ End → words b ≤ c.place
-step_end b c e =
-    by_truth (ltb c.place (words b))
-    (λ h. let some : Word (word b c.place) (record { place = c.place + 1 }) ≡ End = rw h at e in let z : ◌≡◌ {A = ℕ} 0 1 = cc in absurd (omega arith))
-    (λ h. ltb-false c.place (words b) h)
 
 -- The words before place `at`, one at least: none of them says no, and the last of them is of kind `before`.
 pub record Passed (b : List ℕ) (before at : ℕ) : Type 0 where

@@ -6,6 +6,7 @@ use native.Mathlib.Numerals.{add-one}
 use native.Mathlib.Omega.{arith}
 use lib.ListN.{length, length-append}
 use Rattle.calls.specs.Tables.{label_in, predecessor_in}
+use Rattle.listing.specs.declared.text.Text.{Text}
 use Rattle.listing.specs.Listing.{node_line, node_lines}
 use Rattle.listing.specs.Inner.{Room, Wrote}
 use Rattle.listing.proofs.text.Writing.{length_wrote}
@@ -35,8 +36,8 @@ module _ (table : List ℕ) where
   node_lines_within (suc v) small =
       simp length-append (omega (arith, node_line_within v (omega arith), node_lines_within v (omega arith)))
 
-module _ (table : List ℕ) {before after : List ℕ} {at next : ℕ} {v nodes : ℕ} (w : Wrote before at (node_lines table v) after next) where
+module _ (table : List ℕ) {before after : Text} {v nodes : ℕ} (w : Wrote before (node_lines table v) after) where
   -- a line more has room
-  pub line_room : v < nodes → nodes ≤ 1024 → at + 25 * nodes ≤ length before → Room after next (node_line table v)
+  pub line_room : v < nodes → nodes ≤ 1024 → before.place + 25 * nodes ≤ length before.out.now → Room after (node_line table v)
   line_room inside small fits =
-      record { fits = omega (arith, length_wrote w, node_lines_within table v (omega arith), node_line_within table v (omega arith)) }
+      record { fits = omega (arith, w.place, length_wrote w, node_lines_within table v (omega arith), node_line_within table v (omega arith)) }

@@ -11,6 +11,7 @@ use Rattle.indices.proofs.Steps.{by_equal}
 use Rattle.sheet.specs.Limits.{most_spans}
 use Rattle.procedure.specs.Table.{inner_place, updates_place}
 use Rattle.calls.specs.Tables.{status_in, count_in}
+use Rattle.listing.specs.declared.text.Text.{Text}
 use Rattle.listing.specs.Text.{ascii, decimal}
 use Rattle.listing.specs.Listing.{status, counted, levels, inner, status_line, most_status_line}
 use Rattle.listing.specs.Inner.{Room, Wrote}
@@ -62,12 +63,14 @@ module _ (table : List ℕ) where
   inner_within n = omega (arith, length-append (ascii " inner") (levels table n), levels_within n)
 
   -- the next level has room
-  pub level_room : {before after : List ℕ} {at next i n : ℕ} → Wrote before at (levels table i) after next → i < n → Room before at (levels table n)
-      → Room after next (counted table " " (inner_place + i))
+  pub level_room : {before after : Text} {i n : ℕ} → Wrote before (levels table i) after → i < n → Room before (levels table n)
+      → Room after (counted table " " (inner_place + i))
   level_room {i = i} {n = n} w inside room =
       record {
         fits = omega (
           arith,
+          room.fits,
+          w.place,
           length_wrote w,
           levels_longer (i + 1) n (omega arith),
           ap length (level_more i),

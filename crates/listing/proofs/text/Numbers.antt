@@ -7,9 +7,10 @@ use native.Mathlib.Omega.{arith}
 use borrow.Author.Tests.{lt-ltb, le-ltb}
 use lib.ListN.{length, length-append}
 use Rattle.indices.proofs.Steps.{by_order}
+use Rattle.listing.specs.declared.text.Text.{Text}
 use Rattle.listing.specs.Text.{digit, last_digits, decimal}
 use Rattle.listing.specs.Inner.{Room, Wrote}
-use Rattle.listing.proofs.text.Writing.{wrote_then, room_before, room_after, byte_room}
+use Rattle.listing.proofs.text.Writing.{wrote_then, room_before, room_after}
 
 one_digit : (most n : ℕ) → n < 10 → last_digits (suc most) n ≡ digit n ∷ []
 unfolding last_digits
@@ -48,21 +49,21 @@ decimal_within (suc k) n below =
     (arith, ap length (decimal_more n large), length-append (decimal (n / 10)) (digit (n % 10) ∷ []), decimal_within k (n / 10) tenth))
 
 -- writing a number of one digit
-module _ (n : ℕ) (small : n < 10) where
-  pub digit_room : {buffer : List ℕ} {at : ℕ} → Room buffer at (decimal n) → at < length buffer
-  digit_room room = byte_room (rw (decimal_one n small) at room)
+module _ {n : ℕ} (small : n < 10) {before : Text} where
+  pub digit_room : Room before (decimal n) → Room before (digit n ∷ [])
+  digit_room room = rw (decimal_one n small) at room
 
-  pub wrote_digit : {before after : List ℕ} {at next : ℕ} → Wrote before at (digit n ∷ []) after next → Wrote before at (decimal n) after next
+  pub wrote_digit : {after : Text} → Wrote before (digit n ∷ []) after → Wrote before (decimal n) after
   wrote_digit w = rw (decimal_one n small) w
 
 -- writing one of more digits
-module _ (n : ℕ) (large : 10 ≤ n) {before : List ℕ} {at : ℕ} where
-  pub tenth_room : Room before at (decimal n) → Room before at (decimal (n / 10))
+module _ {n : ℕ} (large : 10 ≤ n) {before : Text} where
+  pub tenth_room : Room before (decimal n) → Room before (decimal (n / 10))
   tenth_room room = room_before _ (rw (decimal_more n large) at room)
 
-  pub last_room : {between : List ℕ} {next : ℕ} → Room before at (decimal n) → Wrote before at (decimal (n / 10)) between next → next < length between
-  last_room room w = byte_room (room_after w (rw (decimal_more n large) at room))
+  pub last_room : {between : Text} → Room before (decimal n) → Wrote before (decimal (n / 10)) between → Room between (digit (n % 10) ∷ [])
+  last_room room w = room_after w (rw (decimal_more n large) at room)
 
-  pub wrote_last : {between after : List ℕ} {next end : ℕ} → Wrote before at (decimal (n / 10)) between next
-      → Wrote between next (digit (n % 10) ∷ []) after end → Wrote before at (decimal n) after end
+  pub wrote_last : {between after : Text} → Wrote before (decimal (n / 10)) between → Wrote between (digit (n % 10) ∷ []) after
+      → Wrote before (decimal n) after
   wrote_last w v = rw (decimal_more n large) (wrote_then w v)

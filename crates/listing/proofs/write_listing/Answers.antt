@@ -1,24 +1,20 @@
 -- `write_listing` meets its contract: the first line, then the lines of the nodes, have room and are written from the front on.
-use borrow.Author.Rules.{rules}
-use Rattle.listing.specs.Inner.{Room}
+use Rattle.std.proofs.Common.{rules}
 use Rattle.listing.proofs.text.Writing.{wrote_then}
 use Rattle.listing.specs.Listing.{listing_of}
 use Rattle.listing.proofs.Writing.{filled}
 use Rattle.listing.proofs.Lines.{status_line_room, node_lines_fit, listing_room}
 use Rattle.listing.proofs.write_listing.Goals as goal
 
-pub put_status_line-next-requires : goal.put_status_line-next-requires
-unfolding listing_of
-put_status_line-next-requires c = search (rules, status_line_room)
+pub put_status_line-requires : goal.put_status_line-requires
+put_status_line-requires c = (search rules, search rules, status_line_room _ c.requires.few_spans c.new-text.ensures.begun.1 (search rules))
 
 pub put_node_lines-requires : goal.put_node_lines-requires
-unfolding listing_of
-put_node_lines-requires c = search (rules, node_lines_fit)
+put_node_lines-requires c =
+    (search rules, search rules, node_lines_fit _ c.requires.few_spans c.new-text.ensures.begun.1 (search rules) c.put_status_line.ensures c.requires.few_nodes)
 
 pub returns : goal.returns
 unfolding listing_of
 returns c =
-    -- the whole listing has room
-    let room : Room c.args.out.now 0 (listing_of c.args.table.now c.args.spans c.args.nodes) =
-    listing_room _ c.requires.few_spans c.requires.room _ c.requires.few_nodes in
-    let fits = room in search (rules, filled, wrote_then)
+    filled (wrote_then c.put_status_line.ensures c.put_node_lines.ensures) c.new-text.ensures.begun
+    (listing_room _ c.requires.few_spans c.new-text.ensures.begun.1 (search rules) _ c.requires.few_nodes) (search rules) c.bytes.ensures

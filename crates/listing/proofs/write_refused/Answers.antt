@@ -1,28 +1,24 @@
 -- `write_refused` meets its contract: the word, the number and the line end have room and are written one after another.
-use mathlib.Core.Path.{refl}
-use borrow.Author.Rules.{rules}
-use Rattle.listing.specs.Inner.{Room}
-use Rattle.listing.proofs.text.Writing.{wrote_then, room_before, room_after, byte_room}
+use Rattle.std.proofs.Common.{rules}
+use Rattle.listing.proofs.text.Writing.{wrote_then, room_before, room_after}
 use Rattle.listing.specs.Listing.{refused_line}
 use Rattle.listing.proofs.Writing.{filled}
 use Rattle.listing.proofs.Lines.{refused_room}
 use Rattle.listing.proofs.write_refused.Goals as goal
 
--- the whole line has room
-pub put_number-last-requires : goal.put_number-last-requires
+pub put_number-requires : goal.put_number-requires
 unfolding refused_line
-put_number-last-requires c =
-    let room : Room c.args.out.now 0 (refused_line c.args.n) = refused_room c.ranges.n.fits c.requires in
-    search (rules, room_before, room_after)
+put_number-requires c =
+    rw c.from.ensures (room_after c.put_text.ensures (room_before _ (refused_room c.ranges.n.fits c.new-text.ensures.begun.1 (search rules))))
 
 pub put_byte-requires : goal.put_byte-requires
 unfolding refused_line
 put_byte-requires c =
-    let room : Room c.args.out.now 0 (refused_line c.args.n) = refused_room c.ranges.n.fits c.requires in
-    byte_room (room_after (wrote_then c.put_text-number.ensures c.put_number-last.ensures) room)
+    room_after (wrote_then c.put_text.ensures (rw c.from.ensures at c.put_number.ensures))
+    (refused_room c.ranges.n.fits c.new-text.ensures.begun.1 (search rules))
 
 pub returns : goal.returns
 unfolding refused_line
 returns c =
-    let room : Room c.args.out.now 0 (refused_line c.args.n) = refused_room c.ranges.n.fits c.requires in
-    filled (wrote_then (wrote_then c.put_text-number.ensures c.put_number-last.ensures) c.put_byte.ensures) refl room
+    filled (wrote_then (wrote_then c.put_text.ensures (rw c.from.ensures at c.put_number.ensures)) c.put_byte.ensures) c.new-text.ensures.begun
+    (refused_room c.ranges.n.fits c.new-text.ensures.begun.1 (search rules)) (search rules) c.bytes.ensures

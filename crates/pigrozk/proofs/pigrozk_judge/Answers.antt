@@ -3,4 +3,4 @@ use Rattle.pigrozk.proofs.Told.{same_code}
 use Rattle.pigrozk.proofs.pigrozk_judge.Goals as goal
 
 pub returns : goal.returns
-returns c = same_code c.judged_code.ensures c.judge.ensures
+returns c = same_code c.code.ensures c.judge.ensures

@@ -6,4 +6,4 @@ use Rattle.report.proofs.report.Goals as goal
 
 pub returns-in-Refused-clause-reported : goal.returns-in-Refused-clause-reported
 returns-in-Refused-clause-reported c =
-    reported_refusal _ _ (sym c.judge-judged.ensures ∙ ap judge_said c.in-Refused.is) (rw c.number_of.ensures at c.write_refused.ensures)
+    reported_refusal _ _ (sym c.judge-judged.ensures ∙ ap judge_said c.in-Refused.is) (rw c.number.ensures at c.write_refused.ensures)

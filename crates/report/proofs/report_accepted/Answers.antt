@@ -1,40 +1,24 @@
--- `report_accepted` meets its contract: an accepted sheet has few nodes and spans, so the words lent have room for its table, and the run gets just that part
--- of them.
-use Rattle.std.proofs.Common.{◌≤◌, length, sym, ◌∙◌, arith}
+-- `report_accepted` meets its contract: an accepted sheet has few nodes, so the words lent have room for its table, and the run gets just that part of them.
+use Rattle.std.proofs.Common.{sym, ap, ◌∙◌, arith}
 use lib.Seq.{length-take-le}
-use Rattle.judgement.proofs.Accepted.{front_there, few_nodes, few_spans}
+use Rattle.calls.specs.Tables.{table_length}
+use Rattle.sheet.specs.Sections.{node_count}
+use Rattle.judgement.proofs.Accepted.{few_nodes}
 use Rattle.report.proofs.Outcomes.{reported_listing}
 use Rattle.report.proofs.report_accepted.Goals as goal
 
-pub find_sections-sections-requires : goal.find_sections-sections-requires
-find_sections-sections-requires c = front_there _ c.requires.0
-
-pub table_length-requires : goal.table_length-requires
-table_length-requires c = omega (arith, few_nodes _ c.requires.0)
-
--- the words lent have room for the table
-pub slice_bounds-report_table-end : goal.slice_bounds-report_table-end
-slice_bounds-report_table-end c = omega (arith, few_nodes _ c.requires.0)
-
 pub slice_bounds-report_table-end-2 : goal.slice_bounds-report_table-end-2
-slice_bounds-report_table-end-2 c = sym (length-take-le _ _ (omega (arith, few_nodes _ c.requires.0)))
+slice_bounds-report_table-end-2 c =
+    sym (length-take-le _ _ (omega (arith, few_nodes _ c.requires.0, ap node_count c.new-sheet.ensures)))
 
 pub report_table-requires : goal.report_table-requires
 report_table-requires c =
-    let room : c.table_length.result ≤ length c.args.table.now = omega (arith, few_nodes _ c.requires.0) in
-    record {
-      accepted = c.requires.0;
-      counted = c.node_count-nodes.ensures;
-      lent =
-          record {
-            sized = length-take-le _ _ room ∙ c.table_length.ensures;
-            few_spans = omega (arith, few_spans _ c.requires.0);
-            few_nodes = omega (arith, few_nodes _ c.requires.0);
-            room = c.requires.2;
-          };
-    }
+    let words = c.table_length-words.ensures ∙ ap table_length (c.node_count.ensures ∙ ap node_count c.new-sheet.ensures) in
+    rw c.new-sheet.ensures
+    (record { accepted = c.requires.0; sized = length-take-le _ _ (omega (arith, words, few_nodes _ c.requires.0)) ∙ words; room = c.requires.2 })
 
 pub returns : goal.returns
 returns c =
-    rw c.table_length.ensures
-    (reported_listing _ c.requires.0 c.find_sections-sections.ensures.spans_all c.node_count-nodes.ensures c.report_table.ensures.0 c.report_table.ensures.1)
+    let words = c.table_length-words.ensures ∙ ap table_length (c.node_count.ensures ∙ ap node_count c.new-sheet.ensures) in
+    let made = rw c.new-sheet.ensures at c.report_table.ensures in
+    rw words (reported_listing _ c.requires.0 made.0 made.1)

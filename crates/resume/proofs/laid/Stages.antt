@@ -4,10 +4,11 @@ use mathlib.Core.Bool.{Bool}
 use mathlib.Core.Path.{◌≡◌, sym, ap, ◌∙◌}
 use mathlib.Core.List.{List}
 use native.Mathlib.Omega.{arith}
-use lib.ListN.{length, take, replicate}
+use lib.ListN.{length, take}
+use Rattle.std.proofs.lemmas.List.{take-replicate}
 use Rattle.indices.specs.Columns.{at, column}
 use Rattle.indices.proofs.Columns.{at_column}
-use Rattle.sheet.specs.Limits.{most_spans}
+use Rattle.sheet.specs.Limits.{most_arcs, most_spans}
 use Rattle.sheet.specs.Words.{top}
 use Rattle.sheet.specs.Sections.{node_count, arc_count}
 use Rattle.procedure.specs.Graph.{arcs}
@@ -24,14 +25,16 @@ use Rattle.calls.proofs.Formed.{formed}
 use Rattle.calls.proofs.LongReading.{long_words}
 use Rattle.theory_resume.proofs.Resumed.{resumed_tabled}
 use Rattle.run_counts.specs.Figures.{figures_in, rounds_in as roundsOf, leaves_in as leavesOf, inner_in, updates_in}
-use Rattle.run_arrays.specs.Sections.{state_length, label_section, predecessor_section}
-use Rattle.run_arrays.specs.States.{Represents, LeavesQueues}
-use Rattle.run_arrays.proofs.arrays.Filled.{own_none}
+use Rattle.run_arrays.specs.declared.arrays.Layout.{Layout}
+use Rattle.run_arrays.specs.declared.arrays.Run.{Run}
+use Rattle.run_arrays.specs.States.{Represents, Empty}
 use Rattle.run_table.specs.Finish.{Finishing, Finished}
 use Rattle.run_layout.specs.declared.sizes.Sizes.{Sizes}
+use Rattle.run_layout.specs.InUse.{Outlined}
+use Rattle.run_layout.specs.Layout.{Laid}
 use Rattle.resume.specs.Nodes.{NodesEntered}
-use Rattle.resume.specs.Keys.{Keyless}
-use Rattle.resume.specs.Outcome.{ResumableLaid, Outcome}
+use Rattle.resume.specs.Keys.{Keyless, LeavesQueues}
+use Rattle.resume.specs.Outcome.{Outcome}
 
 -- the table has the longer length
 pub as_long : {b table : List ℕ} → Standing b table → length table ≡ long_length (node_count b) (arc_count b)
@@ -55,62 +58,67 @@ module _ (table counts : List ℕ) (entered : counts ≡ column counts_length (c
   unfolding updates_in
   same_updates = ap (λ (xs : List ℕ). at xs updates_place) entered ∙ at_column counts_length (count_in table) updates_place (omega arith)
 
-module _ {b : List ℕ} {sizes : Sizes} {fixed weights table : List ℕ} (L : ResumableLaid b sizes fixed weights table) where
+module _ {b : List ℕ} {sizes : Sizes} {layout : Layout} {table : List ℕ} (O : Outlined b sizes) (S : Standing b table) (L : Laid b layout) where
   -- the state that the table stands for
   abbrev before : State
   before = state_in (graph_of b) (division_of b) table
 
   nodes_all : sizes.nodes ≡ (graph_of b).nodes
-  nodes_all = L.in_use.nodes_all ∙ sym (graph_nodes b)
+  nodes_all = O.in_use.nodes_all ∙ sym (graph_nodes b)
 
-  -- THE NODES are entered, into an array that is filled with 'none'
-  module _ {filled entered : List ℕ} (none : filled ≡ replicate state_length top) (E : NodesEntered table sizes.nodes filled entered) where
-    same_labels : take (graph_of b).nodes (label_section entered) ≡ labels_in (graph_of b).nodes table
-    same_labels = rw (← nodes_all) E.labels
+  -- THE NODES are entered, into a run that was cleared, and then the counts
+  module _ {blank entered : Run} (E : Empty blank) (N : NodesEntered table sizes.nodes blank entered) {counts : List ℕ}
+      (counted : counts ≡ column counts_length (count_in table)) where
+    abbrev started : Run
+    started = record { labels = entered.labels; predecessors = entered.predecessors; keys = entered.keys; counts = counts }
 
-    same_predecessors : take (graph_of b).nodes (predecessor_section entered) ≡ predecessors_in (graph_of b).nodes table
-    same_predecessors = rw (← nodes_all) E.predecessors
+    same_labels : take (graph_of b).nodes entered.labels ≡ labels_in (graph_of b).nodes table
+    same_labels = rw (← nodes_all) N.labels
 
-    pub keyless : Keyless b fixed weights table entered sizes.regions
+    same_predecessors : take (graph_of b).nodes entered.predecessors ≡ predecessors_in (graph_of b).nodes table
+    same_predecessors = rw (← nodes_all) N.predecessors
+
+    pub keyless : Keyless b layout table started sizes.regions
     keyless = record {
-      relaid = record { standing = L.standing; laid = L.laid; labels = same_labels };
-      none = ap (take (arcs (graph_of b))) E.own ∙ own_none none (arcs (graph_of b)) L.laid.fixed_ok.ok.graph.few_arcs;
-      all_regions = L.in_use.regions_all ∙ sym (division_regions b);
+      relaid = record { standing = S; laid = L; labels = same_labels };
+      none = rw (N.keys, E.own) (take-replicate (arcs (graph_of b)) most_arcs top L.fixed_ok.ok.graph.few_arcs);
+      all_regions = O.in_use.regions_all ∙ sym (division_regions b);
     }
 
-    -- then the queues are rebuilt, and the counts entered
-    module _ {state winners counts : List ℕ} (counted : counts ≡ column counts_length (count_in table))
-        (Q : LeavesQueues (graph_of b) (division_of b) before.queues fixed entered state winners (count_in table updates_place))
-      where
-        represented : Represents (graph_of b) (division_of b) (spans_of b) before fixed weights state winners (figures_in counts)
-        unfolding state_in
-        represented = record {
-          fixed_ok = L.laid.fixed_ok;
-          labels = ap (take (graph_of b).nodes) Q.nodes.labels ∙ same_labels;
-          predecessors = ap (take (graph_of b).nodes) Q.nodes.predecessors ∙ same_predecessors;
-          queues = rw (same_updates table counts counted) Q.queues;
-          rounds = same_rounds table counts counted;
-          leaves = same_leaves table counts counted;
-          inner = same_inner table counts counted;
-        }
+    -- the queues are rebuilt
+    module _ {run : Run} (Q : LeavesQueues (graph_of b) (division_of b) before.queues layout started run (count_in table updates_place)) where
+      entered_counts : run.counts ≡ column counts_length (count_in table)
+      entered_counts = Q.alone.counts ∙ counted
 
-        -- THE STATE is worked: what is asked, and what the new table is
-        module _ (limit : ℕ) where
-          pub finishing : Finishing b before fixed weights state winners (figures_in counts) limit sizes.nodes (length table)
-          unfolding resumed
-          finishing = record {
-            accepted = L.standing.accepted;
-            represents = represented;
-            tabled = resumed_tabled b table L.standing limit;
-            all = L.in_use.nodes_all;
-            room = omega (arith, as_long L.standing, L.in_use.nodes_all);
-            few = omega (arith, as_long L.standing, L.in_use.nodes_all);
-          }
+      represented : Represents (graph_of b) (division_of b) (spans_of b) before layout run
+      unfolding state_in
+      represented = record {
+        fixed_ok = L.fixed_ok;
+        labels = ap (take (graph_of b).nodes) Q.alone.labels ∙ same_labels;
+        predecessors = ap (take (graph_of b).nodes) Q.alone.predecessors ∙ same_predecessors;
+        queues = rw (same_updates table run.counts entered_counts) Q.queues;
+        rounds = same_rounds table run.counts entered_counts;
+        leaves = same_leaves table run.counts entered_counts;
+        inner = same_inner table run.counts entered_counts;
+      }
+
+      -- THE STATE is worked: what is asked, and what the new table is
+      module _ (limit : ℕ) where
+        pub finishing : Finishing b before layout run limit sizes.nodes (length table)
+        unfolding resumed
+        finishing = record {
+          accepted = S.accepted;
+          represents = represented;
+          tabled = resumed_tabled b table S limit;
+          all = O.in_use.nodes_all;
+          room = omega (arith, as_long S, O.in_use.nodes_all);
+          few = omega (arith, as_long S, O.in_use.nodes_all);
+        }
 
   pub outcome : (limit : ℕ) {hasEnded : Bool} {table' : List ℕ}
       → Finished b (more (graph_of b) (division_of b) (spans_of b) limit before) (length table) hasEnded table'
       → Outcome b table limit hasEnded table'
   unfolding resumed resumed_table
   outcome limit F =
-      let m : length table - table_length (node_count b) ≡ arc_count b = omega (arith, as_long L.standing) in
+      let m : length table - table_length (node_count b) ≡ arc_count b = omega (arith, as_long S) in
       record { status = F.status; words = rw m at F.written ∙ sym (long_words b (resumed b table limit)) }

@@ -2,7 +2,7 @@
 -- of the state that the table stands for.
 use Prim.Native.Nat.{ℕ, ◌+◌, ◌^◌, ◌≤◌, ◌<◌}
 use mathlib.Core.Bool.{true, false, true≢false}
-use mathlib.Core.Path.{◌≡◌, refl, sym, ap, subst, ◌∙◌}
+use mathlib.Core.Path.{◌≡◌, refl, sym, ap, ◌∙◌}
 use mathlib.Core.Logic.{◌≢◌}
 use mathlib.Core.List.{List}
 use native.Mathlib.Nat.{mul-le-mul}
@@ -26,12 +26,14 @@ use Rattle.calls.proofs.Possible.{label_capped}
 use Rattle.theory_resume.proofs.Rebuilt.{rebuilt_none, rebuilt_hit, rebuilt_miss, rebuilt_own, rebuilt_keys, rebuilt_few}
 use Rattle.theory_resume.proofs.Sounded.{own_length, own_keyed, own_keyless, own_capped}
 use Rattle.theory_resume.proofs.Resumed.{spans_heights, well, possible}
-use Rattle.run_arrays.specs.Sections.{label_section}
+use Rattle.run_arrays.specs.declared.arrays.Layout.{Layout}
+use Rattle.run_arrays.specs.declared.arrays.Keys.{Keys}
+use Rattle.run_arrays.specs.declared.arrays.Run.{Run}
 use Rattle.run_arrays.specs.Trees.{QueuesOk}
-use Rattle.run_arrays.specs.States.{UpdatingArc, LeavesQueues}
-use Rattle.resume.specs.Keys.{Relaid, Keyless, queues_up_to, KeysUpTo, KeyNext}
+use Rattle.run_arrays.specs.States.{HoldsQueues, UpdatingArc}
+use Rattle.resume.specs.Keys.{Relaid, Keyless, queues_up_to, KeysUpTo, KeyNext, LeavesQueues}
 
-module _ {b fixed weights table state : List ℕ} (R : Relaid b fixed weights table state) where
+module _ {b : List ℕ} {layout : Layout} {table : List ℕ} {run : Run} (R : Relaid b layout table run) where
   abbrev g : Graph
   g = graph_of b
 
@@ -48,11 +50,11 @@ module _ {b fixed weights table state : List ℕ} (R : Relaid b fixed weights ta
   capped = own_capped ok (spans_heights b R.standing.accepted) table (possible b table R.standing)
 
   -- the labels in the array are the table's
-  label_there : (v : ℕ) → v < g.nodes → at (label_section state) v ≡ at (table_labels g table) v
-  label_there v l = sym (get_or-take g.nodes (label_section state) v 0 l) ∙ ap (λ (labels : List ℕ). at labels v) R.labels
+  label_there : (v : ℕ) → v < g.nodes → at run.labels v ≡ at (table_labels g table) v
+  label_there v l = sym (get_or-take g.nodes run.labels v 0 l) ∙ ap (λ (labels : List ℕ). at labels v) R.labels
 
   -- so a keyed arc's own key is what is read there
-  pub key_read : (a : ℕ) → a < arcs g → has_key g table a ≡ true → at (label_section state) (tail g a) ≡ at own a
+  pub key_read : (a : ℕ) → a < arcs g → has_key g table a ≡ true → at run.labels (tail g a) ≡ at own a
   key_read a la keyed =
       let lt = ok.graph.tail_in_lem a la in
       label_there (tail g a) lt ∙ sym (own_keyed g table a la lt keyed)
@@ -75,12 +77,12 @@ module _ {b fixed weights table state : List ℕ} (R : Relaid b fixed weights ta
       )
 
 -- ARC a IS NEXT
-module _ {b fixed table state winners : List ℕ} {a count : ℕ} (K : KeyNext b fixed table state winners a count) where
+module _ {b : List ℕ} {layout : Layout} {table : List ℕ} {run : Run} {a count : ℕ} (K : KeyNext b layout table run a count) where
   -- a keyless arc is passed
   pub key_passed : has_key (graph_of b) table a ≡ false
-      → LeavesQueues (graph_of b) (division_of b) (queues_up_to b table (a + 1)) fixed state state winners count
+      → LeavesQueues (graph_of b) (division_of b) (queues_up_to b table (a + 1)) layout run run count
   key_passed none = record {
-    nodes = record { labels = refl; predecessors = refl };
+    alone = record { labels = refl; predecessors = refl; counts = refl };
     queues =
         rw (rebuilt_miss (division_of b) (own_in (graph_of b) table) (no_keys (graph_of b) (division_of b)) a
         (own_keyless (graph_of b) table a K.in_range none)) K.sofar.holds;
@@ -93,7 +95,7 @@ module _ {b fixed table state winners : List ℕ} {a count : ℕ} (K : KeyNext b
         ∙ ap (λ (k : ℕ). update_arc (division_of b) a k (queues_up_to b table a)) (sym e)
 
     -- what the update asks, and what it leaves
-    pub key_asks : UpdatingArc (graph_of b) (division_of b) (queues_up_to b table a) fixed a key
+    pub key_asks : UpdatingArc (graph_of b) (division_of b) (queues_up_to b table a) layout a key
     key_asks = record {
       updatable = record {
         graph = (ok K.sofar.relaid).graph;
@@ -104,87 +106,46 @@ module _ {b fixed table state winners : List ℕ} {a count : ℕ} (K : KeyNext b
       small = rw (← next) (few_updates K.sofar.relaid (a + 1) (omega (arith, K.in_range)));
     }
 
-    pub key_entered : {state' winners' : List ℕ} {n : ℕ}
-        → LeavesQueues (graph_of b) (division_of b) (update_arc (division_of b) a key (queues_up_to b table a)) fixed state state' winners' n
-        → LeavesQueues (graph_of b) (division_of b) (queues_up_to b table (a + 1)) fixed state state' winners' n
-    key_entered L = rw next L
+    pub key_entered : {keys : Keys} {n : ℕ}
+        → HoldsQueues (graph_of b) (division_of b) (update_arc (division_of b) a key (queues_up_to b table a)) layout keys n
+        → LeavesQueues (graph_of b) (division_of b) (queues_up_to b table (a + 1)) layout run
+        (record { labels = run.labels; predecessors = run.predecessors; keys = keys; counts = run.counts }) n
+    key_entered H = rw next (record { alone = record { labels = refl; predecessors = refl; counts = refl }; queues = H })
 
--- THE LOOP: the keys of the first a arcs are entered, and labels and predecessors stay
-pub record Entering (b fixed table state₀ state winners : List ℕ) (a count : ℕ) : Type 0 where
+-- THE LOOP: the keys of the first a arcs are entered, and all else stays
+pub record Entering (b : List ℕ) (layout : Layout) (table : List ℕ) (run₀ run : Run) (a count : ℕ) : Type 0 where
   pub within : a ≤ arcs (graph_of b)
-  pub weights : List ℕ
-  pub relaid : Relaid b fixed weights table state₀
-  pub leaves : LeavesQueues (graph_of b) (division_of b) (queues_up_to b table a) fixed state₀ state winners count
-
-pub none_entered : {b fixed table state winners : List ℕ} → KeysUpTo b fixed table state winners 0 0 → Entering b fixed table state state winners 0 0
-none_entered K = record {
-  within = omega arith;
-  weights = K.weights;
-  relaid = K.relaid;
-  leaves = record { nodes = record { labels = refl; predecessors = refl }; queues = K.holds };
-}
-
-module _ {b fixed table state₀ state winners : List ℕ} {a count : ℕ} (E : Entering b fixed table state₀ state winners a count) where
-  pub next_key : a < arcs (graph_of b) → KeyNext b fixed table state winners a count
-  next_key l = record {
-    sofar = record {
-      weights = E.weights;
-      relaid = record {
-        standing = E.relaid.standing;
-        laid = E.relaid.laid;
-        labels = rw E.leaves.nodes.labels E.relaid.labels;
-      };
-      holds = E.leaves.queues;
-    };
-    in_range = l;
-  }
-
-  pub one_more_key : a < arcs (graph_of b) → {state' winners' : List ℕ} {n : ℕ}
-      → LeavesQueues (graph_of b) (division_of b) (queues_up_to b table (a + 1)) fixed state state' winners' n
-      → Entering b fixed table state₀ state' winners' (a + 1) n
-  one_more_key l L = record {
-    within = omega arith;
-    weights = E.weights;
-    relaid = E.relaid;
-    leaves = record {
-      nodes = record {
-        labels = L.nodes.labels ∙ E.leaves.nodes.labels;
-        predecessors = L.nodes.predecessors ∙ E.leaves.nodes.predecessors;
-      };
-      queues = L.queues;
-    };
-  }
-
-  pub all_keys : arcs (graph_of b) ≤ a
-      → LeavesQueues (graph_of b) (division_of b) (queues_up_to b table (arcs (graph_of b))) fixed state₀ state winners count
-  all_keys past =
-      let e : a ≡ arcs (graph_of b) = omega (arith, E.within) in
-      subst (λ (n : ℕ). LeavesQueues (graph_of b) (division_of b) (queues_up_to b table n) fixed state₀ state winners count) e E.leaves
+  pub relaid : Relaid b layout table run₀
+  pub leaves : LeavesQueues (graph_of b) (division_of b) (queues_up_to b table a) layout run₀ run count
 
 -- THE WHOLE: cleared trees hold no key, and all keys entered are those of the table's state
-module _ {b fixed weights table state : List ℕ} {count : ℕ} (K : Keyless b fixed weights table state count) where
-  pub keys_cleared : {winners : List ℕ} → QueuesOk (division_of b) fixed (replicate (regions (division_of b)) top) winners
-      → KeysUpTo b fixed table state winners 0 0
-  keys_cleared valid = record {
-    weights = weights;
-    relaid = K.relaid;
-    holds = rw (rebuilt_none (division_of b) (own_in (graph_of b) table) (no_keys (graph_of b) (division_of b)))
-        (record { own = K.none; owned = length-replicate (arcs (graph_of b)) top; keys = record { valid = valid; counted = refl } });
+module _ {b : List ℕ} {layout : Layout} {table : List ℕ} {run : Run} {count : ℕ} (K : Keyless b layout table run count) (winners : List ℕ) where
+  abbrev cleared : Run
+  cleared = record {
+    labels = run.labels;
+    predecessors = run.predecessors;
+    keys = record { own = run.keys.own; winners = winners };
+    counts = run.counts;
   }
 
-  pub keys_rebuilt : {state' winners' : List ℕ} {n : ℕ}
-      → LeavesQueues (graph_of b) (division_of b) (queues_up_to b table (arcs (graph_of b))) fixed state state' winners' n
-      → LeavesQueues (graph_of b) (division_of b) (state_in (graph_of b) (division_of b) table).queues fixed state state' winners'
-      (count_in table updates_place)
+  pub keys_cleared : QueuesOk (division_of b) layout.rows (replicate (regions (division_of b)) top) winners → KeysUpTo b layout table cleared 0 0
+  keys_cleared valid = record {
+    relaid = record { standing = K.relaid.standing; laid = K.relaid.laid; labels = K.relaid.labels };
+    holds = rw (rebuilt_none (division_of b) (own_in (graph_of b) table) (no_keys (graph_of b) (division_of b)))
+        (record { own = K.none; owned = length-replicate (arcs (graph_of b)) top; held = record { valid = valid; counted = refl } });
+  }
+
+  pub keys_rebuilt : {run' : Run} {n : ℕ} → LeavesQueues (graph_of b) (division_of b) (queues_up_to b table (arcs (graph_of b))) layout cleared run' n
+      → LeavesQueues (graph_of b) (division_of b) (state_in (graph_of b) (division_of b) table).queues layout run run' (count_in table updates_place)
   unfolding state_in
   keys_rebuilt L =
       let R = K.relaid in
       let long = own_length (graph_of b) table in
       record {
-        nodes = L.nodes;
+        alone = record { labels = L.alone.labels; predecessors = L.alone.predecessors; counts = L.alone.counts };
         queues = record {
           own = L.queues.own ∙ rebuilt_own (ok R) (own R) long (capped R);
           owned = long;
-          keys = record { valid = rw (rebuilt_keys (ok R) (own R) long (capped R)) at L.queues.keys.valid; counted = refl };
+          held = record { valid = rw (rebuilt_keys (ok R) (own R) long (capped R)) at L.queues.held.valid; counted = refl };
         };
       }

@@ -17,9 +17,6 @@ known b table k e = rw e (state_known b table k)
 carried : (b table : List ℕ) (k : ℕ) {answer : Answer} → answer ≡ resume_answer b table k → is_refused answer ≡ false → Carried b table k
 carried b table k e good = answered_carried b table k (rw e at good)
 
-pub resume_accepted-requires : goal.resume_accepted-requires
-resume_accepted-requires c = record { judged = sym c.judge-judged.ensures ∙ ap judge_said c.in-Accepted.is }
-
 pub returns-in-Refused : goal.returns-in-Refused
 returns-in-Refused c =
     let a = c.args in

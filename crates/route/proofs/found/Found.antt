@@ -1,14 +1,16 @@
 -- What the search for a route answers and leaves in the buffer: no route, a buffer that is too short, or the route.
 use Prim.Native.Nat.{ℕ, ◌≤◌, ◌<◌}
-use mathlib.Core.Path.{◌≡◌, refl, sym, ap, ◌∙◌}
+use mathlib.Core.Path.{◌≡◌, sym, ◌∙◌}
 use mathlib.Core.Logic.{◌≢◌}
-use mathlib.Core.List.{List, ◌++◌}
+use mathlib.Core.List.{List}
 use borrow.Author.Tests.{eq-eqb, ne_eqb, lt-ltb, le-ltb}
-use lib.ListN.{length, drop}
+use lib.ListN.{length}
 use Rattle.sheet.specs.Words.{top}
-use Rattle.answer.specs.Answer.{Refusal, state, route, no_route, refused}
+use Rattle.sheet.specs.Sections.{node_count}
+use Rattle.answer.specs.Answer.{state, route, no_route, refused}
 use Rattle.calls.specs.Tables.{label_in}
-use Rattle.calls.specs.Routes.{route_to, found_route, left_by}
+use Rattle.calls.specs.Routes.{route_to, found_route}
+use Rattle.route.specs.Reached.{Reached}
 
 module _ (b table : List ℕ) (node : ℕ) (buffer : List ℕ) where
   -- by the node's label x: no route, a buffer that is too short for n arcs, a route of n arcs
@@ -26,15 +28,8 @@ module _ (b table : List ℕ) (node : ℕ) (buffer : List ℕ) where
       unfolding found_route
       found_route_lem l = rw (← ex, ne_eqb x top reached, ← all, le-ltb (length buffer) n l)
 
-  -- what is left in the buffer
-  pub left_none : buffer ≡ left_by b table no_route node buffer
-  unfolding left_by
-  left_none = refl
+-- a node whose word has another label than 'unreached' is reached
+pub node_reached : {b table : List ℕ} {v x : ℕ} → v < node_count b → x ≡ label_in table v → x ≢ top → Reached b table v
+node_reached l ex n = record { inside = l; labelled = λ e. n (ex ∙ e) }
 
-  pub left_refused : (r : Refusal) → buffer ≡ left_by b table (refused r) node buffer
-  unfolding left_by
-  left_refused r = refl
-
-  pub left_route : (n : ℕ) → n ≡ length (route_to b table node) → route_to b table node ++ drop n buffer ≡ left_by b table (route n) node buffer
-  unfolding left_by
-  left_route n e = ap (λ (k : ℕ). route_to b table node ++ drop k buffer) e
+pub ruleset found_steps = (node_reached, found_none, found_short, found_route_lem)

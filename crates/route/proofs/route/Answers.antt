@@ -1,21 +1,19 @@
 -- `route` meets its contract: the sheet's refusal, or the answer for an accepted sheet.
-use mathlib.Core.Path.{sym, ap, ◌∙◌}
-use Rattle.answer.specs.Said.{judge_said}
+use mathlib.Core.Path.{sym, ◌∙◌}
+use Rattle.judgement.proofs.Accepted.{front_there}
 use Rattle.calls.proofs.Routes.{sheet_stops}
-use Rattle.route.proofs.found.Found.{left_refused}
-use Rattle.route.proofs.Stages.{left_after, answer_known}
+use Rattle.route.proofs.Stages.{left_refused, left_after, answer_known}
 use Rattle.route.proofs.route.Goals as goal
 
-pub route_accepted-requires : goal.route_accepted-requires
-route_accepted-requires c = record { judged = sym c.judge-judged.ensures ∙ ap judge_said c.in-Accepted.is }
+pub new-requires : goal.new-requires
+new-requires c = front_there _ (record { judged = sym c.in-Accepted.ensures })
 
 pub returns-in-Accepted : goal.returns-in-Accepted
 returns-in-Accepted c =
-    let told = c.route_accepted.ensures in
+    let told = rw c.new.ensures at c.route_accepted.ensures in
     (told.0, told.1 ∙ left_after _ _ _ _ _ told.0, answer_known _ _ _ _ _ told.0)
 
 pub returns-in-Refused : goal.returns-in-Refused
 returns-in-Refused c =
-    let judge = c.judge-judged in
-    let same = sym (sheet_stops _ _ _ _ _ (sym judge.ensures ∙ ap judge_said c.in-Refused.is)) in
+    let same = sym (sheet_stops _ _ _ _ _ (sym c.in-Refused.ensures)) in
     (same, left_refused _ _ _ _ _ ∙ left_after _ _ _ _ _ same, answer_known _ _ _ _ _ same)

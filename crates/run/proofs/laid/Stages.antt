@@ -16,7 +16,8 @@ use Rattle.calls.specs.Runs.{run_table}
 use Rattle.calls.proofs.Outcome.{right_length, right_room, filled_words}
 use Rattle.theory_calls.specs.Tabled.{Tabled}
 use Rattle.theory_calls.proofs.Delivered.{run_tabled}
-use Rattle.run_counts.specs.Figures.{Figures}
+use Rattle.run_arrays.specs.declared.arrays.Layout.{Layout}
+use Rattle.run_arrays.specs.declared.arrays.Run.{Run}
 use Rattle.run_arrays.specs.States.{Represents}
 use Rattle.run_engine.proofs.rounds.Runs.{after_start}
 use Rattle.run_table.specs.Finish.{Finishing, Finished}
@@ -30,9 +31,9 @@ module _ (b : List ℕ) (ok : Accepted b) {n : ℕ} (all : n ≡ node_count b) (
 
   module _ (limit : ℕ) where
     -- the start, and what it leads to
-    pub finishing : {fixed weights state winners : List ℕ} {c : Figures}
-        → Represents (graph_of b) (division_of b) (spans_of b) (start (graph_of b) (division_of b)) fixed weights state winners c
-        → Finishing b (start (graph_of b) (division_of b)) fixed weights state winners c limit n (length table)
+    pub finishing : {layout : Layout} {run : Run}
+        → Represents (graph_of b) (division_of b) (spans_of b) (start (graph_of b) (division_of b)) layout run
+        → Finishing b (start (graph_of b) (division_of b)) layout run limit n (length table)
     finishing R = record {
       accepted = ok;
       represents = R;

@@ -1,37 +1,29 @@
 -- `run_accepted` meets its contract: 21 where the table has the wrong length, and otherwise the status of the run and its table.
 use Rattle.std.specs.Prelude.{if◌then◌else◌}
-use borrow.Author.Rules.{rules}
-use mathlib.Core.Bool.{Bool, false}
-use mathlib.Core.Path.{◌≡◌, sym, ap, ◌∙◌}
-use Rattle.answer.specs.Answer.{ended, paused}
+use mathlib.Core.Bool.{Bool}
+use mathlib.Core.Path.{sym, ap, ◌∙◌}
+use Rattle.answer.specs.Answer.{ended, paused, refused}
 use Rattle.judgement.proofs.Accepted.{front_there}
-use Rattle.calls.specs.Tables.{wrong_length}
 use Rattle.calls.proofs.Outcome.{refused_table, made}
 use Rattle.run.proofs.run_accepted.Goals as goal
 
-pub find_sections-sections-requires : goal.find_sections-sections-requires
-find_sections-sections-requires c = search (rules, front_there)
-
-pub wrong_length-requires : goal.wrong_length-requires
-wrong_length-requires c = (search rules, search rules)
+pub new-s-requires : goal.new-s-requires
+new-s-requires c = front_there _ c.requires
 
 pub returns-then-wrong_length : goal.returns-then-wrong_length
 returns-then-wrong_length c =
     let a = c.args in
-    refused_table a.sheet.now a.limit a.table.now c.requires (sym c.wrong_length.ensures ∙ c.if-wrong_length.true)
-
-pub run_in_arrays-requires : goal.run_in_arrays-requires
-run_in_arrays-requires c =
-    -- THE TABLE has the right length
-    let right : wrong_length c.args.sheet.now c.args.table.now ≡ false = sym c.wrong_length.ensures ∙ c.if-wrong_length.false in
-    record { located = search rules; accepted = c.requires; right = right }
+    let wrong = rw c.new-s.ensures at (sym c.wrong_length.ensures ∙ c.if-wrong_length.true) in
+    let done = refused_table a.sheet.now a.limit a.table.now c.requires wrong in
+    (ap refused c.into.ensures ∙ done.0, done.1)
 
 pub returns : goal.returns
 returns c =
     -- THE TABLE has the right length
-    let right : wrong_length c.args.sheet.now c.args.table.now ≡ false = sym c.wrong_length.ensures ∙ c.if-wrong_length.false in
+    let right = rw c.new-s.ensures at (sym c.wrong_length.ensures ∙ c.if-wrong_length.false) in
     let a = c.args in
+    let ran = rw (c.new.ensures, c.new-s.ensures) at c.run_in_arrays.ensures in
     let done = made a.sheet.now a.limit a.table.now c.requires right in (
-      c.of_status.ensures ∙ ap (λ (x : Bool). if x then ended else paused) c.run_in_arrays.ensures.status ∙ done.0,
-      c.run_in_arrays.ensures.words ∙ done.1,
+      c.of_status.ensures ∙ ap (λ (x : Bool). if x then ended else paused) ran.status ∙ done.0,
+      ran.words ∙ done.1,
     )

@@ -4,9 +4,6 @@ use Rattle.answer.specs.Said.{judge_said}
 use Rattle.calls.proofs.Outcome.{refused_sheet}
 use Rattle.run.proofs.run_judged.Goals as goal
 
-pub run_accepted-requires : goal.run_accepted-requires
-run_accepted-requires c = record { judged = sym c.judge-judged.ensures ∙ ap judge_said c.in-Accepted.is }
-
 pub returns-in-Refused : goal.returns-in-Refused
 returns-in-Refused c =
     let a = c.args in

@@ -4,7 +4,7 @@ use mathlib.Core.Bool.{true}
 use mathlib.Core.Path.{◌≡◌, refl, sym, ap, ◌∙◌}
 use mathlib.Core.List.{List}
 use native.Mathlib.Omega.{arith}
-use lib.ListN.{set, take}
+use lib.ListN.{set}
 use lib.Seq.{get_or-take, take-set-lt}
 use Rattle.indices.specs.Columns.{at}
 use Rattle.sheet.specs.Limits.{most_nodes, most_arcs}
@@ -16,10 +16,13 @@ use Rattle.procedure.specs.Queues.{update_outgoing}
 use Rattle.procedure.specs.Procedure.{relax, clear_key, process_leaf}
 use Rattle.theory.proofs.Process.{sum_by, lowered, relax_falls, relax_stays}
 use Rattle.theory.proofs.Grows.{relax_grows}
-use Rattle.run_counts.specs.Figures.{Figures, leaf_more}
+use Rattle.run_counts.specs.Figures.{Figures, figures_in, leaf_more}
 use Rattle.run_arrays.specs.Rows.{row_tail, row_head}
-use Rattle.run_arrays.specs.Sections.{most_regions, region_arc_section, arc_row_section, label_section, predecessor_section, LabelLowered, OwnStored}
-use Rattle.run_arrays.specs.States.{HoldsQueues, UpdatingOutgoing, LeavesQueues, Represents, Workable}
+use Rattle.run_arrays.specs.Sections.{most_regions}
+use Rattle.run_arrays.specs.declared.arrays.Layout.{Layout}
+use Rattle.run_arrays.specs.declared.arrays.Keys.{Keys}
+use Rattle.run_arrays.specs.declared.arrays.Run.{Run}
+use Rattle.run_arrays.specs.States.{HoldsQueues, UpdatingOutgoing, Represents, Workable}
 use Rattle.run_engine.proofs.updates.Updates.{own_held}
 
 -- the state once the key of arc a is none and its leaf is counted
@@ -38,19 +41,19 @@ unfolding process_leaf clear_key
 leaf_cleared g d r s = refl
 
 -- every region has its entries in the arrays
-pub region_fits : {g : Graph} {d : Division} {spans : List ℕ} {s : State} {fixed weights state winners : List ℕ} {c : Figures}
-    → Represents g d spans s fixed weights state winners c → {r : ℕ} {defined : State} → Workable d r defined → r < most_regions
+pub region_fits : {g : Graph} {d : Division} {spans : List ℕ} {s : State} {layout : Layout} {run : Run}
+    → Represents g d spans s layout run → {r : ℕ} {defined : State} → Workable d r defined → r < most_regions
 region_fits R W = omega (arith, W.in_range, R.fixed_ok.ok.division.few_regions)
 
 -- the leaf r, whose arc is a
-module _ {g : Graph} {d : Division} {spans : List ℕ} {s : State} {fixed weights state winners : List ℕ} {c : Figures} {r : ℕ}
-    (R : Represents g d spans s fixed weights state winners c) (W : Workable d r (process_leaf g d r s)) (leaf : is_leaf d r ≡ true) where
-  pub leaf_count_fits : c.leaves + 1 < 18446744073709551616
+module _ {g : Graph} {d : Division} {spans : List ℕ} {s : State} {layout : Layout} {run : Run} {r : ℕ}
+    (R : Represents g d spans s layout run) (W : Workable d r (process_leaf g d r s)) (leaf : is_leaf d r ≡ true) where
+  pub leaf_count_fits : (figures_in run.counts).leaves + 1 < 18446744073709551616
   leaf_count_fits =
       let more : suc s.leaves ≤ (process_leaf g d r s).leaves = rw (leaf_cleared g d r s) (omega (arith, (relax_grows g d (arc_of d r) s).leaves)) in
       omega (arith, R.leaves, W.small.leaves)
 
-  module _ {a : ℕ} (row : a ≡ at (region_arc_section fixed) r) where
+  module _ {a : ℕ} (row : a ≡ at layout.region_arcs r) where
     is_arc_lem : a ≡ arc_of d r
     is_arc_lem = row ∙ R.fixed_ok.region_arcs.leaf r W.in_range leaf
 
@@ -60,7 +63,7 @@ module _ {g : Graph} {d : Division} {spans : List ℕ} {s : State} {fixed weight
     pub leaf_arc_in : a < most_arcs
     leaf_arc_in = omega (arith, arc_in, R.fixed_ok.ok.graph.few_arcs)
 
-    module _ {u : ℕ} (from : u ≡ row_tail (arc_row_section fixed) a) where
+    module _ {u : ℕ} (from : u ≡ row_tail layout.arc_rows a) where
       is_tail : u ≡ tail g a
       is_tail = from ∙ R.fixed_ok.arc_rows.tails a arc_in
 
@@ -70,7 +73,7 @@ module _ {g : Graph} {d : Division} {spans : List ℕ} {s : State} {fixed weight
       pub leaf_tail_in : u < most_nodes
       leaf_tail_in = omega (arith, tail_in_lem, R.fixed_ok.ok.graph.few_nodes)
 
-    module _ {v : ℕ} (to : v ≡ row_head (arc_row_section fixed) a) where
+    module _ {v : ℕ} (to : v ≡ row_head layout.arc_rows a) where
       is_head : v ≡ head g a
       is_head = to ∙ R.fixed_ok.arc_rows.heads a arc_in
 
@@ -81,21 +84,35 @@ module _ {g : Graph} {d : Division} {spans : List ℕ} {s : State} {fixed weight
       leaf_head_in = omega (arith, head_in, R.fixed_ok.ok.graph.few_nodes)
 
 -- Arc a of the leaf r leads from u to v; x is the label of u, y the arc's length, and z the label of v.
-pub record Weighed (g : Graph) (d : Division) (spans : List ℕ) (s : State) (fixed weights state winners : List ℕ) (c : Figures) (r a u v x y z : ℕ)
-    : Type 0 where
-  pub represents : Represents g d spans s fixed weights state winners c
+pub record Weighed (g : Graph) (d : Division) (spans : List ℕ) (s : State) (layout : Layout) (run : Run) (r a u v x y z : ℕ) : Type 0 where
+  pub represents : Represents g d spans s layout run
   pub workable : Workable d r (process_leaf g d r s)
   pub leaf : is_leaf d r ≡ true
-  pub row : a ≡ at (region_arc_section fixed) r
-  pub from : u ≡ row_tail (arc_row_section fixed) a
-  pub to : v ≡ row_head (arc_row_section fixed) a
-  pub tail_label : x ≡ at (label_section state) u
-  pub arc_length_lem : y ≡ at weights a
-  pub head_label : z ≡ at (label_section state) v
+  pub row : a ≡ at layout.region_arcs r
+  pub from : u ≡ row_tail layout.arc_rows a
+  pub to : v ≡ row_head layout.arc_rows a
+  pub tail_label : x ≡ at run.labels u
+  pub arc_length_lem : y ≡ at layout.lengths a
+  pub head_label : z ≡ at run.labels v
 
-module _ {g : Graph} {d : Division} {spans : List ℕ} {s : State} {fixed weights state winners : List ℕ} {c : Figures} {r a u v x y z : ℕ}
-    (w : Weighed g d spans s fixed weights state winners c r a u v x y z) where
-  abbrev R : Represents g d spans s fixed weights state winners c
+pub weighed : {g : Graph} {d : Division} {spans : List ℕ} {s : State} {layout : Layout} {run : Run} {r a u v x y z : ℕ} → Represents g d spans s layout run
+    → Workable d r (process_leaf g d r s) → is_leaf d r ≡ true → a ≡ at layout.region_arcs r → u ≡ row_tail layout.arc_rows a
+    → v ≡ row_head layout.arc_rows a → x ≡ at run.labels u → y ≡ at layout.lengths a → z ≡ at run.labels v → Weighed g d spans s layout run r a u v x y z
+weighed R W leaf row from to label long other = record {
+  represents = R;
+  workable = W;
+  leaf = leaf;
+  row = row;
+  from = from;
+  to = to;
+  tail_label = label;
+  arc_length_lem = long;
+  head_label = other;
+}
+
+module _ {g : Graph} {d : Division} {spans : List ℕ} {s : State} {layout : Layout} {run : Run} {r a u v x y z : ℕ}
+    (w : Weighed g d spans s layout run r a u v x y z) where
+  abbrev R : Represents g d spans s layout run
   R = w.represents
 
   is_arc_of : a ≡ arc_of d r
@@ -107,8 +124,8 @@ module _ {g : Graph} {d : Division} {spans : List ℕ} {s : State} {fixed weight
   in_nodes : v < g.nodes
   in_nodes = head_in R w.workable w.leaf w.row w.to
 
-  label_in_lem : (node : ℕ) → node < g.nodes → at (label_section state) node ≡ label s node
-  label_in_lem node l = sym (get_or-take g.nodes (label_section state) node 0 l) ∙ ap (λ (labels : List ℕ). at labels node) R.labels
+  label_in_lem : (node : ℕ) → node < g.nodes → at run.labels node ≡ label s node
+  label_in_lem node l = sym (get_or-take g.nodes run.labels node 0 l) ∙ ap (λ (labels : List ℕ). at labels node) R.labels
 
   is_sum : x + y ≡ sum_by g (arc_of d r) s
   is_sum =
@@ -128,22 +145,25 @@ module _ {g : Graph} {d : Division} {spans : List ℕ} {s : State} {fixed weight
   is_label = w.head_label ∙ label_in_lem v in_nodes ∙ ap (label s) is_head_of
 
   -- where the sum is not below the head's label, the leaf's key alone changes
-  pub leaf_stays : z ≤ x + y → {state' : List ℕ} → OwnStored a top state state' → {updates : ℕ} → updates ≡ c.updates
-      → {n : Figures} → n ≡ leaf_more c updates → Represents g d spans (process_leaf g d r s) fixed weights state' winners n
+  pub leaf_stays : z ≤ x + y → {keys : Keys} → keys ≡ record { own = set run.keys.own a top; winners = run.keys.winners }
+      → {updates : ℕ} → updates ≡ (figures_in run.counts).updates → {counts : List ℕ} → figures_in counts ≡ leaf_more (figures_in run.counts) updates
+      → Represents g d spans (process_leaf g d r s) layout
+      (record { labels = run.labels; predecessors = run.predecessors; keys = keys; counts = counts })
   leaf_stays l K same counted =
       let stays : process_leaf g d r s ≡ cleared a s =
       leaf_cleared g d r s
       ∙ ap (cleared (arc_of d r)) (relax_stays g d (arc_of d r) s (omega (arith, is_sum, is_label)))
       ∙ ap (λ (b : ℕ). cleared b s) (sym is_arc_of) in
-      rw (stays, counted, same)
+      rw (stays, K)
       (record {
         fixed_ok = R.fixed_ok;
-        labels = ap (take g.nodes) K.nodes.labels ∙ R.labels;
-        predecessors = ap (take g.nodes) K.nodes.predecessors ∙ R.predecessors;
-        queues = own_held R.queues K in_arcs refl (record { valid = R.queues.keys.valid; counted = R.queues.keys.counted });
-        rounds = R.rounds;
-        leaves = omega (arith, R.leaves);
-        inner = R.inner;
+        labels = R.labels;
+        predecessors = R.predecessors;
+        queues = own_held top R.queues in_arcs refl
+            (record { valid = R.queues.held.valid; counted = ap (λ (f : Figures). f.updates) counted ∙ same ∙ R.queues.held.counted });
+        rounds = ap (λ (f : Figures). f.rounds) counted ∙ R.rounds;
+        leaves = ap (λ (f : Figures). f.leaves) counted ∙ omega (arith, R.leaves);
+        inner = ap (λ (f : Figures). f.inner) counted ∙ R.inner;
       })
 
   module _ (l : x + y < z) where
@@ -151,7 +171,7 @@ module _ {g : Graph} {d : Division} {spans : List ℕ} {s : State} {fixed weight
     is_lowered = leaf_cleared g d r s ∙ ap (cleared (arc_of d r)) (relax_falls g d (arc_of d r) s (omega (arith, is_sum, is_label)))
 
     -- where it is, the head's outgoing arcs are updated
-    pub leaf_asks : UpdatingOutgoing g d s.queues fixed v (x + y)
+    pub leaf_asks : UpdatingOutgoing g d s.queues layout v (x + y)
     leaf_asks = record {
       updatable = record { graph = R.fixed_ok.ok.graph; division = R.fixed_ok.ok.division; arc_rows = R.fixed_ok.arc_rows };
       links = R.fixed_ok.links;
@@ -175,32 +195,32 @@ module _ {g : Graph} {d : Division} {spans : List ℕ} {s : State} {fixed weight
     is_fallen = rw (is_head_of, is_sum, is_arc_of) (sym is_lowered)
 
     -- the label is lowered
-    module _ {state₁ : List ℕ} (L : LabelLowered v (x + y) a state state₁) where
-      pub lowered_held : {updates : ℕ} → updates ≡ c.updates → HoldsQueues g d s.queues fixed state₁ winners updates
-      lowered_held same = record {
-        own = ap (take (arcs g)) L.own ∙ R.queues.own;
-        owned = R.queues.owned;
-        keys = record { valid = R.queues.keys.valid; counted = same ∙ R.queues.keys.counted };
-      }
+    module _ {run₁ : Run} (L : run₁ ≡ record run { labels = set run.labels v (x + y); predecessors = set run.predecessors v a }) where
+      pub lowered_held : {updates : ℕ} → updates ≡ (figures_in run.counts).updates → HoldsQueues g d s.queues layout run₁.keys updates
+      lowered_held same = rw (L, same) R.queues
+
+      pub lowered_count_fits : (figures_in run₁.counts).leaves + 1 < 18446744073709551616
+      lowered_count_fits = rw L (leaf_count_fits R w.workable w.leaf)
 
       -- the arcs are updated, and the leaf's key is none
-      pub leaf_falls : {state₂ state₃ winners' : List ℕ} {updates : ℕ}
-          → LeavesQueues g d (update_outgoing d g.tails v (x + y) s.queues) fixed state₁ state₂ winners' updates → OwnStored a top state₂ state₃
-          → {n : Figures} → n ≡ leaf_more c updates → Represents g d spans (process_leaf g d r s) fixed weights state₃ winners' n
-      leaf_falls Q K counted =
-          rw (← is_fallen, counted)
+      pub leaf_falls : {keys keys' : Keys} {updates : ℕ}
+          → HoldsQueues g d (update_outgoing d g.tails v (x + y) s.queues) layout keys updates
+          → keys' ≡ record { own = set keys.own a top; winners = keys.winners }
+          → {counts : List ℕ} → figures_in counts ≡ leaf_more (figures_in run₁.counts) updates
+          → Represents g d spans (process_leaf g d r s) layout
+          (record { labels = run₁.labels; predecessors = run₁.predecessors; keys = keys'; counts = counts })
+      leaf_falls {updates = updates} Q K {counts} counted =
+          let more : figures_in counts ≡ leaf_more (figures_in run.counts) updates = rw L at counted in
+          rw (← is_fallen, K, L)
           (record {
             fixed_ok = R.fixed_ok;
-            labels =
-                ap (take g.nodes) (K.nodes.labels ∙ Q.nodes.labels ∙ L.labels)
-                ∙ take-set-lt g.nodes (label_section state) v (x + y) in_nodes
-                ∙ ap (λ (labels : List ℕ). set labels v (x + y)) R.labels;
+            labels = take-set-lt g.nodes run.labels v (x + y) in_nodes ∙ ap (λ (labels : List ℕ). set labels v (x + y)) R.labels;
             predecessors =
-                ap (take g.nodes) (K.nodes.predecessors ∙ Q.nodes.predecessors ∙ L.predecessors)
-                ∙ take-set-lt g.nodes (predecessor_section state) v a in_nodes
+                take-set-lt g.nodes run.predecessors v a in_nodes
                 ∙ ap (λ (predecessors : List ℕ). set predecessors v a) R.predecessors;
-            queues = own_held Q.queues K in_arcs refl (record { valid = Q.queues.keys.valid; counted = Q.queues.keys.counted });
-            rounds = R.rounds;
-            leaves = omega (arith, R.leaves);
-            inner = R.inner;
+            queues = own_held top Q in_arcs refl
+                (record { valid = Q.held.valid; counted = ap (λ (f : Figures). f.updates) more ∙ Q.held.counted });
+            rounds = ap (λ (f : Figures). f.rounds) more ∙ R.rounds;
+            leaves = ap (λ (f : Figures). f.leaves) more ∙ omega (arith, R.leaves);
+            inner = ap (λ (f : Figures). f.inner) more ∙ R.inner;
           })

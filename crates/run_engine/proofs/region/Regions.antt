@@ -15,7 +15,9 @@ use Rattle.procedure.specs.State.{Queues}
 use Rattle.procedure.specs.Queues.{min_key}
 use Rattle.theory_shortest.specs.WellFormed.{DivisionOk}
 use Rattle.theory.proofs.Chosen.{min_key_leaf}
-use Rattle.run_arrays.specs.Sections.{most_regions, region_arc_section, own_section}
+use Rattle.run_arrays.specs.Sections.{most_regions}
+use Rattle.run_arrays.specs.declared.arrays.Layout.{Layout}
+use Rattle.run_arrays.specs.declared.arrays.Keys.{Keys}
 use Rattle.run_arrays.specs.Fixed.{RegionArcs, no_arc}
 use Rattle.run_arrays.specs.States.{HoldsQueues, Keyed}
 
@@ -30,11 +32,11 @@ module _ {m : ℕ} {d : Division} {regionArcs : List ℕ} (ok : DivisionOk m d) 
   pub entry_leaf : a ≢ no_arc → is_leaf d r ≡ true
   entry_leaf n = by_truth (is_leaf d r) (λ leaf. leaf) (λ inner. absurd (n (row ∙ R.inner r lr inner)))
 
-module _ {g : Graph} {d : Division} {fixed : List ℕ} {r : ℕ} (K : Keyed g d fixed r) where
+module _ {g : Graph} {d : Division} {layout : Layout} {r : ℕ} (K : Keyed g d layout r) where
   pub keyed_in : r < most_regions
   keyed_in = omega (arith, K.in_range, K.division.few_regions)
 
-  module _ {a : ℕ} (row : a ≡ at (region_arc_section fixed) r) where
+  module _ {a : ℕ} (row : a ≡ at layout.region_arcs r) where
     pub key_inner : a ≡ no_arc → is_leaf d r ≡ false
     key_inner e = entry_inner K.division K.few K.region_arcs K.in_range row e
 
@@ -52,9 +54,9 @@ module _ {g : Graph} {d : Division} {fixed : List ℕ} {r : ℕ} (K : Keyed g d 
       own_key_in = omega (arith, arc_in, K.few)
 
       -- a leaf's smallest key is its arc's own
-      pub own_key : {q : Queues} {state winners : List ℕ} {n : ℕ} → HoldsQueues g d q fixed state winners n → at (own_section state) a ≡ min_key d q r
-      own_key {q} {state} H =
-          sym (get_or-take (arcs g) (own_section state) a 0 arc_in)
+      pub own_key : {q : Queues} {keys : Keys} {n : ℕ} → HoldsQueues g d q layout keys n → at keys.own a ≡ min_key d q r
+      own_key {q} {keys} H =
+          sym (get_or-take (arcs g) keys.own a 0 arc_in)
           ∙ ap (λ (own : List ℕ). at own a) H.own
           ∙ ap (at q.own) arc_is
           ∙ sym (min_key_leaf d q r is_leaf_lem)

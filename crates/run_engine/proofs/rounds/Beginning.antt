@@ -1,10 +1,11 @@
--- What the start rests on: an array filled with 'none', with the source's label, and cleared queues are the start before its updates.
-use Prim.Native.Nat.{ℕ, ◌<◌}
+-- What the start rests on: a run in which nothing is set, with the source's label, and cleared queues are the start before its updates.
+use Prim.Native.Nat.{ℕ, ◌<◌, ◌≤◌}
 use mathlib.Core.Path.{◌≡◌, refl, ap, ◌∙◌}
 use mathlib.Core.List.{List}
 use native.Mathlib.Omega.{arith}
 use lib.ListN.{set, take, replicate, length-replicate}
 use lib.Seq.{take-set-lt}
+use Rattle.std.proofs.lemmas.List.{take-replicate}
 use Rattle.sheet.specs.Limits.{most_nodes, most_spans}
 use Rattle.sheet.specs.Words.{top}
 use Rattle.procedure.specs.Graph.{Graph, arcs}
@@ -15,11 +16,12 @@ use Rattle.procedure.specs.Procedure.{start}
 use Rattle.theory.specs.Sound.{no_keys}
 use Rattle.theory.specs.Counts.{Small}
 use Rattle.theory.proofs.Final.{few_each_way, no_rounds, after_small}
-use Rattle.run_counts.specs.Figures.{Figures, started}
-use Rattle.run_arrays.specs.Sections.{state_length, label_section, LabelStored}
+use Rattle.run_counts.specs.Figures.{Figures, figures_in, started}
+use Rattle.run_arrays.specs.declared.arrays.Layout.{Layout}
+use Rattle.run_arrays.specs.declared.arrays.Keys.{Keys}
+use Rattle.run_arrays.specs.declared.arrays.Run.{Run}
 use Rattle.run_arrays.specs.Trees.{QueuesOk}
-use Rattle.run_arrays.specs.States.{HoldsQueues, UpdatingOutgoing, LeavesQueues, Represents, Blank}
-use Rattle.run_arrays.proofs.arrays.Filled.{labels_none, predecessors_none, own_none}
+use Rattle.run_arrays.specs.States.{HoldsQueues, UpdatingOutgoing, Represents, Blank, Empty}
 
 -- the start from a source, where its queues are q
 abbrev start_with : Graph → ℕ → Queues → State
@@ -37,7 +39,11 @@ start_by_updates : (g : Graph) (d : Division)
 unfolding start
 start_by_updates g d = refl
 
-module _ {g : Graph} {d : Division} {spans fixed weights : List ℕ} {source count : ℕ} (B : Blank g d spans fixed weights source count) where
+-- the front of a list that is filled with 'none'
+front : (n : ℕ) {m : ℕ} {ys : List ℕ} → ys ≡ replicate m top → n ≤ m → take n ys ≡ replicate n top
+front n {m} e l = rw e (take-replicate n m top l)
+
+module _ {g : Graph} {d : Division} {spans : List ℕ} {layout : Layout} {source count : ℕ} (B : Blank g d spans layout source count) where
   source_node : source < g.nodes
   source_node = omega (arith, B.at_source, B.fixed_ok.ok.graph.source_in)
 
@@ -50,7 +56,7 @@ module _ {g : Graph} {d : Division} {spans fixed weights : List ℕ} {source cou
   is_start : start_with g source (update_outgoing d g.tails source 0 (no_keys g d)) ≡ start g d
   is_start = ap (λ (v : ℕ). start_with g v (update_outgoing d g.tails v 0 (no_keys g d))) B.at_source ∙ start_by_updates g d
 
-  pub start_asks : UpdatingOutgoing g d (no_keys g d) fixed source 0
+  pub start_asks : UpdatingOutgoing g d (no_keys g d) layout source 0
   start_asks = record {
     updatable = record { graph = B.fixed_ok.ok.graph; division = B.fixed_ok.ok.division; arc_rows = B.fixed_ok.arc_rows };
     links = B.fixed_ok.links;
@@ -60,31 +66,40 @@ module _ {g : Graph} {d : Division} {spans fixed weights : List ℕ} {source cou
   }
 
   -- the source's label is stored, and the queues are cleared
-  module _ {filled labelled : List ℕ} (none : filled ≡ replicate state_length top) (K : LabelStored source 0 filled labelled) where
-    pub start_held : {winners : List ℕ} → QueuesOk d fixed (replicate (regions d) top) winners → HoldsQueues g d (no_keys g d) fixed labelled winners 0
-    start_held valid = record {
-      own = ap (take (arcs g)) K.own ∙ own_none none (arcs g) B.fixed_ok.ok.graph.few_arcs;
+  module _ {run labelled : Run} (E : Empty run) {winners : List ℕ} (valid : QueuesOk d layout.rows (replicate (regions d) top) winners)
+      (K : labelled ≡ record {
+        labels = set run.labels source 0;
+        predecessors = run.predecessors;
+        keys = record { own = run.keys.own; winners = winners };
+        counts = run.counts;
+      }) where
+    pub start_held : HoldsQueues g d (no_keys g d) layout labelled.keys 0
+    start_held = rw K (record {
+      own = front (arcs g) E.own B.fixed_ok.ok.graph.few_arcs;
       owned = length-replicate (arcs g) top;
-      keys = record { valid = valid; counted = refl };
-    }
+      held = record { valid = valid; counted = refl };
+    })
 
-    -- the source's arcs are updated, and c is the counts then
-    pub begun : {state winners : List ℕ} {n : ℕ}
-        → LeavesQueues g d (update_outgoing d g.tails source 0 (no_keys g d)) fixed labelled state winners n
-        → {c : Figures} → c ≡ started n → Represents g d spans (start g d) fixed weights state winners c
+    -- the source's arcs are updated, and counted
+    pub begun : {keys : Keys} {n : ℕ} → HoldsQueues g d (update_outgoing d g.tails source 0 (no_keys g d)) layout keys n
+        → {counts : List ℕ} → figures_in counts ≡ started n
+        → Represents g d spans (start g d) layout
+        (record { labels = labelled.labels; predecessors = labelled.predecessors; keys = keys; counts = counts })
     begun Q counted =
-        rw (← is_start, counted)
+        rw (← is_start, K)
         (record {
           fixed_ok = B.fixed_ok;
           labels =
-              ap (take g.nodes) (Q.nodes.labels ∙ K.labels)
-              ∙ take-set-lt g.nodes (label_section filled) source 0 source_node
-              ∙ ap (λ (labels : List ℕ). set labels source 0) (labels_none none g.nodes B.fixed_ok.ok.graph.few_nodes);
-          predecessors =
-              ap (take g.nodes) (Q.nodes.predecessors ∙ K.predecessors)
-              ∙ predecessors_none none g.nodes B.fixed_ok.ok.graph.few_nodes;
-          queues = Q.queues;
-          rounds = refl;
-          leaves = refl;
-          inner = refl;
+              take-set-lt g.nodes run.labels source 0 source_node
+              ∙ ap (λ (labels : List ℕ). set labels source 0) (front g.nodes E.labels B.fixed_ok.ok.graph.few_nodes);
+          predecessors = front g.nodes E.predecessors B.fixed_ok.ok.graph.few_nodes;
+          queues =
+              record {
+                own = Q.own;
+                owned = Q.owned;
+                held = record { valid = Q.held.valid; counted = ap (λ (f : Figures). f.updates) counted ∙ Q.held.counted };
+              };
+          rounds = ap (λ (f : Figures). f.rounds) counted;
+          leaves = ap (λ (f : Figures). f.leaves) counted;
+          inner = ap (λ (f : Figures). f.inner) counted;
         })

@@ -16,7 +16,9 @@ use Rattle.procedure.specs.Procedure.{count_round, ended, process, round, more, 
 use Rattle.theory.specs.Counts.{Small}
 use Rattle.theory.proofs.Process.{key_running, none_ended}
 use Rattle.theory.proofs.Grows.{grows_small, process_grows, rounds_grow}
-use Rattle.run_counts.specs.Figures.{Figures, round_more}
+use Rattle.run_counts.specs.Figures.{Figures, figures_in, round_more}
+use Rattle.run_arrays.specs.declared.arrays.Layout.{Layout}
+use Rattle.run_arrays.specs.declared.arrays.Run.{Run}
 use Rattle.run_arrays.specs.States.{Represents, Workable}
 use Rattle.run_engine.proofs.region.Loops.{Looping, loop-off, loop-on}
 
@@ -35,26 +37,33 @@ round_counted_lem : (g : Graph) (d : Division) (s : State) → (count_round g d 
 unfolding count_round
 round_counted_lem g d s = refl
 
-module _ {g : Graph} {d : Division} {spans : List ℕ} {s : State} {fixed weights state winners : List ℕ} {c : Figures}
-    (R : Represents g d spans s fixed weights state winners c) (W : Workable d 0 (round g d spans s)) where
-  pub round_count_fits : c.rounds + 1 < 18446744073709551616
+module _ {g : Graph} {d : Division} {spans : List ℕ} {s : State} {layout : Layout} {run : Run} (R : Represents g d spans s layout run)
+    (W : Workable d 0 (round g d spans s)) where
+  pub round_count_fits : (figures_in run.counts).rounds + 1 < 18446744073709551616
   round_count_fits =
       let grown = process_grows g d R.fixed_ok.ok.division spans 0 (count_round g d s) W.in_range in
       let all = ap (λ (w : State). w.rounds) (by_process g d spans s) in
       omega (arith, R.rounds, grown.rounds, round_counted_lem g d s, all, W.small.rounds)
 
-  -- n is the counts with the round counted
-  pub round_begun : {n : Figures} → n ≡ round_more c → Represents g d spans (count_round g d s) fixed weights state winners n
+  -- the round is counted in `counts`
+  pub round_begun : {counts : List ℕ} → figures_in counts ≡ round_more (figures_in run.counts)
+      → Represents g d spans (count_round g d s) layout
+      (record { labels = run.labels; predecessors = run.predecessors; keys = run.keys; counts = counts })
   unfolding count_round
-  round_begun counted = rw counted (record {
+  round_begun counted = record {
     fixed_ok = R.fixed_ok;
     labels = R.labels;
     predecessors = R.predecessors;
-    queues = R.queues;
-    rounds = omega (arith, R.rounds);
-    leaves = R.leaves;
-    inner = R.inner;
-  })
+    queues =
+        record {
+          own = R.queues.own;
+          owned = R.queues.owned;
+          held = record { valid = R.queues.held.valid; counted = ap (λ (f : Figures). f.updates) counted ∙ R.queues.held.counted };
+        };
+    rounds = ap (λ (f : Figures). f.rounds) counted ∙ omega (arith, R.rounds);
+    leaves = ap (λ (f : Figures). f.leaves) counted ∙ R.leaves;
+    inner = ap (λ (f : Figures). f.inner) counted ∙ R.inner;
+  }
 
   pub round_asks : Workable d 0 (process g d spans 0 (count_round g d s))
   round_asks = record { in_range = W.in_range; small = rw (by_process g d spans s) W.small }
@@ -63,39 +72,29 @@ module _ {g : Graph} {d : Division} {spans : List ℕ} {s : State} {fixed weight
 abbrev pub running : Graph → Division → State → Bool
 running g d s = not (ended g d s)
 
-pub rounds_first : {g : Graph} {d : Division} {spans : List ℕ} {s : State} {fixed weights state winners : List ℕ} {c : Figures} {limit : ℕ}
-    → Represents g d spans s fixed weights state winners c
-    → Looping g d spans fixed weights (running g d) (round g d spans) limit s limit s state winners c
-rounds_first R = record { represents = R; sofar = refl }
+pub rounds_first : {g : Graph} {d : Division} {spans : List ℕ} {s : State} {layout : Layout} {run : Run} {limit : ℕ} → Represents g d spans s layout run
+    → {left : ℕ} → left ≡ limit → Looping g d spans layout (running g d) (round g d spans) left (more g d spans limit s) s run
+rounds_first R all = record { represents = R; sofar = rw all }
 
-pub rounds_ended : {g : Graph} {d : Division} {spans fixed weights : List ℕ} {limit : ℕ} {s₀ : State} {left : ℕ} {s : State} {state winners : List ℕ}
-    {c : Figures} → Looping g d spans fixed weights (running g d) (round g d spans) limit s₀ left s state winners c → ended g d s ≡ true
-    → Represents g d spans (more g d spans limit s₀) fixed weights state winners c
-rounds_ended L e = loop-off L (ap not e)
+module _ {g : Graph} {d : Division} {spans : List ℕ} {layout : Layout} {left : ℕ} {end s : State} {run : Run}
+    (L : Looping g d spans layout (running g d) (round g d spans) left end s run) where
+  pub rounds_ended : ended g d s ≡ true → Represents g d spans end layout run
+  rounds_ended e = loop-off L (ap not e)
 
--- the run goes on, and a round is left to make
-pub record Going (g : Graph) (d : Division) (spans fixed weights : List ℕ) (limit : ℕ) (s₀ : State) (left : ℕ) (s : State) (state winners : List ℕ)
-    (c : Figures) : Type 0 where
-  pub small : Small (more g d spans limit s₀)
-  pub loop : Looping g d spans fixed weights (running g d) (round g d spans) limit s₀ left s state winners c
-  pub positive : 0 < left
-  pub running : ended g d s ≡ false
+  -- the run goes on, and a round is left to make
+  module _ (small : Small end) (positive : 0 < left) (runs : ended g d s ≡ false) where
+    onward_rounds : more g d spans (left - 1) (round g d spans s) ≡ end
+    onward_rounds = loop-on L positive (ap not runs)
 
-module _ {g : Graph} {d : Division} {spans fixed weights : List ℕ} {limit : ℕ} {s₀ : State} {left : ℕ} {s : State} {state winners : List ℕ} {c : Figures}
-    (G : Going g d spans fixed weights limit s₀ left s state winners c) where
-  onward_rounds : more g d spans (left - 1) (round g d spans s) ≡ more g d spans limit s₀
-  onward_rounds = loop-on G.loop G.positive (ap not G.running)
+    -- the counts at the end are small, and so are those of every round
+    pub next_asks : Workable d 0 (round g d spans s)
+    next_asks =
+        let ok = L.represents.fixed_ok.ok.division in
+        record {
+          in_range = ok.nesting.root;
+          small = grows_small (rounds_grow g d ok spans (left - 1) (round g d spans s)) (rw onward_rounds small);
+        }
 
-  -- the counts at the end are small, and so are those of every round
-  pub next_asks : Workable d 0 (round g d spans s)
-  next_asks =
-      let ok = G.loop.represents.fixed_ok.ok.division in
-      record {
-        in_range = ok.nesting.root;
-        small = grows_small (rounds_grow g d ok spans (left - 1) (round g d spans s)) (rw onward_rounds G.small);
-      }
-
-  pub rounds_step : {state' winners' : List ℕ} {c' : Figures}
-      → Represents g d spans (process g d spans 0 (count_round g d s)) fixed weights state' winners' c'
-      → Looping g d spans fixed weights (running g d) (round g d spans) limit s₀ (left - 1) (round g d spans s) state' winners' c'
-  rounds_step done = record { represents = rw (by_process g d spans s) at done; sofar = onward_rounds }
+    pub rounds_step : {run' : Run} → Represents g d spans (process g d spans 0 (count_round g d s)) layout run' → {left' : ℕ} → left' ≡ left - 1
+        → Looping g d spans layout (running g d) (round g d spans) left' end (round g d spans s) run'
+    rounds_step done fewer = record { represents = rw (by_process g d spans s) at done; sofar = rw fewer onward_rounds }

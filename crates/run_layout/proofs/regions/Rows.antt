@@ -1,42 +1,13 @@
--- The regions' parents, stored region by region, and what is entered as their arcs.
-use Prim.Native.Nat.{ℕ, zero, suc, ◌+◌, ◌-◌, ◌≤◌, ◌<◌}
+-- A region's parent fits its entry; and what is entered as a region's arc.
+use Prim.Native.Nat.{ℕ, zero, suc, ◌-◌, ◌<◌}
 use mathlib.Core.Bool.{true, false, true≢false}
-use mathlib.Core.Path.{◌≡◌, refl, sym, ap, ◌∙◌}
+use mathlib.Core.Path.{◌≡◌, refl, sym}
 use mathlib.Core.List.{List}
 use native.Mathlib.Omega.{arith}
-use lib.ListN.{length, set, length-set}
-use Rattle.indices.specs.Columns.{at}
 use Rattle.sheet.specs.Words.{words}
-use Rattle.sheet.specs.Regions.{region_count, arc_word, parent_word, is_leaf, leaf_arc}
-use Rattle.sheet.proofs.Regions.{parent_of_word}
+use Rattle.sheet.specs.Regions.{arc_word, parent_word, is_leaf, leaf_arc}
 use Rattle.run_arrays.specs.Fixed.{no_arc}
-use Rattle.run_layout.specs.Regions.{Nested, ParentsEntered, arc_entered}
-use Rattle.indices.proofs.Entries.{Entered, entered_more}
-
--- PARENTS
-
--- the regions of the words below k have their parents
-pub record EnteringParents (d parents : List ℕ) (k : ℕ) : Type 0 where
-  pub within : k ≤ words d
-  pub all : length parents ≡ region_count d
-  pub entries : Entered (λ j. j + 1) (parent_word d) parents k
-
-pub parents_more : {d parents : List ℕ} {k p : ℕ} → EnteringParents d parents k → k < words d → p ≡ parent_word d k
-    → EnteringParents d (set parents (k + 1) p) (k + 1)
-parents_more {d} {parents} {k} {p} P l e = record {
-  within = omega arith;
-  all = simp length-set P.all;
-  entries = entered_more p (λ j h. omega arith) (omega (arith, P.all)) e P.entries;
-}
-
-pub parents_all : {d parents : List ℕ} {k : ℕ} → EnteringParents d parents k → words d ≤ k → ParentsEntered d parents
-parents_all {d} {parents} P l = record {
-  all = P.all;
-  same =
-      λ r pos h.
-      let back : r ≡ r - 1 + 1 = omega arith in
-      ap (at parents) back ∙ P.entries.entry (r - 1) (omega arith) ∙ parent_of_word d r pos;
-}
+use Rattle.run_layout.specs.Regions.{Nested, arc_entered}
 
 -- a parent is a region, so that 16 bits hold it
 pub parent_fits : {d : List ℕ} → Nested d → (k : ℕ) → k < words d → parent_word d k < 65536

@@ -62,7 +62,10 @@ pub record CountBounds (rows : List ℕ) (c up lower : ℕ) : Type 0 where
   pub fits : lower < 65535
 
 -- region c is counted
-module _ {d : Division} {parents rows : List ℕ} {c : ℕ} (P : ParentsOf d parents) (C : Counting d rows c) (l : c < regions d) where
+module _ {d : Division} {parents rows : List ℕ} {c : ℕ} (P : ParentsOf d parents) (C : Counting d rows c) (given : c < length parents) where
+  l : c < regions d
+  l = omega (arith, P.all)
+
   up : ℕ
   up = at parents c
 
@@ -134,10 +137,10 @@ module _ {d : Division} {parents rows : List ℕ} {c : ℕ} (P : ParentsOf d par
       ranks = ranks_after;
     })
 
-pub counting_end : {d : Division} {parents rows : List ℕ} {c : ℕ} → ParentsOf d parents → Counting d rows c → regions d ≤ c → Ranked d rows
+pub counting_end : {d : Division} {parents rows : List ℕ} {c : ℕ} → ParentsOf d parents → Counting d rows c → length parents ≤ c → Ranked d rows
 unfolding child_count
 counting_end {d} {parents} {rows} {c} P C l =
-    let e : c ≡ regions d = omega (arith, C.within) in
+    let e : c ≡ regions d = omega (arith, C.within, P.all) in
     record {
       counted =
           record {

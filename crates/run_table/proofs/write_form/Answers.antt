@@ -6,8 +6,6 @@ use native.Mathlib.Nat.{le_refl}
 use native.Mathlib.Omega.{arith}
 use lib.ListN.{length, take, drop}
 use lib.Seq.{length-take-le}
-use Rattle.run_counts.specs.Figures.{figures_in}
-use Rattle.run_arrays.specs.Sections.{own_section}
 use Rattle.run_table.specs.Finish.{NodesFit}
 use Rattle.run_table.proofs.Stages.{whole_long, rest_long, form_written}
 use Rattle.run_table.proofs.write_form.Goals as goal
@@ -43,7 +41,7 @@ write_nodes-requires c =
     let room : front ≤ length lent = omega (arith, c.table_length-front.ensures, c.requires.room) in
     let a = c.args in
     let long = length-take-le front lent room ∙ c.table_length-front.ensures in
-    subst (λ (words : ℕ). NodesFit (figures_in a.counts.now) a.state.now a.n words) (sym long) c.requires.nodes
+    subst (λ (words : ℕ). NodesFit a.run.now a.n words) (sym long) c.requires.nodes
 
 pub own_keys_of-requires : goal.own_keys_of-requires
 own_keys_of-requires c = omega (arith, c.table_length-front.ensures, c.requires.few)
@@ -91,5 +89,5 @@ returns c =
     let room : front ≤ length lent = omega (arith, c.table_length-front.ensures, c.requires.room) in
     let usual : List ℕ = c.write_nodes.new.table in
     let as_many : length usual ≡ length (take front lent) = c.write_nodes.auto.table in
-    form_written front lent usual room as_many (own_section c.args.state.now)
+    form_written front lent usual room as_many c.args.run.now.keys.own
     c.table_length-front.ensures c.write_nodes.ensures c.write_keys.ensures c.own_keys_of.ensures.0

@@ -1,17 +1,10 @@
--- `put_word` meets its contract: four stores.
-use native.Mathlib.Omega.{arith}
-use lib.ListN.{length-set}
-use Rattle.sheet_writer.proofs.Words.{put_bytes}
+-- `put_word` meets its contract: the bytes of a word, most significant first, are copied.
+use Rattle.std.proofs.Common.{◌≡◌, ◌/◌, ◌%◌, ◌∙◌, arith}
+use Rattle.sheet_writer.proofs.Words.{copied}
 use Rattle.sheet_writer.proofs.put_word.Goals as goal
 
-pub bounds-out-at-2 : goal.bounds-out-at-2
-bounds-out-at-2 c = simp length-set (omega arith)
-
-pub bounds-out-at-3 : goal.bounds-out-at-3
-bounds-out-at-3 c = simp length-set (omega arith)
-
-pub bounds-out-at-4 : goal.bounds-out-at-4
-bounds-out-at-4 c = simp length-set (omega arith)
-
 pub returns : goal.returns
-returns c = put_bytes _ _ _
+returns c =
+    -- the highest byte
+    let high : c.args.w / 16777216 % 256 ≡ c.args.w / 16777216 = omega arith in
+    copied _ _ _ _ (c.copy_from_slice.ensures.after ∙ c.to_be_bytes.ensures ∙ rw high) (omega arith) (omega arith)

@@ -10,7 +10,7 @@ use Rattle.procedure.specs.OfSheet.{graph_of}
 use Rattle.procedure.proofs.OfSheet.{graph_tail}
 use Rattle.calls.specs.Tables.{label_in, predecessor_in}
 use Rattle.calls.proofs.Tables.{labels_at, predecessors_at_lem}
-use Rattle.table.specs.Fitting.{labels, predecessors, node_before}
+use Rattle.table.specs.Fits.{labels, predecessors, node_before}
 
 module _ (b table : List ℕ) (v : ℕ) (l : v < node_count b) where
   pub label_there : label_in table v ≡ at (labels b table) v

@@ -7,11 +7,11 @@ use Rattle.table.proofs.write_nodes.Goals as goal
 pub loop-v-init : goal.loop-v-init
 loop-v-init c = writing_start (no_node_words _ _)
 
-pub label_word-label-requires : goal.label_word-label-requires
-label_word-label-requires c = c.requires.label _ (search rules)
+pub label_word-first-requires : goal.label_word-first-requires
+label_word-first-requires c = c.requires.label _ (search rules)
 
-pub predecessor_word-predecessor-requires : goal.predecessor_word-predecessor-requires
-predecessor_word-predecessor-requires c = c.requires.predecessor _ (search rules)
+pub predecessor_word-second-requires : goal.predecessor_word-second-requires
+predecessor_word-second-requires c = c.requires.predecessor _ (search rules)
 
 pub write_pair-requires : goal.write_pair-requires
 write_pair-requires c = search (rules, node_places)

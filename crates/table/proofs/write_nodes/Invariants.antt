@@ -1,4 +1,3 @@
-use Prim.Native.Nat.{◌-◌}
 use lib.ListN.{length}
 use Rattle.procedure.specs.Table.{node_words, header_length}
 use Rattle.table.proofs.Writing.{Writing}
@@ -6,6 +5,3 @@ use Rattle.table.proofs.write_nodes.Given as goal
 
 abbrev pub invariant-loop-v : goal.invariant-loop-v
 invariant-loop-v l = Writing header_length (length l.labels) (node_words l.labels l.predecessors) l.initial.table l.table l.v
-
-abbrev pub decreases-loop-v : goal.decreases-loop-v
-decreases-loop-v l = length l.labels - l.v

@@ -7,19 +7,19 @@ use mathlib.Core.List.{List}
 use lib.Dec.{leb, eqb}
 use borrow.Author.Tests.{eq-eqb, ne_eqb}
 use Rattle.indices.specs.Columns.{at}
-use Rattle.sheet.specs.declared.Sections.{Sections}
 use Rattle.sheet.specs.Words.{top}
 use Rattle.sheet.specs.Sections.{source, arc_count}
 use Rattle.sheet.specs.Arcs.{tail as tailField, head as headField, taken_length}
+use Rattle.judgement.proofs.Accepted.{few_nodes, source_in, tail_in_lem, head_in, taken_short}
 use Rattle.procedure.specs.Graph.{tail}
 use Rattle.procedure.specs.OfSheet.{graph_of}
 use Rattle.theory_shortest.specs.TableTest.{source_test, relaxed_test}
 use Rattle.calls.specs.Tables.{label_in, predecessor_in}
-use Rattle.table.specs.Fitting.{Fitting, labels}
-use Rattle.table.proofs.read.AtArcs.{from_label, to_label, arc_length_lem, source_label, source_predecessor}
+use Rattle.table.specs.Fits.{TableFits, labels}
+use Rattle.table.proofs.lent.AtArcs.{from_label, to_label, arc_length_lem, source_label, source_predecessor}
 use Rattle.table_shortest.specs.ArcChecks.{source_fits, arc_relaxed}
 
-module _ {b table : List ℕ} {sections' : Sections} (F : Fitting b sections' table) where
+module _ {b table : List ℕ} (F : TableFits b table) where
   -- the source u, with label x
   module _ {u x : ℕ} (e : u ≡ source b) (ex : x ≡ label_in table u) where
     pub source_not_zero : x ≢ 0 → false ≡ source_fits b table
@@ -41,3 +41,8 @@ module _ {b table : List ℕ} {sections' : Sections} (F : Fitting b sections' ta
       pub relaxed_compared : {w y : ℕ} → w ≡ headField b a → y ≡ label_in table w → leb y (x + n) ≡ arc_relaxed b table a
       unfolding relaxed_test
       relaxed_compared ew ey = rw (← from_label F la eu ex, ne_eqb x top reached, ← to_label F la ew ey, ← arc_length_lem F la en)
+
+-- the source and its number, and an arc's ends and length
+pub ruleset source_steps = (few_nodes, source_in, source_not_zero, source_zero)
+
+pub ruleset arc_steps = (tail_in_lem, head_in, taken_short, relaxed_unreached, relaxed_compared)

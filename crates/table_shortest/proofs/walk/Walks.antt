@@ -15,9 +15,9 @@ use Rattle.indices.specs.Tests.{count}
 use Rattle.indices.proofs.Steps.{by_equal, by_truth, set_elim}
 use Rattle.indices.proofs.Tally.{blank}
 use Rattle.indices.proofs.Totals.{count_one}
-use Rattle.sheet.specs.declared.Sections.{Sections}
 use Rattle.sheet.specs.Words.{top}
 use Rattle.sheet.specs.Sections.{node_count, source, arc_count}
+use Rattle.judgement.specs.Judgement.{Accepted}
 use Rattle.judgement.proofs.Accepted.{few_nodes, source_in}
 use Rattle.procedure.specs.OfSheet.{graph_of}
 use Rattle.procedure.proofs.OfSheet.{graph_nodes, graph_source, graph_arcs}
@@ -26,7 +26,7 @@ use Rattle.theory_shortest.specs.TableTest.{leads_back, led_test}
 use Rattle.theory_shortest.proofs.Depth.{Depth, home, back, depth_unique, depth_below}
 use Rattle.theory_shortest.proofs.LeadsBack.{depth_leads, leads_depth}
 use Rattle.calls.specs.Tables.{label_in, predecessor_in}
-use Rattle.table.specs.Fitting.{labels, predecessors, node_before}
+use Rattle.table.specs.Fits.{labels, predecessors, node_before}
 use Rattle.table.proofs.read.Columns.{label_there, predecessor_there}
 use Rattle.table_shortest.specs.WalkChecks.{node_led}
 use Rattle.table_shortest.specs.Stamps.{Followable, leads, Stamped}
@@ -73,7 +73,7 @@ module _ {b table : List ℕ} where
     down = λ p. p;
   }
 
-  module _ {sections' : Sections} (F : Followable b sections' table) where
+  module _ (ok : Accepted b) (F : Followable b table) where
     -- v has a depth: it leads back
     depth_led : {v : ℕ} → Leads b table v → leads b table v ≡ true
     depth_led p =
@@ -93,7 +93,7 @@ module _ {b table : List ℕ} where
     -- the feeder of a reached node other than the source is a node
     before_in : (v : ℕ) → v < node_count b → at (labels b table) v ≢ top → v ≢ source b → node_before b table v < node_count b
     before_in v l r n =
-        let good = (accepted_well_formed b F.fitting.accepted).graph in
+        let good = (accepted_well_formed b ok).graph in
         omega (arith, graph_nodes b, good.tail_in_lem (at (predecessors b table) v) (F.onward v l r n).is_arc_lem)
 
     -- a reached node that leads back has a depth
@@ -116,20 +116,20 @@ module _ {b table : List ℕ} where
     }
       where
         source_led : leads b table (source b) ≡ true
-        source_led = depth_led (0, home (omega (arith, graph_nodes b, source_in b F.fitting.accepted)) (sym (graph_source b)))
+        source_led = depth_led (0, home (omega (arith, graph_nodes b, source_in b ok)) (sym (graph_source b)))
 
         long : length stamps ≡ 1024
         long = ap length e ∙ length-replicate {A = ℕ} 1024 0
 
         there : h < length stamps
-        there = omega (arith, long, eh, source_in b F.fitting.accepted, few_nodes b F.fitting.accepted)
+        there = omega (arith, long, eh, source_in b ok, few_nodes b ok)
 
         zero_at : (w : ℕ) → w < node_count b → at stamps w ≡ 0
-        zero_at w lw = ap (λ (l : List ℕ). at l w) e ∙ get_or-replicate {A = ℕ} 1024 w 0 0 (omega (arith, few_nodes b F.fitting.accepted))
+        zero_at w lw = ap (λ (l : List ℕ). at l w) e ∙ get_or-replicate {A = ℕ} 1024 w 0 0 (omega (arith, few_nodes b ok))
 
     module _ {stamps : List ℕ} {v u : ℕ} (W : Walking b table stamps v u) where
       u_in : u < length stamps
-      u_in = omega (arith, W.long, W.inside, few_nodes b F.fitting.accepted)
+      u_in = omega (arith, W.long, W.inside, few_nodes b ok)
 
       -- a node without a stamp is not the source
       module _ (blank : at stamps u ≡ 0) where
@@ -208,3 +208,6 @@ module _ {b table : List ℕ} where
             λ f. absurd (true≢false (sym f)),
           ))
           (λ n. rw (ne_eqb (at stamps u) (v + 2) n) (sym (led_reached v r ∙ walk_led met n), λ _. walk_stamped met n))
+
+-- one walk
+pub ruleset walk_steps = (few_nodes, led_unreached, stamps_on, walk_start, walk_less)

@@ -1,42 +1,40 @@
 -- `write_arc` meets its contract: nothing, or the arc's two words.
-use Prim.Native.Nat.{◌+◌, ◌*◌, ◌≤◌}
 use native.Mathlib.Omega.{arith}
-use lib.ListN.{length}
-use Rattle.indices.specs.Columns.{at}
-use Rattle.sheet.proofs.Bounds.{arc_inside}
-use Rattle.conversion_words.proofs.arcs.Arcs.{none_written, pair_room, pair_written}
+use Rattle.judgement.proofs.Accepted.{few_arcs}
+use Rattle.conversion_words.proofs.arcs.Arcs.{arcs_inside, none_written, pair_room, pair_written}
 use Rattle.conversion_words.proofs.arcs.write_arc.Goals as goal
 
+pub offset_bounds-n-a : goal.offset_bounds-n-a
+offset_bounds-n-a c = omega (arith, few_arcs _ c.args.n.now.numbered.arcs_numbered.convertible, c.requires.0)
+
+pub bounds-n-a : goal.bounds-n-a
+bounds-n-a c = omega (arith, few_arcs _ c.args.n.now.numbered.arcs_numbered.convertible, c.requires.0)
+
 pub returns-then-number : goal.returns-then-number
-returns-then-number c = none_written c.requires.0 _ c.requires.1 c.if-number.true
+returns-then-number c = none_written c.args.n.now.numbered.arcs_numbered _ c.requires.0 _ _ c.if-number.true
 
-pub overflow_cast-number : goal.overflow_cast-number
-overflow_cast-number c =
-    -- the words of an arc that is kept have room
-    let room : 4 * (c.args.place + 2 * at c.args.arcs.now c.args.a + 2) ≤ length c.args.out.now = pair_room c.requires.0 _ c.requires.1 c.if-number.false in
-    let fits = room in omega arith
+-- the words of the arcs are words of the sheet, of which there are few
+pub overflow_add-first : goal.overflow_add-first
+overflow_add-first c = omega (arith, arcs_inside c.args.n.now.numbered.arcs_numbered.convertible, c.spans.ensures)
 
-pub overflow_mul-number : goal.overflow_mul-number
-overflow_mul-number c =
-    -- the words of an arc that is kept have room
-    let room : 4 * (c.args.place + 2 * at c.args.arcs.now c.args.a + 2) ≤ length c.args.out.now = pair_room c.requires.0 _ c.requires.1 c.if-number.false in
-    let fits = room in omega arith
+pub overflow_add-first-2 : goal.overflow_add-first-2
+overflow_add-first-2 c = omega (arith, arcs_inside c.args.n.now.numbered.arcs_numbered.convertible, c.spans.ensures, c.holds.ensures)
 
-pub overflow_add-place : goal.overflow_add-place
-overflow_add-place c =
-    -- the words of an arc that is kept have room
-    let room : 4 * (c.args.place + 2 * at c.args.arcs.now c.args.a + 2) ≤ length c.args.out.now = pair_room c.requires.0 _ c.requires.1 c.if-number.false in
-    let fits = room in omega arith
+pub overflow_mul-a : goal.overflow_mul-a
+overflow_mul-a c = omega (arith, arcs_inside c.args.n.now.numbered.arcs_numbered.convertible, c.requires.0)
+
+pub overflow_add-first-3 : goal.overflow_add-first-3
+overflow_add-first-3 c = omega (arith, arcs_inside c.args.n.now.numbered.arcs_numbered.convertible, c.spans.ensures, c.holds.ensures, c.requires.0)
 
 pub write_words-requires : goal.write_words-requires
 write_words-requires c =
-    -- the words of an arc that is kept have room
-    let room : 4 * (c.args.place + 2 * at c.args.arcs.now c.args.a + 2) ≤ length c.args.out.now = pair_room c.requires.0 _ c.requires.1 c.if-number.false in
-    let inside = arc_inside c.requires.0.located _ c.requires.1 in
-    let fits = room in
-    (omega arith, omega arith)
+    let A = c.args.n.now.numbered.arcs_numbered in
+    rw c.bytes.ensures.bytes (
+      omega (arith, arcs_inside A.convertible, c.spans.ensures, c.holds.ensures, c.requires.0),
+      omega (arith, pair_room A _ c.requires.0 c.if-number.false c.args.place _ c.requires.1, c.from.ensures),
+    )
 
 pub returns : goal.returns
 returns c =
-    pair_written c.requires.0 _ c.requires.1 c.if-number.false _ _ (omega (arith, c.requires.0.located.arcs_from_lem)) (omega arith)
-    c.write_words.ensures
+    pair_written c.args.n.now.numbered.arcs_numbered _ c.requires.0 c.if-number.false _ _ _ _ (omega (arith, c.spans.ensures, c.holds.ensures))
+    (omega (arith, c.from.ensures)) (rw c.bytes.ensures.bytes at c.write_words.ensures)

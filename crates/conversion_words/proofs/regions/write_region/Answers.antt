@@ -1,61 +1,31 @@
 -- `write_region` meets its contract: nothing, or the region's new word.
-use Prim.Native.Nat.{◌+◌, ◌*◌, ◌≤◌}
-use mathlib.Core.Path.{◌≡◌}
 use native.Mathlib.Omega.{arith}
-use lib.ListN.{length}
-use Rattle.indices.specs.Columns.{at}
-use Rattle.conversion_words.proofs.regions.Regions.{before, region_kept, region_place, number_is, none_written, word_room, word_written}
+use Rattle.conversion_words.proofs.regions.Regions.{region_kept, region_place, none_written, word_place, word_room, word_written}
 use Rattle.conversion_words.proofs.regions.write_region.Goals as goal
 
-pub bounds-regions-k : goal.bounds-regions-k
-bounds-regions-k c = region_place c.requires.0.1.numbered _ c.requires.1
+pub bounds-n-k : goal.bounds-n-k
+bounds-n-k c = region_place c.args.n.now.numbered _ c.requires.0
 
 pub returns-then-number : goal.returns-then-number
-returns-then-number c = λ b W. none_written W _ c.requires.1 c.if-number.true
-
-pub overflow_cast-i : goal.overflow_cast-i
-overflow_cast-i c =
-    -- the word of a region that is kept has its place
-    let place : let b = c.requires.0.0 in (4 * (c.args.place + before b c.args.k) + 4 ≤ length c.args.out.now)
-    × (c.args.place + at c.args.regions.now (c.args.k + 1) ≡ c.args.place + before b c.args.k + 1) =
-    let given = c.requires.0.1 in let number = number_is given.numbered _ c.requires.1 (region_kept given.numbered _ c.requires.1 c.if-number.false) in
-    (word_room given _ c.requires.1 c.if-number.false, omega arith) in
-    let p = place in omega arith
-
-pub overflow_add-i : goal.overflow_add-i
-overflow_add-i c =
-    -- the word of a region that is kept has its place
-    let place : let b = c.requires.0.0 in (4 * (c.args.place + before b c.args.k) + 4 ≤ length c.args.out.now)
-    × (c.args.place + at c.args.regions.now (c.args.k + 1) ≡ c.args.place + before b c.args.k + 1) =
-    let given = c.requires.0.1 in let number = number_is given.numbered _ c.requires.1 (region_kept given.numbered _ c.requires.1 c.if-number.false) in
-    (word_room given _ c.requires.1 c.if-number.false, omega arith) in
-    let p = place in omega arith
+returns-then-number c = none_written c.args.n.now.numbered _ c.requires.0 _ _ c.if-number.true
 
 pub overflow_sub-i : goal.overflow_sub-i
-overflow_sub-i c =
-    -- the word of a region that is kept has its place
-    let place : let b = c.requires.0.0 in (4 * (c.args.place + before b c.args.k) + 4 ≤ length c.args.out.now)
-    × (c.args.place + at c.args.regions.now (c.args.k + 1) ≡ c.args.place + before b c.args.k + 1) =
-    let given = c.requires.0.1 in let number = number_is given.numbered _ c.requires.1 (region_kept given.numbered _ c.requires.1 c.if-number.false) in
-    (word_room given _ c.requires.1 c.if-number.false, omega arith) in
-    let p = place in omega arith
+overflow_sub-i c = omega (arith, word_place c.args.n.now.numbered _ c.requires.0 c.if-number.false c.args.place _ c.from.ensures)
 
 pub new_word-requires : goal.new_word-requires
-new_word-requires c =
-    let given = c.requires.0 in
-    ((given.0, given.1.numbered, region_kept given.1.numbered _ c.requires.1 c.if-number.false), c.requires.1)
+new_word-requires c = (c.requires.0, region_kept c.args.n.now.numbered _ c.requires.0 c.if-number.false)
 
 pub put_word-requires : goal.put_word-requires
 put_word-requires c =
-    -- the word of a region that is kept has its place
-    let place : let b = c.requires.0.0 in (4 * (c.args.place + before b c.args.k) + 4 ≤ length c.args.out.now)
-    × (c.args.place + at c.args.regions.now (c.args.k + 1) ≡ c.args.place + before b c.args.k + 1) =
-    let given = c.requires.0.1 in let number = number_is given.numbered _ c.requires.1 (region_kept given.numbered _ c.requires.1 c.if-number.false) in
-    (word_room given _ c.requires.1 c.if-number.false, omega arith) in
-    let p = place in omega arith
+    let N = c.args.n.now.numbered in
+    omega (
+      arith,
+      word_place N _ c.requires.0 c.if-number.false c.args.place _ c.from.ensures,
+      word_room N _ c.requires.0 c.if-number.false c.args.place _ c.requires.1,
+    )
 
 pub returns : goal.returns
 returns c =
-    λ b W.
-    word_written W _ c.requires.1 c.if-number.false _ _ (omega arith)
-    (c.new_word.ensures b W.numbered (region_kept W.numbered _ c.requires.1 c.if-number.false)) c.put_word.ensures
+    let N = c.args.n.now.numbered in
+    word_written N _ c.requires.0 c.if-number.false _ _ _ _
+    (omega (arith, word_place N _ c.requires.0 c.if-number.false c.args.place _ c.from.ensures)) c.new_word.ensures c.put_word.ensures

@@ -1,4 +1,3 @@
-use Prim.Native.Nat.{◌-◌}
 use Rattle.indices.proofs.Entries.{Prefix}
 use Rattle.procedure.specs.Table.{counts_length}
 use Rattle.calls.specs.Tables.{count_in}
@@ -6,6 +5,3 @@ use Rattle.resume.proofs.entered.enter_counts.Given as goal
 
 abbrev pub invariant-loop-i : goal.invariant-loop-i
 invariant-loop-i l = Prefix counts_length (count_in l.table) l.counts l.i
-
-abbrev pub decreases-loop-i : goal.decreases-loop-i
-decreases-loop-i l = counts_length - l.i

@@ -5,22 +5,13 @@ use Rattle.run_arrays.proofs.trees.Room.{can_build}
 use Rattle.resume.proofs.queues.Rebuilding.{keys_cleared, keys_rebuilt}
 use Rattle.resume.proofs.queues.rebuild.Goals as goal
 
-pub clear-requires : goal.clear-requires
-clear-requires c =
-    let laid = c.requires.relaid.laid in
-    record {
-      division = _;
-      buildable = can_build laid.fixed_ok laid.planned (search rules);
-      all_regions = c.requires.all_regions;
-    }
-
 pub enter_keys-updates-requires : goal.enter_keys-updates-requires
 unfolding top
 enter_keys-updates-requires c =
     -- THE TREES are built
     let laid = c.requires.relaid.laid in
     let cleared = c.clear.ensures _ (can_build laid.fixed_ok laid.planned (search rules)) c.requires.all_regions in
-    keys_cleared c.requires cleared
+    keys_cleared c.requires _ cleared
 
 pub returns : goal.returns
-returns c = keys_rebuilt c.requires c.enter_keys-updates.ensures
+returns c = keys_rebuilt c.requires _ c.enter_keys-updates.ensures

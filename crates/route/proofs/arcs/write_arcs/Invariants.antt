@@ -1,8 +1,5 @@
 use Rattle.route.proofs.arcs.Following.{Writing}
 use Rattle.route.proofs.arcs.write_arcs.Given as goal
 
-abbrev pub invariant-loop-left : goal.invariant-loop-left
-invariant-loop-left l = Writing l.s l.table l.initial.buffer l.initial.u.0 l.arcs l.buffer l.u.0 l.left
-
-abbrev pub decreases-loop-left : goal.decreases-loop-left
-decreases-loop-left l = l.left
+abbrev pub invariant-loop-place : goal.invariant-loop-place
+invariant-loop-place l = Writing l.table.sheet.now l.table.words.now l.initial.way l.initial.u.0 l.way l.u.0 l.place

@@ -4,6 +4,3 @@ use Rattle.run_arrays.proofs.rows.link.Given as goal
 
 abbrev pub invariant-loop-a : goal.invariant-loop-a
 invariant-loop-a l = Linking l.initial.arcs (length l.initial.firsts) l.arcs l.firsts l.a
-
-abbrev pub decreases-loop-a : goal.decreases-loop-a
-decreases-loop-a l = l.a

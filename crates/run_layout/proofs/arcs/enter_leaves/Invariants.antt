@@ -1,10 +1,11 @@
-use Prim.Native.Nat.{◌-◌}
-use Rattle.sheet.specs.Words.{words}
-use Rattle.run_layout.proofs.arcs.Leaves.{EnteringLeaves}
+-- The words passed are entered.
+use Rattle.std.proofs.Common.{◌≡◌, ℕ, suc, ◌<◌, true, length}
+use Rattle.sheet.specs.Regions.{leaf_word, arc_word}
+use Rattle.run_arrays.specs.Rows.{field, row_leaf}
 use Rattle.run_layout.proofs.arcs.enter_leaves.Given as goal
 
 abbrev pub invariant-loop-k : goal.invariant-loop-k
-invariant-loop-k l = EnteringLeaves l.d l.initial.arcs l.arcs l.k
-
-abbrev pub decreases-loop-k : goal.decreases-loop-k
-decreases-loop-k l = words l.d - l.k
+invariant-loop-k l =
+    (length l.arcs ≡ length l.initial.arcs)
+    × ((j : ℕ) → j < l.k → leaf_word l.d j ≡ true → row_leaf l.arcs (arc_word l.d j) ≡ suc j)
+    × ((a i : ℕ) → i < 2 → field l.arcs a i ≡ field l.initial.arcs a i)

@@ -1,10 +1,6 @@
-use Prim.Native.Nat.{◌-◌}
 use Rattle.sheet.specs.Sections.{span_count, span}
 use Rattle.indices.proofs.Entries.{Prefix}
 use Rattle.run_layout.proofs.lengths.enter_spans.Given as goal
 
 abbrev pub invariant-loop-i : goal.invariant-loop-i
 invariant-loop-i l = Prefix (span_count l.s) (span l.s) l.spans l.i
-
-abbrev pub decreases-loop-i : goal.decreases-loop-i
-decreases-loop-i l = span_count l.s - l.i

@@ -1,4 +1,3 @@
-use Prim.Native.Nat.{◌-◌}
 use lib.ListN.{length}
 use Rattle.indices.specs.Columns.{at}
 use Rattle.indices.proofs.Entries.{Prefix}
@@ -6,6 +5,3 @@ use Rattle.run_layout.proofs.regions.enter_heights.Given as goal
 
 abbrev pub invariant-loop-i : goal.invariant-loop-i
 invariant-loop-i l = Prefix (length l.initial.heights) (at l.found) l.heights l.i
-
-abbrev pub decreases-loop-i : goal.decreases-loop-i
-decreases-loop-i l = length l.initial.heights - l.i

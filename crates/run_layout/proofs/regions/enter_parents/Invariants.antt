@@ -1,10 +1,8 @@
-use Prim.Native.Nat.{◌-◌}
-use Rattle.sheet.specs.Words.{words}
-use Rattle.run_layout.proofs.regions.Rows.{EnteringParents}
+-- The words passed have given their parents.
+use Rattle.std.proofs.Common.{◌≡◌, ℕ, ◌<◌, ◌≤◌, length}
+use Rattle.indices.specs.Columns.{at}
+use Rattle.sheet.specs.Regions.{region_count, parent}
 use Rattle.run_layout.proofs.regions.enter_parents.Given as goal
 
 abbrev pub invariant-loop-k : goal.invariant-loop-k
-invariant-loop-k l = EnteringParents l.d l.parents l.k
-
-abbrev pub decreases-loop-k : goal.decreases-loop-k
-decreases-loop-k l = words l.d - l.k
+invariant-loop-k l = (length l.parents ≡ region_count l.d) × ((r : ℕ) → 0 < r → r ≤ l.k → at l.parents r ≡ parent l.d r)

@@ -1,4 +1,3 @@
-use Prim.Native.Nat.{◌-◌}
 use Rattle.indices.proofs.Entries.{Prefix}
 use Rattle.sheet.specs.Regions.{region_count}
 use Rattle.run_layout.specs.Regions.{arc_entered}
@@ -6,6 +5,3 @@ use Rattle.run_layout.proofs.regions.enter_region_arcs.Given as goal
 
 abbrev pub invariant-loop-r : goal.invariant-loop-r
 invariant-loop-r l = Prefix (region_count l.d) (arc_entered l.d) l.arcs l.r
-
-abbrev pub decreases-loop-r : goal.decreases-loop-r
-decreases-loop-r l = region_count l.d - l.r

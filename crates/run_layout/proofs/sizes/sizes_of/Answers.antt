@@ -3,4 +3,4 @@ use Rattle.run_layout.proofs.sizes.Parts.{in_use}
 use Rattle.run_layout.proofs.sizes.sizes_of.Goals as goal
 
 pub returns : goal.returns
-returns c = in_use c.requires.0 c.requires.1 c.node_count.ensures c.region_words.ensures
+returns c = in_use c.requires c.node_count.ensures c.arcs.ensures c.spans.ensures c.region_words.ensures

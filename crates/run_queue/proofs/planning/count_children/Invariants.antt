@@ -1,4 +1,3 @@
-use Prim.Native.Nat.{◌-◌}
 use Rattle.procedure.specs.Division.{Division}
 use Rattle.run_arrays.specs.Trees.{ParentsOf}
 use Rattle.run_queue.proofs.planning.Planning.{Counting}
@@ -6,6 +5,3 @@ use Rattle.run_queue.proofs.planning.count_children.Given as goal
 
 abbrev pub invariant-loop-c : goal.invariant-loop-c
 invariant-loop-c l = (d : Division) → ParentsOf d l.parents → Counting d l.rows l.c
-
-abbrev pub decreases-loop-c : goal.decreases-loop-c
-decreases-loop-c l = l.n - l.c

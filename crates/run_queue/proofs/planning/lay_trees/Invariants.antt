@@ -1,4 +1,4 @@
-use Prim.Native.Nat.{◌*◌, ◌-◌}
+use Prim.Native.Nat.{◌*◌}
 use mathlib.Core.Path.{◌≡◌}
 use lib.ListN.{length}
 use Rattle.procedure.specs.Division.{Division, regions}
@@ -7,8 +7,4 @@ use Rattle.run_queue.proofs.planning.Planning.{Laying}
 use Rattle.run_queue.proofs.planning.lay_trees.Given as goal
 
 abbrev pub invariant-loop-r : goal.invariant-loop-r
-invariant-loop-r l = (length l.rows ≡ length l.initial.rows)
-    × ((d : Division) → Ranked d l.initial.rows → length l.initial.rows ≡ 4 * regions d → Laying d l.rows l.start l.r)
-
-abbrev pub decreases-loop-r : goal.decreases-loop-r
-decreases-loop-r l = l.n - l.r
+invariant-loop-r l = (d : Division) → Ranked d l.initial.rows → length l.initial.rows ≡ 4 * regions d → Laying d l.rows l.start l.r

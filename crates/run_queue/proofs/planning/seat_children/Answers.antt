@@ -1,51 +1,37 @@
 -- `seat_children` meets its contract: the rows of the regions passed say their places.
 use Prim.Native.Nat.{◌<◌}
-use mathlib.Core.Path.{◌≡◌, refl}
 use native.Mathlib.Omega.{arith}
-use Rattle.procedure.specs.Division.{regions, parent}
-use Rattle.run_queue.proofs.planning.Planning.{Seating, seating_start, seat_row, seat_fits, seating_step, seating_end}
+use Rattle.procedure.specs.Division.{regions}
+use Rattle.run_queue.proofs.planning.Planning.{seating_start, seat_row, seat_fits, seating_step, seating_end}
 use Rattle.run_queue.proofs.planning.seat_children.Goals as goal
 
 pub loop-c-init : goal.loop-c-init
-loop-c-init c = (refl, λ d S _. seating_start S)
+loop-c-init c = λ d S _. seating_start S
 
 pub parent_of-parent-requires : goal.parent_of-parent-requires
 parent_of-parent-requires c =
-    -- the regions below this one are seated, for the given division
-    let seating : Seating c.requires.division c.loop-c.rows c.loop-c.c = c.loop-c.invariant.1 _ c.requires.known c.requires.each_row in
-    let inside : c.loop-c.c < regions c.requires.division = omega (arith, c.loop-c-test.true, c.requires.each_row) in
-    let now = seating in
-    record { division = _; counted = now.counted; positive = now.above; inside = inside }
+    let seating = c.loop-c.invariant _ c.requires.known c.requires.each_row in
+    record { division = _; counted = seating.counted; positive = seating.above; inside = omega (arith, c.loop-c-test.true, c.requires.each_row) }
 
 pub children_of-requires : goal.children_of-requires
 children_of-requires c =
-    -- the regions below this one are seated, for the given division
-    let seating : Seating c.requires.division c.loop-c.rows c.loop-c.c = c.loop-c.invariant.1 _ c.requires.known c.requires.each_row in
+    let seating = c.loop-c.invariant _ c.requires.known c.requires.each_row in
     let inside : c.loop-c.c < regions c.requires.division = omega (arith, c.loop-c-test.true, c.requires.each_row) in
-    let over : c.parent_of-parent.result.0 ≡ parent c.requires.division c.loop-c.c = c.parent_of-parent.ensures _ seating.counted inside in
-    seat_row seating inside over
+    seat_row seating inside (c.parent_of-parent.ensures _ seating.counted inside)
 
 pub overflow_add-place : goal.overflow_add-place
 overflow_add-place c =
-    -- the regions below this one are seated, for the given division
-    let seating : Seating c.requires.division c.loop-c.rows c.loop-c.c = c.loop-c.invariant.1 _ c.requires.known c.requires.each_row in
+    let seating = c.loop-c.invariant _ c.requires.known c.requires.each_row in
     let inside : c.loop-c.c < regions c.requires.division = omega (arith, c.loop-c-test.true, c.requires.each_row) in
-    let over : c.parent_of-parent.result.0 ≡ parent c.requires.division c.loop-c.c = c.parent_of-parent.ensures _ seating.counted inside in
-    let children = c.children_of in
-    omega (arith, seat_fits seating inside over children.ensures c.seat_of.ensures)
+    omega (arith, seat_fits seating inside (c.parent_of-parent.ensures _ seating.counted inside) c.children_of.ensures c.seat_of.ensures)
 
 pub loop-c-preserved : goal.loop-c-preserved
 loop-c-preserved c =
-    let inside : c.loop-c.c < regions c.requires.division = omega (arith, c.loop-c-test.true, c.requires.each_row) in
-    let stored = c.set_field in
-    let loop = c.loop-c in (
-      omega (arith, stored.auto, loop.invariant.0),
-      rw stored.ensures
-          (λ d S e.
-          let S' = loop.invariant.1 d S e in
-          let inside : loop.c < regions d = omega (arith, c.loop-c-test.true, e) in
-          seating_step S' inside (c.parent_of-parent.ensures d S'.counted inside) c.children_of.ensures c.seat_of.ensures),
-    )
+    rw c.set_field.ensures
+    (λ d S e.
+    let seating = c.loop-c.invariant d S e in
+    let inside : c.loop-c.c < regions d = omega (arith, c.loop-c-test.true, e) in
+    seating_step seating inside (c.parent_of-parent.ensures d seating.counted inside) c.children_of.ensures c.seat_of.ensures)
 
 pub returns : goal.returns
-returns c d S e = seating_end (c.loop-c.invariant.1 d S e) (omega (arith, c.loop-c-test.false, e))
+returns c d S e = seating_end (c.loop-c.invariant d S e) (omega (arith, c.loop-c-test.false, e))

@@ -1,4 +1,4 @@
-use Prim.Native.Nat.{◌*◌, ◌-◌}
+use Prim.Native.Nat.{◌*◌}
 use mathlib.Core.Path.{◌≡◌}
 use lib.ListN.{length}
 use Rattle.procedure.specs.Division.{Division, regions}
@@ -7,8 +7,4 @@ use Rattle.run_queue.proofs.planning.Planning.{Seating}
 use Rattle.run_queue.proofs.planning.seat_children.Given as goal
 
 abbrev pub invariant-loop-c : goal.invariant-loop-c
-invariant-loop-c l = (length l.rows ≡ length l.initial.rows)
-    × ((d : Division) → Started d l.initial.rows → length l.initial.rows ≡ 4 * regions d → Seating d l.rows l.c)
-
-abbrev pub decreases-loop-c : goal.decreases-loop-c
-decreases-loop-c l = l.n - l.c
+invariant-loop-c l = (d : Division) → Started d l.initial.rows → length l.initial.rows ≡ 4 * regions d → Seating d l.rows l.c

@@ -1,4 +1,4 @@
--- `next_word` meets its contract: the word where there is one, else the end.
+-- `next_word` meets its contract: the word where there is one, else none.
 use borrow.Author.Tests.{lt-ltb, le-ltb}
 use Rattle.sheet.proofs.scan.next_word.Goals as goal
 

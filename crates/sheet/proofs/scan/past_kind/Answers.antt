@@ -1,32 +1,16 @@
--- `past_kind` meets its contract: a scan for `lead`. While it goes on, the words passed are all of the kind.
+-- `past_kind` meets its contract: the words of the kind are counted up to the first that is of another.
 use Prim.Native.Nat.{ℕ, ◌+◌}
-use mathlib.Core.Path.{sym, ap}
-use borrow.Author.Rules.{rules}
-use borrow.Author.Tests.{eq-eqb, ne_eqb}
-use native.Mathlib.Omega.{arith}
-use Rattle.indices.proofs.Tests.{lead_none, lead_more, lead_stop, lead_end}
-use Rattle.sheet.specs.Sections.{kind_from}
+use mathlib.Core.Path.{ap}
+use Rattle.std.proofs.Common.{rules}
+use Rattle.indices.proofs.Scans.{lead_scanned}
+use Rattle.sheet.specs.Words.{words}
+use Rattle.sheet.specs.Kinds.{kind_number}
+use Rattle.sheet.specs.Sections.{of_kind, kind_from}
 use Rattle.sheet.proofs.scan.past_kind.Goals as goal
 
-pub loop-k-init : goal.loop-k-init
-loop-k-init c = (omega arith, lead_none _)
-
--- a word of another kind: those before it are all
-pub returns-then-kind_at-kind : goal.returns-then-kind_at-kind
-unfolding kind_from
-returns-then-kind_at-kind c =
-    -- the place after so many words of the kind
-    let after : ℕ → ℕ = λ n. c.args.c.place + n in
-    ap after
-    (sym (lead_stop _ _ _ (omega arith) c.loop-k.invariant.1 (rw (← c.kind_at.ensures) (ne_eqb _ _ c.if-kind_at-kind.true))))
-
-pub loop-k-preserved : goal.loop-k-preserved
-loop-k-preserved c = (omega arith, lead_more _ _ (search rules) (rw (← c.kind_at.ensures) (eq-eqb _ _ c.if-kind_at-kind.false)))
-
--- the end: every word is of the kind
 pub returns : goal.returns
 unfolding kind_from
 returns c =
-    -- the place after so many words of the kind
-    let after : ℕ → ℕ = λ n. c.args.c.place + n in
-    ap after (sym (lead_end _ _ _ (omega arith) c.loop-k.invariant.1))
+    let place = c.args.c.place in let s = c.args.s.now in
+    ap (λ (n : ℕ). place + n)
+    (lead_scanned _ _ (of_kind (kind_number c.args.kind) s place) place (words s) (search rules) (search rules) _ _ c.take_while.ensures.runs c.count-of_kind.ensures.runs)

@@ -1,11 +1,7 @@
 -- `write_counts` meets its contract: before each turn the words of the counts passed are written, and the turn writes those of the next count behind them.
 use borrow.Author.Rules.{rules}
-use mathlib.Core.Path.{refl}
-use Rattle.table.proofs.Writing.{writing_start, writing_length, one_count_more, all_counts}
+use Rattle.table.proofs.Writing.{writing_length, one_count_more, all_counts}
 use Rattle.table.proofs.header.write_counts.Goals as goal
-
-pub loop-i-init : goal.loop-i-init
-loop-i-init c = writing_start refl
 
 pub write_count-requires : goal.write_count-requires
 write_count-requires c =

@@ -1,4 +1,3 @@
-use Prim.Native.Nat.{◌-◌}
 use lib.ListN.{length}
 use Rattle.indices.specs.Columns.{at}
 use Rattle.indices.proofs.Entries.{Prefix}
@@ -7,6 +6,3 @@ use Rattle.table.proofs.keys.write_keys.Given as goal
 
 abbrev pub invariant-loop-a : goal.invariant-loop-a
 invariant-loop-a l = Prefix (length l.initial.words) (λ b. key_word (at l.own b)) l.words l.a
-
-abbrev pub decreases-loop-a : goal.decreases-loop-a
-decreases-loop-a l = length l.initial.words - l.a

@@ -4,34 +4,21 @@ use mathlib.Core.Bool.{true}
 use borrow.Author.Rules.{rules}
 use native.Mathlib.Omega.{arith}
 use Rattle.indices.proofs.Tests.{all_none, all_more, all_miss, all_end}
-use Rattle.judgement.proofs.Accepted.{few_nodes, source_in}
 use Rattle.table_shortest.specs.WalkChecks.{node_led}
 use Rattle.table_shortest.proofs.walk.Walks.{stamps_start}
 use Rattle.table_shortest.proofs.walk.all_led.Goals as goal
 
-pub offset_bounds-stamps-home : goal.offset_bounds-stamps-home
-offset_bounds-stamps-home c = omega (arith, source_in _ c.requires.0.fitting.accepted, few_nodes)
-
-pub bounds-stamps-home : goal.bounds-stamps-home
-bounds-stamps-home c = omega (arith, source_in _ c.requires.0.fitting.accepted, few_nodes)
-
-pub overflow_cast-nodes : goal.overflow_cast-nodes
-overflow_cast-nodes c = omega (arith, few_nodes)
-
 pub loop-v-init : goal.loop-v-init
-loop-v-init c = (omega arith, all_none _, search (rules, stamps_start))
+loop-v-init c = (all_none _, search (rules, stamps_start))
 
 pub returns-then-not-node_led : goal.returns-then-not-node_led
 returns-then-not-node_led c = sym (all_miss _ _ _ (omega arith) (sym c.node_led.ensures.0 ∙ c.if-not-node_led.true))
 
-pub overflow_add-v : goal.overflow_add-v
-overflow_add-v c = omega (arith, few_nodes)
-
 -- a node that leads back: all do, of one node more
 pub loop-v-preserved : goal.loop-v-preserved
 loop-v-preserved c =
-    let led : node_led c.args.s.now c.args.table.now c.loop-v.v ≡ true = sym c.node_led.ensures.0 ∙ c.if-not-node_led.false in
-    (omega arith, all_more _ _ (search rules) led, c.node_led.ensures.1 c.if-not-node_led.false)
+    let led : node_led c.args.table.now.sheet.now c.args.table.now.words.now c.loop-v.v ≡ true = sym c.node_led.ensures.0 ∙ c.if-not-node_led.false in
+    (all_more _ _ (search rules) led, c.node_led.ensures.1 c.if-not-node_led.false)
 
 pub returns : goal.returns
-returns c = sym (all_end _ _ _ (omega arith) c.loop-v.invariant.1)
+returns c = sym (all_end _ _ _ (omega arith) c.loop-v.invariant.0)

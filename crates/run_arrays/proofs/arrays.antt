@@ -1,3 +1,0 @@
-pub mod Filled
-pub mod Parts
-pub mod Stores
