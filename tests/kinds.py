@@ -43,9 +43,8 @@ KINDS = [1, 2, 3, 13, 4, 5, 6, 7]
 
 
 def kinds_in(test):
-    """The kinds that a test names: in a list, or each by an equation."""
-    together = re.search(r'matches!\(kind, ([^)]*)\)', test)
-    return [int(kind) for kind in (re.findall(r'\d+', together[1]) if together else re.findall(r'(?:kind ==|eqb k) (\d+)', test))]
+    """The kinds that a test names, each by an equation."""
+    return [int(kind) for kind in re.findall(r'(?:kind ==|eqb k) (\d+)', test)]
 
 
 def listed(kinds):

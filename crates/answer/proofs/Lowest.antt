@@ -1,13 +1,13 @@
 -- The lowest refusal that applies: lists of cases one after the other, a list of which none applies, a test that applies less often, one that stands twice.
-use Prim.Native.Nat.{ℕ, zero, suc}
+use Prim.Native.Nat.{ℕ}
 use mathlib.Core.Bool.{Bool, false, cond}
 use mathlib.Core.List.{List, [], ◌∷◌, ◌++◌}
 use mathlib.Core.Logic.{◌≢◌}
-use mathlib.Core.Path.{◌≡◌, refl, sym, ap, ◌∙◌}
+use mathlib.Core.Path.{◌≡◌, refl, ap}
 use native.Mathlib.Omega.{arith}
 use lib.Dec.{eqb}
 use Rattle.indices.proofs.Steps.{by_truth}
-use Rattle.answer.specs.Answer.{Refusal, input, number_of, Answer, accepted, refused, Case, ◌when◌, lowest}
+use Rattle.answer.specs.Answer.{Refusal, number_of, Answer, accepted, refused, Case, ◌when◌, lowest}
 
 -- the cases of the second list are looked at where none of the first applies
 pub lowest_append : (xs ys : List Case) (answer : Answer) → lowest (xs ++ ys) answer ≡ lowest xs (lowest ys answer)

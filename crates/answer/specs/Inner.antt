@@ -1,6 +1,11 @@
 -- What functions hand to each other for an answer: for contracts within the project. Definitions.
-use Rattle.std.specs.Prelude.{ℕ}
-use Rattle.answer.specs.Answer.{Answer, accepted, ended, paused, route, no_route, written, refused}
+use Rattle.std.specs.Prelude.{ℕ, zero, suc}
+use Rattle.answer.specs.Answer.{input, Answer, accepted, ended, paused, route, no_route, written, refused}
+
+-- the answer for the number of a refusal from the input, 0 standing for none
+abbrev pub numbered : ℕ → Answer
+numbered zero = accepted
+numbered (suc n) = refused (input (suc n))
 
 -- the figure in an answer: the arcs of a route, the bytes written
 abbrev pub figure_of : Answer → ℕ

@@ -4,6 +4,7 @@ ghost use Rattle.sheet.specs.Words.{words};
 ghost use Rattle.sheet.specs.Regions.{parent};
 ghost use Rattle.judgement.specs.Division.{wrong_parent, wrong_parents};
 ghost use Rattle.judge_division.specs.Heights.{Passable};
+ghost use Rattle.judge_division.specs.Parents.{HasParent};
 
 use sheet::Region;
 
@@ -25,6 +26,15 @@ pub fn wrong_parents(d: &[u8]) -> bool
     (0..d.len() / 4).any(|k| wrong_parent(d, k))
 }
 
+// The parent of a region other than 0, where refusal 11 does not apply.
+pub fn parent_of(d: &[u8], r: Region) -> Region
+    requires { HasParent d.now r.0 }
+    ensures { (result.0 ≡ parent d.now r.0) × (result.0 < r.0) }
+{
+    let i = usize::from(r.0);
+    Region(sheet::fields::parent_word(d, i - 1) as u16)
+}
+
 // Region words that are few and to which refusal 11 does not apply: every region but 0 has a lower parent, which is inner.
 #[derive(Drop)]
 pub struct Nested<'a> {
@@ -38,7 +48,6 @@ impl<'a> Nested<'a> {
         requires { (0 < r.0) × (r.0 ≤ words self.now.bytes.now) }
         ensures { (result.0 ≡ parent self.now.bytes.now r.0) × (result.0 < r.0) }
     {
-        let i = usize::from(r.0);
-        Region(sheet::fields::parent_word(self.bytes, i - 1) as u16)
+        parent_of(self.bytes, r)
     }
 }

@@ -24,19 +24,19 @@ fn may_follow(before: u32, kind: u32) -> bool
         // kind 1, once: the node count n, 1 to 1,024
         1 => kind == 2,
         // kind 2, once: the source node
-        2 => matches!(kind, 3 | 13 | 4 | 6 | 7),
+        2 => (kind == 3) | (kind == 13) | (kind == 4) | (kind == 6) | (kind == 7),
         // kind 3, up to 15 times: the span, 1 to 1,000,000, for heights 1, 2, 3 and so on
-        3 => matches!(kind, 3 | 13 | 4 | 6 | 7),
+        3 => (kind == 3) | (kind == 13) | (kind == 4) | (kind == 6) | (kind == 7),
         // A sheet may carry n words of kind 13 after the spans, or none: the hold in hundredths at nodes 0, 1, 2 and so on.
-        13 => matches!(kind, 13 | 4 | 6 | 7),
+        13 => (kind == 13) | (kind == 4) | (kind == 6) | (kind == 7),
         // kinds 4 and 5 in pairs, up to 2,048 pairs, one arc each. Kind 4: bits 19 to 10 the tail node, bits 9 to 0 the head, bits 27 to 20 zero. ..
         4 => kind == 5,
         // kinds 4 and 5 in pairs, up to 2,048 pairs, one arc each. .. Kind 5: the length in hundredths of a second, 0 to 262,143
-        5 => matches!(kind, 4 | 6 | 7),
+        5 => (kind == 4) | (kind == 6) | (kind == 7),
         // kinds 6 and 7 in any mixture, up to 4,094. Kind 6: an inner region, payload its parent. ..
-        6 => matches!(kind, 6 | 7),
+        6 => (kind == 6) | (kind == 7),
         // kinds 6 and 7 in any mixture, up to 4,094. .. Kind 7: a leaf, bits 22 to 11 its parent, bits 10 to 0 its arc, bits 27 to 23 zero.
-        7 => matches!(kind, 6 | 7),
+        7 => (kind == 6) | (kind == 7),
         _ => false,
     }
 }
@@ -46,7 +46,7 @@ fn may_follow(before: u32, kind: u32) -> bool
 fn may_end(kind: u32) -> bool
     ensures { result ≡ may_end kind }
 {
-    matches!(kind, 2 | 3 | 13 | 5 | 6 | 7)
+    (kind == 2) | (kind == 3) | (kind == 13) | (kind == 5) | (kind == 6) | (kind == 7)
 }
 
 // Refusal 2, of the kinds: out of order, read word by word from the front.

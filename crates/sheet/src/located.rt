@@ -68,7 +68,7 @@ impl<'a> Sheet<'a> {
 
     // The span at place k, which is for height k + 1.
     pub fn span(&self, k: usize) -> u32
-        requires { k < span_count self.now }
+        requires { 2 + k < words self.now }
         ensures { result ≡ span self.now k }
     {
         crate::payload_at(self.bytes, 2 + k)

@@ -1,25 +1,9 @@
--- `parent` meets its contract: the parent of its word, which is a lower region.
-use Prim.Native.Nat.{ℕ, ◌-◌, ◌<◌, ◌≤◌}
-use mathlib.Core.List.{List}
-use mathlib.Core.Path.{◌≡◌, ◌∙◌}
-use native.Mathlib.Omega.{arith}
-use Rattle.sheet.specs.Words.{words}
-use Rattle.sheet.specs.Regions.{parent_word, parent}
-use Rattle.sheet.proofs.Regions.{parent_of_word}
-use Rattle.judgement.proofs.Parents.{parent_le}
-use Rattle.judge_division.specs.Heights.{Passable}
+-- `parent` meets its contract: it is that of `parent_of`.
 use Rattle.judge_division.proofs.parents.Nested.parent.Goals as goal
 
--- what the word of region r names
-named : (d : List ℕ) (r i p : ℕ) → Passable d → 0 < r → r ≤ words d → i ≡ r → p ≡ parent_word d (i - 1) → (p ≡ parent d r) × (p < r)
-named d r i p h pos inside e w =
-    let k : i - 1 ≡ r - 1 = omega arith in
-    let read : p ≡ parent_word d (r - 1) = rw k at w in
-    let l : r - 1 < words d = omega arith in
-    (read ∙ parent_of_word d r pos, omega (arith, parent_le d h.parents (r - 1) l))
-
-pub overflow_cast-result : goal.overflow_cast-result
-overflow_cast-result c = omega (arith, (named _ _ _ _ c.args.self.now.passable c.requires.0 c.requires.1 c.from-i.ensures c.parent_word.ensures).1)
-
-pub returns : goal.returns
-returns c = named _ _ _ _ c.args.self.now.passable c.requires.0 c.requires.1 c.from-i.ensures c.parent_word.ensures
+pub parent_of-requires : goal.parent_of-requires
+parent_of-requires c = record {
+  positive = c.requires.0;
+  inside = c.requires.1;
+  parents = c.args.self.now.passable.parents;
+}
