@@ -8,17 +8,14 @@ use Rattle.std.proofs.Common.{append_assoc}
 use native.Mathlib.Omega.{arith}
 use lib.ListN.{length, drop, length-append, length-drop, get_or-append}
 use lib.Seq.{sets, length-sets, sets-eq, get_or-append-add, drop-drop, get_or-drop, ext_get_or}
-use Rattle.indices.specs.Columns.{at}
+use Rattle.indices.specs.Columns.{at, column}
 use Rattle.indices.proofs.Steps.{by_order}
-use Rattle.indices.proofs.Columns.{same_column}
+use Rattle.indices.proofs.Columns.{length_column, column_more}
 use Rattle.indices.proofs.Stores.{sets_append, sets_before, sets_behind, sets_inside}
 use Rattle.sheet.specs.Words.{bytes_of}
-use Rattle.sheet.proofs.Bytes.{length_bytes, bytes_append, own_bytes, byte_of_word}
+use Rattle.sheet.proofs.Bytes.{length_bytes, bytes_append, byte_of_word}
 use borrow.Rule.Slice.PartMut.{put_mid}
-use Rattle.std.specs.List.{between}
-use Rattle.std.proofs.lemmas.List.Edits.{length-between, get_or-between}
-use Rattle.sheet.specs.Words.{words, word}
-use Rattle.sheet_writer.specs.Words.{words_from, words_put, WordAt}
+use Rattle.sheet_writer.specs.Words.{words_put, WordAt}
 
 -- COPIES: bytes that are copied to the place of words are those words
 pub copied : (out : List ℕ) (i : ℕ) (ws bytes : List ℕ) {k : ℕ} → bytes ≡ bytes_of ws → k ≡ 4 * length ws → 4 * i + k ≤ length out
@@ -28,28 +25,6 @@ copied out i ws bytes {k} e many room =
     let long : k ≡ length (bytes_of ws) = omega (arith, length_bytes ws) in
     let stored = sets-eq (bytes_of ws) out (4 * i) (omega arith) in
     rw (stored, append_assoc, e, drop-drop k (4 * i) out, long)
-
--- so many words of a sheet from one on, as bytes
-module _ (b : List ℕ) (from count : ℕ) (within : from + count ≤ words b) where
-  part_byte : (i : ℕ) → i < 4 * count → {n : ℕ} → n ≡ 4 * from + i → at (between (4 * from) (4 * (from + count)) b) i ≡ at b n
-  part_byte i l e = get_or-between b (4 * from) (4 * (from + count)) i 0 (omega arith) ∙ ap (at b) (sym e)
-
-  part_word : (k : ℕ) → k < count → word (between (4 * from) (4 * (from + count)) b) k ≡ word b (from + k)
-  unfolding word
-  part_word k l =
-      rw (
-        part_byte (4 * k) (omega arith) (let e : 4 * (from + k) ≡ 4 * from + 4 * k = omega arith in e),
-        part_byte (4 * k + 1) (omega arith) (let e : 4 * (from + k) + 1 ≡ 4 * from + (4 * k + 1) = omega arith in e),
-        part_byte (4 * k + 2) (omega arith) (let e : 4 * (from + k) + 2 ≡ 4 * from + (4 * k + 2) = omega arith in e),
-        part_byte (4 * k + 3) (omega arith) (let e : 4 * (from + k) + 3 ≡ 4 * from + (4 * k + 3) = omega arith in e),
-      )
-
-  pub part_words : ((i : ℕ) → at b i < 256) → between (4 * from) (4 * (from + count)) b ≡ bytes_of (words_from b from count)
-  part_words small =
-      let part = between (4 * from) (4 * (from + count)) b in
-      let long : length part ≡ 4 * count = omega (arith, length-between b (4 * from) (4 * (from + count)) (omega arith)) in
-      sym (own_bytes part (omega arith) (λ i l. omega (arith, part_byte i (omega arith) refl, small (4 * from + i))))
-      ∙ ap bytes_of (same_column _ _ _ _ (omega arith) (λ k l. part_word k (omega arith)))
 
 module _ (out : List ℕ) (i : ℕ) (ws : List ℕ) where
   pub put_length : length (words_put out i ws) ≡ length out
@@ -105,6 +80,18 @@ put_other out i w j v ne there = record { byte = λ k low. same k low ∙ there.
     same k low =
         by_order j i (λ before. put_before out i (w ∷ []) (4 * j + k) (omega arith))
         (λ behind. put_behind out i (w ∷ []) (4 * j + k) (omega arith))
+
+-- A COLUMN, word by word
+pub put_column_none : (out : List ℕ) (i : ℕ) (f : ℕ → ℕ) → words_put out i (column 0 f) ≡ out
+unfolding column
+put_column_none out i f = put_none out i
+
+pub put_column_more : (out : List ℕ) (i : ℕ) (f : ℕ → ℕ) (k : ℕ)
+    → words_put (words_put out i (column k f)) (i + k) (f k ∷ []) ≡ words_put out i (column (k + 1) f)
+put_column_more out i f k =
+    ap (λ (n : ℕ). words_put (words_put out i (column k f)) (i + n) (f k ∷ [])) (sym (length_column k f))
+    ∙ put_then out i (column k f) (f k ∷ [])
+    ∙ ap (words_put out i) (sym (column_more k f))
 
 -- AT THE FRONT
 pub put_next : (before : List ℕ) {out out' : List ℕ} (ws vs : List ℕ) {i : ℕ} → i ≡ length ws → out ≡ words_put before 0 ws → out' ≡ words_put out i vs

@@ -42,6 +42,8 @@ pub fn write_words(s: &[u8], from: usize, count: usize, out: &mut [u8], place: u
     requires { (from + count ≤ words s.now) × (4 * (place + count) ≤ length out.old) }
     ensures { out.new ≡ words_put out.old place (words_from s.now from count) }
 {
-    let end = place + count;
-    out[4 * place..4 * end].copy_from_slice(&s[4 * from..4 * (from + count)]);
+    // Word by word: a copy of the whole part is made by memmove, which the library would need from outside.
+    for k in 0..count {
+        put_word(out, place + k, sheet::word_at(s, from + k));
+    }
 }
