@@ -45,6 +45,6 @@ pub fn rebuild(long: &LongTable, layout: &Layout, run: &mut Run, count: u16)
         (state_in (graph_of table.sheet.now) (division_of table.sheet.now) table.words.now).queues
         layout.now run.old run.new (count_in table.words.now updates_place) }
 {
-    run_queue::building::clear(layout, &mut run.keys.winners, count);
+    run_queue::building::clear(&layout.rows, &layout.heights, &mut run.keys.winners, count);
     let _updates = enter_keys(long, layout, run);
 }

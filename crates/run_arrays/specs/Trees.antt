@@ -124,7 +124,7 @@ pub record LaidOut (d : Division) (rows winners : List ℕ) : Type 0 where
   pub planned : Planned d rows
   pub room : 2 * regions d ≤ length winners
 
--- What the trees are built from: rows and places that are laid out, and the height of each region among the weights.
+-- What the trees are built from: rows and places that are laid out, and the height of each region.
 pub record Buildable (d : Division) (rows heights winners : List ℕ) : Type 0 where
   pub laid : LaidOut d rows winners
   pub few : regions d ≤ most_regions

@@ -18,19 +18,19 @@ pub fn start(layout: &Layout, run: &mut Run, source: Node, count: u16)
         → Represents g d spans (start g d) layout.now run.new }
 {
     run.clear();
-    run_queue::building::clear(layout, &mut run.keys.winners, count);
+    run_queue::building::clear(&layout.rows, &layout.heights, &mut run.keys.winners, count);
     run.set_label(source, 0);
     let n = crate::updates::update_outgoing(layout, &mut run.keys, source, 0, 0);
     run_counts::array::start(&mut run.counts, n);
 }
 
 // Whether the run has ended.
-pub fn has_ended(layout: &Layout, run: &Run) -> bool
-    requires { SomeQueue layout.now.rows run.now.keys.winners 0 }
-    ensures { (g : Graph) (d : Division) (s : State) → QueuesOk d layout.now.rows s.queues.keys run.now.keys.winners
+pub fn has_ended(rows: &[u16], winners: &[u64]) -> bool
+    requires { SomeQueue rows.now winners.now 0 }
+    ensures { (g : Graph) (d : Division) (s : State) → QueuesOk d rows.now s.queues.keys winners.now
         → is_leaf d 0 ≡ false → result ≡ ended g d s }
 {
-    NONE <= run_queue::min_key(&layout.rows, &run.keys.winners, Region(0))
+    NONE <= run_queue::min_key(rows, winners, Region(0))
 }
 
 // At most `limit` more rounds, from any state whose counts fit after them. A round is one working of region 0, which is never a leaf.
@@ -41,7 +41,7 @@ pub fn run_rounds(layout: &Layout, run: &mut Run, limit: u64)
         → Represents g d spans (more g d spans limit s) layout.now run.new }
 {
     for _round in 0..limit {
-        if has_ended(layout, run) {
+        if has_ended(&layout.rows, &run.keys.winners) {
             return;
         }
         run_counts::array::count_round(&mut run.counts);

@@ -5,7 +5,7 @@ ghost use Rattle.procedure.specs.Division.{Division, regions};
 ghost use Rattle.run_arrays.specs.Trees.{Buildable, QueuesOk, Seated, ValidBelow, SomeBuildable};
 ghost use Rattle.run_queue.specs.Trees.{ToBuild};
 
-use run_arrays::arrays::Layout;
+use run_arrays::arrays::REGIONS;
 use sheet::Region;
 
 // Decides the places of r's tree, from the last one down.
@@ -22,29 +22,29 @@ fn build_tree(rows: &[u16], winners: &mut [u64], r: Region)
 }
 
 // Enters each region but 0 at its place in its parent's tree, with key none and its rank.
-fn enter_children(layout: &Layout, winners: &mut [u64], count: u16)
-    requires { SomeBuildable layout.now.rows layout.now.heights winners.old count }
-    ensures { (d : Division) → Buildable d layout.now.rows layout.now.heights winners.old → count ≡ regions d
-        → Seated d layout.now.rows (replicate (regions d) top) winners.new }
+fn enter_children(rows: &[u16], heights: &[u32; REGIONS], winners: &mut [u64], count: u16)
+    requires { SomeBuildable rows.now heights.now winners.old count }
+    ensures { (d : Division) → Buildable d rows.now heights.now winners.old → count ≡ regions d
+        → Seated d rows.now (replicate (regions d) top) winners.new }
 {
     for c in 1..count {
-        let parent = run_arrays::trees::parent_of(&layout.rows, Region(c));
-        let start = run_arrays::trees::start_of(&layout.rows, parent) as usize;
-        let place = run_arrays::trees::seat_of(&layout.rows, Region(c)) as usize;
-        let height = layout.height(Region(c)) as u16;
+        let parent = run_arrays::trees::parent_of(rows, Region(c));
+        let start = run_arrays::trees::start_of(rows, parent) as usize;
+        let place = run_arrays::trees::seat_of(rows, Region(c)) as usize;
+        let height = heights[c as usize] as u16;
         let rank = run_arrays::trees::rank_of(height, Region(c));
         winners[start + place] = run_arrays::trees::entry_of(sheet::NONE, rank);
     }
 }
 
 // All keys become none, in valid queues. There are `count` regions.
-pub fn clear(layout: &Layout, winners: &mut [u64], count: u16)
-    requires { SomeBuildable layout.now.rows layout.now.heights winners.old count }
-    ensures { (d : Division) → Buildable d layout.now.rows layout.now.heights winners.old → count ≡ regions d
-        → QueuesOk d layout.now.rows (replicate (regions d) top) winners.new }
+pub fn clear(rows: &[u16], heights: &[u32; REGIONS], winners: &mut [u64], count: u16)
+    requires { SomeBuildable rows.now heights.now winners.old count }
+    ensures { (d : Division) → Buildable d rows.now heights.now winners.old → count ≡ regions d
+        → QueuesOk d rows.now (replicate (regions d) top) winners.new }
 {
-    enter_children(layout, winners, count);
+    enter_children(rows, heights, winners, count);
     for r in 0..count {
-        build_tree(&layout.rows, winners, Region(r));
+        build_tree(rows, winners, Region(r));
     }
 }

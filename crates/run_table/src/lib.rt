@@ -48,7 +48,7 @@ pub fn finish(layout: &Layout, run: &mut Run, limit: u64, n: usize, table: &mut 
         → Finished b (more (graph_of b) (division_of b) (spans_of b) limit s) (length table.old) result table.new }
 {
     run_engine::rounds::run_rounds(layout, run, limit);
-    let ended = run_engine::rounds::has_ended(layout, run);
+    let ended = run_engine::rounds::has_ended(&layout.rows, &run.keys.winners);
     write_form(run, n, ended, table);
     ended
 }

@@ -6,13 +6,15 @@ use mathlib.Core.List.{List}
 use native.Mathlib.Omega.{arith}
 use borrow.Author.Tests.{le-leb, lt-leb}
 use lib.Dec.{leb}
-use Rattle.indices.proofs.Steps.{by_order}
+use Rattle.indices.specs.Steps.{times}
+use Rattle.indices.proofs.Steps.{by_order, times_on}
 use Rattle.sheet.specs.Words.{top}
 use Rattle.procedure.specs.Graph.{Graph}
 use Rattle.procedure.specs.Division.{Division}
 use Rattle.procedure.specs.State.{State}
 use Rattle.procedure.specs.Queues.{min_key}
 use Rattle.procedure.specs.Procedure.{count_round, ended, process, round, more, round_by}
+use Rattle.theory_shortest.specs.WellFormed.{DivisionOk}
 use Rattle.theory.specs.Counts.{Small}
 use Rattle.theory.proofs.Process.{key_running, none_ended}
 use Rattle.theory.proofs.Grows.{grows_small, process_grows, rounds_grow}
@@ -20,7 +22,7 @@ use Rattle.run_counts.specs.Figures.{Figures, figures_in, round_more}
 use Rattle.run_arrays.specs.declared.arrays.Layout.{Layout}
 use Rattle.run_arrays.specs.declared.arrays.Run.{Run}
 use Rattle.run_arrays.specs.States.{Represents, Workable}
-use Rattle.run_engine.proofs.region.Loops.{Looping, loop-off, loop-on}
+use Rattle.run_engine.proofs.region.Loops.{Looping, loop-off}
 
 -- "A run has ended when region 0's smallest key is none."
 pub ended_by_key : (g : Graph) (d : Division) (s : State) (k : ℕ) → k ≡ min_key d s.queues 0 → leb top k ≡ ended g d s
@@ -72,6 +74,21 @@ module _ {g : Graph} {d : Division} {spans : List ℕ} {s : State} {layout : Lay
 abbrev pub running : Graph → Division → State → Bool
 running g d s = not (ended g d s)
 
+-- THE ROUNDS LEFT lead to `end`: a round is left to make, and the run goes on
+module _ (g : Graph) (d : Division) (spans : List ℕ) (s : State) {left : ℕ} {end : State} (ahead : times left (running g d) (round g d spans) s ≡ end)
+    (positive : 0 < left) (runs : ended g d s ≡ false) where
+  onward_rounds : more g d spans (left - 1) (round g d spans s) ≡ end
+  onward_rounds =
+      let one : suc (left - 1) ≡ left = omega arith in
+      sym (times_on (running g d) (round g d spans) (left - 1) s (ap not runs)) ∙ rw one ahead
+
+  -- the counts at the end are small, and so are those of every round
+  pub next_asks : {m : ℕ} → DivisionOk m d → Small end → Workable d 0 (round g d spans s)
+  next_asks ok small = record {
+    in_range = ok.nesting.root;
+    small = grows_small (rounds_grow g d ok spans (left - 1) (round g d spans s)) (rw onward_rounds small);
+  }
+
 pub rounds_first : {g : Graph} {d : Division} {spans : List ℕ} {s : State} {layout : Layout} {run : Run} {limit : ℕ} → Represents g d spans s layout run
     → {left : ℕ} → left ≡ limit → Looping g d spans layout (running g d) (round g d spans) left (more g d spans limit s) s run
 rounds_first R all = record { represents = R; sofar = rw all }
@@ -81,20 +98,9 @@ module _ {g : Graph} {d : Division} {spans : List ℕ} {layout : Layout} {left :
   pub rounds_ended : ended g d s ≡ true → Represents g d spans end layout run
   rounds_ended e = loop-off L (ap not e)
 
-  -- the run goes on, and a round is left to make
-  module _ (small : Small end) (positive : 0 < left) (runs : ended g d s ≡ false) where
-    onward_rounds : more g d spans (left - 1) (round g d spans s) ≡ end
-    onward_rounds = loop-on L positive (ap not runs)
-
-    -- the counts at the end are small, and so are those of every round
-    pub next_asks : Workable d 0 (round g d spans s)
-    next_asks =
-        let ok = L.represents.fixed_ok.ok.division in
-        record {
-          in_range = ok.nesting.root;
-          small = grows_small (rounds_grow g d ok spans (left - 1) (round g d spans s)) (rw onward_rounds small);
-        }
-
-    pub rounds_step : {run' : Run} → Represents g d spans (process g d spans 0 (count_round g d s)) layout run' → {left' : ℕ} → left' ≡ left - 1
-        → Looping g d spans layout (running g d) (round g d spans) left' end (round g d spans s) run'
-    rounds_step done fewer = record { represents = rw (by_process g d spans s) at done; sofar = rw fewer onward_rounds }
+  pub rounds_step : 0 < left → ended g d s ≡ false → {run' : Run} → Represents g d spans (process g d spans 0 (count_round g d s)) layout run'
+      → {left' : ℕ} → left' ≡ left - 1 → Looping g d spans layout (running g d) (round g d spans) left' end (round g d spans s) run'
+  rounds_step positive runs done fewer = record {
+    represents = rw (by_process g d spans s) at done;
+    sofar = rw fewer (onward_rounds g d spans s L.sofar positive runs);
+  }

@@ -10,7 +10,7 @@ unfolding top
 enter_keys-updates-requires c =
     -- THE TREES are built
     let laid = c.requires.relaid.laid in
-    let cleared = c.clear.ensures _ (can_build laid.fixed_ok laid.planned (search rules)) c.requires.all_regions in
+    let cleared = c.clear.ensures _ (can_build laid.fixed_ok.ok.division laid.fixed_ok.heights laid.planned (search rules)) c.requires.all_regions in
     keys_cleared c.requires _ cleared
 
 pub returns : goal.returns

@@ -27,14 +27,14 @@ count_round-requires c =
     let pre = c.requires in
     let L = c.loop-round.invariant _ _ _ _ pre.represents pre.small in
     let told = sym (c.has_ended.ensures pre.graph pre.division L.0 L.1.represents.queues.held.valid L.1.represents.fixed_ok.ok.division.root_inner) in
-    round_count_fits L.1.represents (next_asks L.1 pre.small (omega arith) (told ∙ c.if-has_ended.false))
+    round_count_fits L.1.represents (next_asks _ _ _ _ L.1.sofar (omega arith) (told ∙ c.if-has_ended.false) L.1.represents.fixed_ok.ok.division pre.small)
 
 pub process_inner-requires : goal.process_inner-requires
 process_inner-requires c =
     let pre = c.requires in
     let L = c.loop-round.invariant _ _ _ _ pre.represents pre.small in
     let told = sym (c.has_ended.ensures pre.graph pre.division L.0 L.1.represents.queues.held.valid L.1.represents.fixed_ok.ok.division.root_inner) in
-    let W = next_asks L.1 pre.small (omega arith) (told ∙ c.if-has_ended.false) in
+    let W = next_asks _ _ _ _ L.1.sofar (omega arith) (told ∙ c.if-has_ended.false) L.1.represents.fixed_ok.ok.division pre.small in
     record {
       region = record {
         graph = pre.graph;
@@ -52,10 +52,10 @@ loop-round-preserved c g d spans s R small =
     let L = c.loop-round.invariant g d spans s R small in
     let told = sym (c.has_ended.ensures g d L.0 L.1.represents.queues.held.valid L.1.represents.fixed_ok.ok.division.root_inner) in
     let runs = told ∙ c.if-has_ended.false in
-    let W = next_asks L.1 small (omega arith) runs in
+    let W = next_asks _ _ _ _ L.1.sofar (omega arith) runs L.1.represents.fixed_ok.ok.division small in
     let begun = round_begun L.1.represents W c.count_round.ensures in
     let done = c.process_inner.ensures g d spans _ begun (round_asks L.1.represents W) R.fixed_ok.ok.division.root_inner in
-    (_, rounds_step L.1 small (omega arith) runs done (omega arith))
+    (_, rounds_step L.1 (omega arith) runs done (omega arith))
 
 pub returns : goal.returns
 returns c g d spans s R small = loop-spent (c.loop-round.invariant g d spans s R small).1 (omega (arith, c.loop-round-test.false))

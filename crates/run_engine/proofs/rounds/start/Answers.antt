@@ -11,7 +11,7 @@ clear-requires-2 c =
     let B = c.requires.blank in
     record {
       division = c.requires.division;
-      buildable = can_build B.fixed_ok B.planned (search rules);
+      buildable = can_build B.fixed_ok.ok.division B.fixed_ok.heights B.planned (search rules);
       all_regions = B.all_regions;
     }
 
@@ -25,7 +25,7 @@ unfolding top
 update_outgoing-n-requires c =
     let pre = c.requires in
     let B = pre.blank in
-    let cleared = c.clear-2.ensures _ (can_build B.fixed_ok B.planned (search rules)) B.all_regions in
+    let cleared = c.clear-2.ensures _ (can_build B.fixed_ok.ok.division B.fixed_ok.heights B.planned (search rules)) B.all_regions in
     record {
       graph = pre.graph;
       division = pre.division;
@@ -38,6 +38,6 @@ pub returns : goal.returns
 unfolding top
 returns c g d spans B =
     let empty = c.clear.ensures in
-    let cleared = c.clear-2.ensures d (can_build B.fixed_ok B.planned (search rules)) B.all_regions in
+    let cleared = c.clear-2.ensures d (can_build B.fixed_ok.ok.division B.fixed_ok.heights B.planned (search rules)) B.all_regions in
     let held = start_held B empty cleared c.set_label.ensures in
     begun B empty cleared c.set_label.ensures (c.update_outgoing-n.ensures g d (no_keys g d) held (start_asks B)) c.start.ensures

@@ -32,13 +32,13 @@ start_of-start-requires c =
     let planned = given.buildable.laid.planned in
     up_row planned (c.loop-c.invariant _ given.buildable given.all_regions).above inside (c.parent_of-parent.ensures _ planned.counted inside)
 
-pub height-height-requires : goal.height-height-requires
-height-height-requires c = omega (arith, c.loop-c-test.true, c.requires.all_regions, c.requires.buildable.few)
+pub bounds-heights-c : goal.bounds-heights-c
+bounds-heights-c c = omega (arith, c.loop-c-test.true, c.requires.all_regions, c.requires.buildable.few)
 
-pub overflow_cast-height : goal.overflow_cast-height
-overflow_cast-height c =
+pub overflow_cast-height-in-loop-c : goal.overflow_cast-height-in-loop-c
+overflow_cast-height-in-loop-c c =
     let given = c.requires in
-    let read = c.height-height.ensures ∙ given.buildable.tall _ (omega (arith, c.loop-c-test.true, given.all_regions)) in
+    let read = given.buildable.tall c.loop-c.c (omega (arith, c.loop-c-test.true, given.all_regions)) in
     omega (arith, read, height_fits given.buildable.laid.planned.counted.numbered c.loop-c.c)
 
 pub bounds-winners-start : goal.bounds-winners-start
@@ -58,7 +58,7 @@ loop-c-preserved c =
     let inside : c.loop-c.c < regions d = omega (arith, c.loop-c-test.true, all) in
     entering_step (c.loop-c.invariant d B all) inside
     (record { over = c.parent_of-parent.ensures d B.laid.planned.counted inside; row = c.start_of-start.ensures; own = c.seat_of-place.ensures })
-    (c.rank_of-rank.ensures ∙ ap (λ h. rank_of h c.loop-c.c) (c.height-height.ensures ∙ B.tall _ inside)) c.entry_of.ensures
+    (c.rank_of-rank.ensures ∙ ap (λ h. rank_of h c.loop-c.c) (B.tall _ inside)) c.entry_of.ensures
 
 pub returns : goal.returns
 returns c d B all = entering_end (c.loop-c.invariant d B all) (omega (arith, c.loop-c-test.false, all))
