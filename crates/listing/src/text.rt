@@ -15,10 +15,18 @@ impl<'a> Text<'a> {
         ensures same { result.out.ghost_name ≡ out.entry.ghost_name }
         ensures begun { (result.out.now ≡ out.old) × (result.place ≡ 0) }
     {
-        Text { out, place: 0 }
+        Text::at(out, 0)
     }
 
-    // How many bytes were put.
+    // Nothing so far, to be put from a place of the buffer on: what stands before it stays.
+    pub fn at(out: &'a mut [u8], place: usize) -> Text<'a>
+        ensures same { result.out.ghost_name ≡ out.entry.ghost_name }
+        ensures begun { (result.out.now ≡ out.old) × (result.place ≡ place) }
+    {
+        Text { out, place }
+    }
+
+    // The place behind what was put: of a text at the front of the buffer, how many bytes it has.
     pub fn bytes(&self) -> usize
         ensures { result ≡ self.now.place }
     {

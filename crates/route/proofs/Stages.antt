@@ -8,7 +8,7 @@ use Rattle.sheet.specs.Sections.{node_count}
 use Rattle.answer.specs.Answer.{Refusal, input, state, Answer, accepted, refused, lowest}
 use Rattle.answer.proofs.Lowest.{lowest_clear, lowest_stop, clear_of}
 use Rattle.judgement.specs.Judgement.{Accepted}
-use Rattle.judgement.proofs.Accepted.{few_nodes}
+use Rattle.judgement.proofs.Accepted.{front_there, few_nodes}
 use Rattle.calls.specs.Tables.{wrong_length}
 use Rattle.calls.specs.Routes.{node_outside, not_shortest, table_refusals, found_route, route_answer, left_by, buffer_after, TableKnown}
 use Rattle.calls.proofs.Routes.{after_sheet, table_known}
@@ -57,4 +57,4 @@ module _ (b table : List ℕ) (node : ℕ) (buffer : List ℕ) where
     answer_known = rw same (table_known b table node buffer)
 
 -- the stages, and what a refusal or an answer leaves
-pub ruleset stages = (few_nodes, node_below, node_stops, length_stops, table_stops, route_decides, table_passed)
+pub ruleset stages = (front_there, few_nodes, node_below, node_stops, length_stops, table_stops, route_decides, table_passed)

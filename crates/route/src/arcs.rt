@@ -1,5 +1,5 @@
 // The arcs of the route to a reached node: counted, and written into a lent buffer.
-ghost use Rattle.std.specs.Prelude.{◌≡◌, ◌<◌, false, length};
+ghost use Rattle.std.specs.Prelude.{◌≡◌, ◌++◌, ◌<◌, false, length, drop};
 ghost use Rattle.calls.specs.Routes.{not_shortest, route_to};
 ghost use Rattle.sheet.specs.Limits.{most_nodes};
 ghost use Rattle.route.specs.Reached.{Reached, RouteLent};
@@ -23,15 +23,15 @@ pub fn count_arcs(table: &Table, v: Node) -> usize
     arcs
 }
 
-// Writes the route to a reached node, from its last arc to its first, into as many words as it has arcs.
+// Writes the route to a reached node, of so many arcs, at the front of the buffer, from its last arc to its first.
 #[tactic(auto, using(crate::proofs::arcs::Following::write_steps))]
-pub(crate) fn write_arcs(table: &Table, v: Node, way: &mut [u32])
-    requires { RouteLent table.now.sheet.now table.now.words.now v.0 (length way.old) }
-    ensures { way.new ≡ route_to table.now.sheet.now table.now.words.now v.0 }
+pub fn write_arcs(table: &Table, v: Node, arcs: usize, buffer: &mut [u32])
+    requires { RouteLent table.now.sheet.now table.now.words.now v.0 arcs buffer.old }
+    ensures { buffer.new ≡ route_to table.now.sheet.now table.now.words.now v.0 ++ drop arcs buffer.old }
 {
     let mut u = v;
-    for place in (0..way.len()).rev() {
-        way[place] = table.predecessor(u);
+    for place in (0..arcs).rev() {
+        buffer[place] = table.predecessor(u);
         u = table.previous(u);
     }
 }

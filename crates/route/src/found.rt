@@ -1,5 +1,6 @@
 // The node whose route is wanted, and its route in a table to which no refusal applies.
-ghost use Rattle.std.specs.Prelude.{◌≡◌, ◌<◌, false};
+ghost use Rattle.std.specs.Prelude.{◌≡◌, ◌≤◌, ◌<◌, false};
+ghost use Rattle.sheet.specs.Words.{words};
 ghost use Rattle.sheet.specs.Sections.{node_count};
 ghost use Rattle.calls.specs.Routes.{node_outside, not_shortest, found_route, left_by};
 ghost use Rattle.answer.specs.Said.{route_said};
@@ -8,15 +9,15 @@ use answer::Fault;
 use answer::reason::Reason;
 use answer::routed::Routed;
 use sheet::Node;
-use sheet::located::Sheet;
 use table::lent::Table;
 
 // Refusal 15: the node whose route is wanted is none.
 #[tactic(auto, unfolding(calls::specs::Routes::node_outside))]
-pub fn node_outside(s: &Sheet, node: u32) -> bool
-    ensures { result ≡ node_outside s.now node }
+pub fn node_outside(sheet: &[u8], node: u32) -> bool
+    requires { 2 ≤ words sheet.now }
+    ensures { result ≡ node_outside sheet.now node }
 {
-    s.node_count() <= node
+    sheet::payload_at(sheet, 0) <= node
 }
 
 // The route to a node, in a table to which no refusal applies.
@@ -33,6 +34,6 @@ pub fn find_route(table: &Table, v: Node, buffer: &mut [u32]) -> Routed
     if buffer.len() < arcs {
         return Routed::Refused(Fault::from(Reason::ShortRoute));
     }
-    crate::arcs::write_arcs(table, v, &mut buffer[..arcs]);
+    crate::arcs::write_arcs(table, v, arcs, buffer);
     Routed::Route(arcs as u32)
 }

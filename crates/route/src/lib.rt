@@ -17,20 +17,21 @@ use sheet::Node;
 use sheet::located::Sheet;
 use table::lent::Table;
 
-// The answer for an accepted sheet.
+// The answer for an accepted sheet. Its sections are not looked for before the node is one.
 #[tactic(auto, using(crate::proofs::Stages::stages), unfolding(calls::specs::Routes::left_by))]
-fn route_accepted(s: &Sheet, words: &[u32], node: u32, buffer: &mut [u32]) -> Routed
-    requires { Accepted s.now }
-    ensures { (route_said result ≡ route_answer s.now words.now node buffer.old)
-        × (buffer.new ≡ left_by s.now words.now (route_said result) node buffer.old) }
+fn route_accepted(sheet: &[u8], words: &[u32], node: u32, buffer: &mut [u32]) -> Routed
+    requires { Accepted sheet.now }
+    ensures { (route_said result ≡ route_answer sheet.now words.now node buffer.old)
+        × (buffer.new ≡ left_by sheet.now words.now (route_said result) node buffer.old) }
 {
-    if crate::found::node_outside(s, node) {
+    if crate::found::node_outside(sheet, node) {
         return Routed::Refused(Fault::from(Reason::Node));
     }
-    if table::form::wrong_length(s, words) {
+    let s = Sheet::new(sheet);
+    if table::form::wrong_length(&s, words) {
         return Routed::Refused(Fault::from(Reason::TableLength));
     }
-    let table = Table::new(s, words);
+    let table = Table::new(&s, words);
     match table_shortest::check_table(&table) {
         Ok(()) => crate::found::find_route(&table, Node(node as u16), buffer),
         Err(reason) => Routed::Refused(Fault::from(reason)),
@@ -44,7 +45,7 @@ pub fn route(sheet: &[u8], table: &[u32], node: u32, buffer: &mut [u32]) -> Rout
         × TableKnown sheet.now table.now (route_said result) }
 {
     match judge::judge(sheet) {
-        Judged::Accepted => route_accepted(&Sheet::new(sheet), table, node, buffer),
+        Judged::Accepted => route_accepted(sheet, table, node, buffer),
         Judged::Refused(fault) => Routed::Refused(fault),
     }
 }

@@ -84,6 +84,6 @@ impl<'a> LongTable<'a> {
         requires { a.0 < arc_count self.now.table.sheet.now }
         ensures { result ≡ has_key (graph_of self.now.table.sheet.now) self.now.table.words.now a.0 }
     {
-        crate::read::has_key(self.table.sheet, self.table.words, a)
+        crate::read::has_key(self.table.sheet.bytes(), self.table.words, a)
     }
 }

@@ -8,7 +8,6 @@ ghost use Rattle.calls.specs.Tables.{table_length, payload_in, status_in, count_
 ghost use Rattle.calls.specs.LongTables.{has_key};
 
 use crate::words::HEADER;
-use sheet::located::Sheet;
 use sheet::{Arc, COUNT_BASE, Node};
 
 // The payload of word i.
@@ -54,11 +53,11 @@ pub fn predecessor_of(table: &[u32], v: Node) -> u32
 }
 
 // Whether an arc's leaf has a key, in a longer table.
-#[tactic(auto, using(judgement::proofs::Accepted::few_nodes, procedure::proofs::OfSheet::graph_nodes), unfolding(calls::specs::LongTables::has_key))]
-pub fn has_key(s: &Sheet, table: &[u32], a: Arc) -> bool
+#[tactic(auto, using(crate::proofs::read::Columns::key_steps), unfolding(calls::specs::LongTables::has_key))]
+pub fn has_key(s: &[u8], table: &[u32], a: Arc) -> bool
     requires { Accepted s.now × (key_place (node_count s.now) a.0 < length table.now) }
     ensures { result ≡ has_key (graph_of s.now) table.now a.0 }
 {
-    let usual = crate::length::table_length(s.node_count() as usize);
+    let usual = crate::length::table_length(sheet::payload_at(s, 0) as usize);
     payload_at(table, usual + usize::from(a.0)) == 1
 }

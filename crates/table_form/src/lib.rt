@@ -12,14 +12,15 @@ use sheet::kind::Kind;
 use table::lent::Table;
 
 // Refusal 22: a wrong kind, status, predecessor or key word.
-#[tactic(auto, unfolding(calls::specs::Routes::malformed))]
+#[tactic(auto, using(judgement::proofs::Accepted::few_nodes, judgement::proofs::Accepted::few_arcs), unfolding(calls::specs::Routes::malformed))]
 pub fn malformed(table: &Table) -> bool
     ensures { result ≡ malformed table.now.sheet.now table.now.words.now }
 {
+    let s = table.sheet;
     !Kind::Status.is_of(table.words[0])
         || crate::kinds::wrong_counts(table.words)
         || table::read::status_of(table.words) > 1
-        || crate::kinds::wrong_nodes(table)
+        || crate::kinds::wrong_nodes(table.words, s.node_count() as u16, s.arcs() as u32)
         || crate::keys::wrong_keys(table)
 }
 

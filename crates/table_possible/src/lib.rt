@@ -27,7 +27,7 @@ fn sound(long: &LongTable) -> bool
         && table_shortest::nodes::nodes_fit(&long.table, Allowed::NotBelow)
         && table_shortest::walk::nodes_led(&long.table)
         && crate::arcs::arcs_held(long)
-        && crate::bound::labels_bounded(&long.table)
+        && crate::bound::labels_bounded(long.table.sheet.bytes(), long.table.words)
 }
 
 // Whether the table is a possible state.

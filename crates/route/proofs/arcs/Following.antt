@@ -4,8 +4,8 @@ use native.Mathlib.Omega.{arith}
 use mathlib.Core.Bool.{false}
 use mathlib.Core.Path.{◌≡◌, refl, sym, ap, ◌∙◌}
 use mathlib.Core.Logic.{◌≢◌}
-use mathlib.Core.List.{List, [], ◌∷◌, ◌++◌, append-nil, append_assoc}
-use lib.ListN.{length, drop, drop_of_length-le, set, length-set}
+use mathlib.Core.List.{List, [], ◌∷◌, ◌++◌, append_assoc}
+use lib.ListN.{length, drop, set, length-set}
 use lib.Seq.{drop-cons, drop-set-lt, get_or-set_same}
 use Rattle.indices.specs.Columns.{at}
 use Rattle.sheet.specs.Limits.{most_arcs_each_way}
@@ -109,13 +109,14 @@ module _ {b table : List ℕ} {v u n : ℕ} (ok : Accepted b) (passed : not_shor
   pub count_end : u ≡ source b → n ≡ length (route_to b table v)
   count_end e = omega (arith, C.total, route_home ok passed C.reached e)
 
--- WRITING: of the arcs of the route to v those from place k on are written, those before it, the route to u, are still to come
-pub record Writing (b table way₀ : List ℕ) (v : ℕ) (way : List ℕ) (u k : ℕ) : Type 0 where
+-- WRITING: of the n arcs of the route to v those from place k on are written, those before it, the route to u, are still to come
+pub record Writing (b table buffer₀ : List ℕ) (v n : ℕ) (buffer : List ℕ) (u k : ℕ) : Type 0 where
   pub reached : Reached b table u
   pub left : k ≡ length (route_to b table u)
-  pub long : length way ≡ length way₀
-  pub few : k ≤ length way
-  pub same : route_to b table u ++ drop k way ≡ route_to b table v
+  pub long : length buffer ≡ length buffer₀
+  pub few : k ≤ n
+  pub room : n ≤ length buffer
+  pub same : route_to b table u ++ drop k buffer ≡ route_to b table v ++ drop n buffer₀
 
 -- what stands from a place on, after a store there
 drop_set : (l : List ℕ) (i a : ℕ) → i < length l → drop i (set l i a) ≡ a ∷ drop (suc i) l
@@ -124,22 +125,18 @@ drop_set l i a h =
     drop-cons (set l i a) i 0 there ∙ rw (get_or-set_same l i a 0 h, drop-set-lt (suc i) l i a (omega arith))
 
 -- none is written
-pub write_start : {b table way : List ℕ} {v : ℕ} → Reached b table v → length way ≡ length (route_to b table v) → Writing b table way v way v (length way)
-write_start {b} {table} {way} {v} r e = record {
-  reached = r;
-  left = e;
-  long = refl;
-  few = omega arith;
-  same = ap (λ (rest : List ℕ). route_to b table v ++ rest) (drop_of_length-le way (omega arith)) ∙ append-nil (route_to b table v);
-}
+pub write_start : {b table buffer : List ℕ} {v n : ℕ} → Reached b table v → n ≡ length (route_to b table v) → n ≤ length buffer
+    → Writing b table buffer v n buffer v n
+write_start r e room = record { reached = r; left = e; long = refl; few = omega arith; room = room; same = refl }
 
-module _ {b table way₀ way : List ℕ} {v u k : ℕ} (ok : Accepted b) (passed : not_shortest b table ≡ false) (W : Writing b table way₀ v way u k) where
+module _ {b table buffer₀ buffer : List ℕ} {v n u k : ℕ} (ok : Accepted b) (passed : not_shortest b table ≡ false)
+    (W : Writing b table buffer₀ v n buffer u k) where
   -- one arc more, in front of those that are written
   module _ (some : 0 < k) where
     pub write_away : u ≢ source b
     write_away = route_away ok passed W.reached (omega (arith, W.left))
 
-    pub write_on : Writing b table way₀ v (set way (k - 1) (predecessor_in table u)) (node_before b table u) (k - 1)
+    pub write_on : Writing b table buffer₀ v n (set buffer (k - 1) (predecessor_in table u)) (node_before b table u) (k - 1)
     write_on =
         let before = node_before b table u in
         let a = predecessor_in table u in
@@ -148,21 +145,22 @@ module _ {b table way₀ way : List ℕ} {v u k : ℕ} (ok : Accepted b) (passed
           reached = before_reached ok passed W.reached write_away;
           left = omega (arith, W.left, route_longer ok passed W.reached write_away);
           long = simp length-set W.long;
-          few = simp length-set (omega (arith, W.few));
+          few = omega (arith, W.few);
+          room = simp length-set W.room;
           same =
-              ap (λ (rest : List ℕ). route_to b table before ++ rest) (drop_set way (k - 1) a (omega (arith, W.few)))
-              ∙ ap (λ (i : ℕ). route_to b table before ++ (a ∷ drop i way)) next
-              ∙ sym (append_assoc (route_to b table before) (a ∷ []) (drop k way))
-              ∙ ap (λ (front : List ℕ). front ++ drop k way) (sym (route_back ok passed W.reached write_away)) ∙ W.same;
+              ap (λ (rest : List ℕ). route_to b table before ++ rest) (drop_set buffer (k - 1) a (omega (arith, W.few, W.room)))
+              ∙ ap (λ (i : ℕ). route_to b table before ++ (a ∷ drop i buffer)) next
+              ∙ sym (append_assoc (route_to b table before) (a ∷ []) (drop k buffer))
+              ∙ ap (λ (way : List ℕ). way ++ drop k buffer) (sym (route_back ok passed W.reached write_away)) ∙ W.same;
         }
 
   -- none is to come
-  pub write_end : k ≡ 0 → way ≡ route_to b table v
+  pub write_end : k ≡ 0 → buffer ≡ route_to b table v ++ drop n buffer₀
   write_end e = empty (route_to b table u) (sym W.left ∙ e) ∙ W.same
     where
-      empty : (front : List ℕ) → length front ≡ 0 → way ≡ front ++ drop k way
+      empty : (way : List ℕ) → length way ≡ 0 → buffer ≡ way ++ drop k buffer
       empty [] h = rw e
-      empty (a ∷ front) h = absurd (omega arith)
+      empty (a ∷ way) h = absurd (omega arith)
 
 -- a count, and arcs written
 pub ruleset count_steps = (not_home, arc_there, route_few, count_on, count_less, count_end)

@@ -1,16 +1,12 @@
 -- `route` meets its contract: the sheet's refusal, or the answer for an accepted sheet.
 use mathlib.Core.Path.{sym, ◌∙◌}
-use Rattle.judgement.proofs.Accepted.{front_there}
 use Rattle.calls.proofs.Routes.{sheet_stops}
 use Rattle.route.proofs.Stages.{left_refused, left_after, answer_known}
 use Rattle.route.proofs.route.Goals as goal
 
-pub new-requires : goal.new-requires
-new-requires c = front_there _ (record { judged = sym c.in-Accepted.ensures })
-
 pub returns-in-Accepted : goal.returns-in-Accepted
 returns-in-Accepted c =
-    let told = rw c.new.ensures at c.route_accepted.ensures in
+    let told = c.route_accepted.ensures in
     (told.0, told.1 ∙ left_after _ _ _ _ _ told.0, answer_known _ _ _ _ _ told.0)
 
 pub returns-in-Refused : goal.returns-in-Refused

@@ -5,9 +5,10 @@ use mathlib.Core.List.{List}
 use Rattle.indices.specs.Columns.{at}
 use Rattle.sheet.specs.Sections.{node_count, arc_count}
 use Rattle.sheet.specs.Arcs.{tail as tailField}
+use Rattle.judgement.proofs.Accepted.{front_there, few_nodes}
 use Rattle.procedure.specs.Graph.{tail}
 use Rattle.procedure.specs.OfSheet.{graph_of}
-use Rattle.procedure.proofs.OfSheet.{graph_tail}
+use Rattle.procedure.proofs.OfSheet.{graph_nodes, graph_tail}
 use Rattle.calls.specs.Tables.{label_in, predecessor_in}
 use Rattle.calls.proofs.Tables.{labels_at, predecessors_at_lem}
 use Rattle.table.specs.Fits.{labels, predecessors, node_before}
@@ -22,3 +23,6 @@ module _ (b table : List ℕ) (v : ℕ) (l : v < node_count b) where
   -- the tail of the predecessor
   pub before_tail : predecessor_in table v < arc_count b → tailField b (predecessor_in table v) ≡ node_before b table v
   before_tail la = sym (graph_tail b (predecessor_in table v) la) ∙ ap (tail (graph_of b)) predecessor_there
+
+-- the key word of an arc, behind those of the nodes of an accepted sheet
+pub ruleset key_steps = (front_there, few_nodes, graph_nodes)

@@ -30,14 +30,15 @@ module _ (b table : List ℕ) where
       count_ext _ _ (node_count b) (λ v l. ap (λ (x : ℕ). ltb x top) (label_there b table v l))
       ∙ ap (count _) (sym (graph_nodes b))
 
-  -- n of the nodes are reached
-  module _ {n : ℕ} (en : n ≡ count (reached_in table) (node_count b)) where
+  -- n of the m nodes are reached
+  module _ {n m : ℕ} (em : m ≡ node_count b) (en : n ≡ count (reached_in table) m) where
     pub few_reached : n ≤ node_count b
-    few_reached = omega (arith, count_le (reached_in table) (node_count b))
+    few_reached = omega (arith, count_le (reached_in table) m)
 
     within_bounded : {highest : ℕ} (v : ℕ) → v < node_count b → highest ≡ most_length * (n - 1) → within table highest v ≡ label_bounded b table v
     unfolding bound_test
-    within_bounded v l eh = rw (eh, en, count_there, label_there b table v l)
+    within_bounded v l eh = rw (eh, en, em, count_there, label_there b table v l)
 
-    pub all_bounded : {highest : ℕ} → highest ≡ most_length * (n - 1) → all (within table highest) (node_count b) ≡ all (label_bounded b table) (node_count b)
-    all_bounded {highest} eh = all_ext (within table highest) (label_bounded b table) (node_count b) (λ v l. within_bounded v l eh)
+    pub all_bounded : {highest : ℕ} → highest ≡ most_length * (n - 1) → all (within table highest) m ≡ all (label_bounded b table) (node_count b)
+    all_bounded {highest} eh =
+        ap (all (within table highest)) em ∙ all_ext (within table highest) (label_bounded b table) (node_count b) (λ v l. within_bounded v l eh)
