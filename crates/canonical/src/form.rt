@@ -36,7 +36,7 @@ fn fill_form(
         &mut numbers[..n],
     );
     sheet_writer::write_words(o.sheet.bytes(), 0, e, out, 0);
-    crate::regions::write_regions(o.sheet, &numbers[..n], out);
+    crate::regions::write_regions(sheet_reader::region_words(o.sheet), &numbers[..n], e, out);
 }
 
 // The same, with arrays to work in.

@@ -1,11 +1,9 @@
 // The region words of a canonical form, written into a lent buffer.
-ghost use Rattle.std.specs.Prelude.{◌≡◌, ◌++◌, ◌<◌, length, drop};
+ghost use Rattle.std.specs.Prelude.{◌≡◌, List, ◌++◌, ℕ, ◌<◌, length, drop};
 ghost use Rattle.sheet.specs.Limits.{region_numbers};
 ghost use Rattle.sheet.specs.Words.{words};
 ghost use Rattle.canonical_form.specs.Canonical.{canonical};
 ghost use Rattle.canonical.specs.Writing.{new_region_word, Writable};
-
-use sheet::located::Sheet;
 
 // The word of the region of word k, whose parent has the new number `above`.
 fn region_word(d: &[u8], k: usize, above: u16) -> u32
@@ -20,12 +18,11 @@ fn region_word(d: &[u8], k: usize, above: u16) -> u32
 }
 
 // The region words, each at the place of its region's new number.
-pub fn write_regions(s: &Sheet, numbers: &[u16], out: &mut [u8])
-    requires { Writable s.now numbers.now out.old }
-    ensures { out.new ≡ canonical s.now ++ drop (length s.now) out.old }
+pub fn write_regions(d: &[u8], numbers: &[u16], e: usize, out: &mut [u8])
+    requires { (b : List ℕ) × Writable b d.now numbers.now e out.old }
+    ensures { (b : List ℕ) → Writable b d.now numbers.now e out.old
+        → out.new ≡ canonical b ++ drop (length b) out.old }
 {
-    let d = sheet_reader::region_words(s);
-    let e = s.after();
     for k in 0..d.len() / 4 {
         let parent = sheet::fields::parent_word(d, k) as u16;
         let above = numbers[usize::from(parent)];

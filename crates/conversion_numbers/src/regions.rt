@@ -1,5 +1,5 @@
 // The regions of a sheet that are kept, under their new numbers, and the new height of region 0. Every pass is linear in the region words.
-ghost use Rattle.std.specs.Prelude.{◌≡◌, true, ◌≤◌, ◌<◌, replicate};
+ghost use Rattle.std.specs.Prelude.{◌≡◌, List, true, ℕ, ◌≤◌, ◌<◌, replicate};
 ghost use Rattle.indices.specs.Columns.{at};
 ghost use Rattle.sheet.specs.Limits.{region_numbers};
 ghost use Rattle.sheet.specs.Words.{words};
@@ -14,33 +14,28 @@ use judge_division::parents::Nested;
 use sheet::located::Sheet;
 use sheet::{ARC_NUMBERS, REGION_NUMBERS, Region};
 
-// A convertible sheet, its region words, and its arcs' new numbers.
+// The region words of a convertible sheet, and its arcs' new numbers. The sheet is not lent: what is promised holds of each that has these.
 #[derive(Drop)]
-pub struct ArcNumbers<'s, 'b, 'a> {
-    pub sheet: &'s Sheet<'b>,
+pub struct ArcNumbers<'b, 'a> {
     pub regions: &'b [u8],
     pub arcs: &'a [u16; ARC_NUMBERS],
-    pub ghost numbered: { ArcsNumbered sheet.now regions.now arcs.now },
+    pub ghost numbered: { ∥ ((b : List ℕ) × ArcsNumbered b regions.now arcs.now) ∥₁ },
 }
 
-impl<'s, 'b, 'a> ArcNumbers<'s, 'b, 'a> {
-    // Finds the region words.
-    pub fn new(sheet: &'s Sheet<'b>, arcs: &'a [u16; ARC_NUMBERS]) -> Self
+impl<'b, 'a> ArcNumbers<'b, 'a> {
+    // Finds the region words of a sheet.
+    pub fn new(sheet: &Sheet<'b>, arcs: &'a [u16; ARC_NUMBERS]) -> Self
         requires { Convertible sheet.now × Numbers (number_of (kept_arc sheet.now)) arcs.now (arc_count sheet.now) }
-        ensures { (result.sheet.now ≡ sheet.now) × (result.regions.now ≡ region_words sheet.now) × (result.arcs.now ≡ arcs.now) }
+        ensures { (result.regions.now ≡ region_words sheet.now) × (result.arcs.now ≡ arcs.now) }
     {
         let regions = sheet_reader::region_words(sheet);
-        ArcNumbers {
-            sheet,
-            regions,
-            arcs,
-        }
+        ArcNumbers { regions, arcs }
     }
 
     // Whether a leaf is kept: its arc has a number.
     fn kept_leaf(&self, r: Region) -> bool
         requires { (r.0 ≤ words self.now.regions.now) × (is_leaf self.now.regions.now r.0 ≡ true) }
-        ensures { result ≡ kept_leaf self.now.sheet.now r.0 }
+        ensures { (b : List ℕ) → ArcsNumbered b self.now.regions.now self.now.arcs.now → result ≡ kept_leaf b r.0 }
     {
         let a = sheet::fields::arc_word(self.regions, usize::from(r.0) - 1);
         self.arcs[usize::from(a.0)] != crate::DROPPED
@@ -49,7 +44,7 @@ impl<'s, 'b, 'a> ArcNumbers<'s, 'b, 'a> {
     // What region r hands to its parent, once its children have handed up: 0 if it is not kept, and else its new height and one more.
     fn hands_up(&self, best: &[u16; REGION_NUMBERS], r: Region) -> u16
         requires { (r.0 ≤ words self.now.regions.now) × (at best.now r.0 < 65535) }
-        ensures { result ≡ hands_up self.now.sheet.now best.now r.0 }
+        ensures { (b : List ℕ) → ArcsNumbered b self.now.regions.now self.now.arcs.now → result ≡ hands_up b best.now r.0 }
     {
         if sheet::fields::is_leaf(self.regions, r) {
             return u16::from(self.kept_leaf(r));
@@ -64,7 +59,8 @@ impl<'s, 'b, 'a> ArcNumbers<'s, 'b, 'a> {
     // What each region's children hand up, in one pass from the last region back; and the new height of region 0.
     pub fn hand_heights(&self, best: &mut [u16; REGION_NUMBERS]) -> u16
         requires { best.old ≡ replicate region_numbers 0 }
-        ensures { Heights self.now.sheet.now best.new × (result ≡ new_height self.now.sheet.now) }
+        ensures { (b : List ℕ) → ArcsNumbered b self.now.regions.now self.now.arcs.now
+            → Heights b best.new × (result ≡ new_height b) }
     {
         let nested = Nested {
             bytes: self.regions,
@@ -78,8 +74,9 @@ impl<'s, 'b, 'a> ArcNumbers<'s, 'b, 'a> {
 
     // Whether a region is kept.
     fn stays(&self, best: &[u16; REGION_NUMBERS], r: Region) -> bool
-        requires { Heights self.now.sheet.now best.now × (r.0 ≤ words self.now.regions.now) }
-        ensures { result ≡ kept_region self.now.sheet.now r.0 }
+        requires { r.0 ≤ words self.now.regions.now }
+        ensures { (b : List ℕ) → ArcsNumbered b self.now.regions.now self.now.arcs.now → Heights b best.now
+            → result ≡ kept_region b r.0 }
     {
         if r.0 == 0 {
             return true;
@@ -96,9 +93,9 @@ impl<'s, 'b, 'a> ArcNumbers<'s, 'b, 'a> {
         best: &[u16; REGION_NUMBERS],
         numbers: &mut [u16; REGION_NUMBERS],
     ) -> u16
-        requires { Heights self.now.sheet.now best.now }
-        ensures { Numbers (number_of (kept_region self.now.sheet.now)) numbers.new (region_count self.now.regions.now)
-            × (result ≡ new_region self.now.sheet.now (region_count self.now.regions.now)) }
+        ensures { (b : List ℕ) → ArcsNumbered b self.now.regions.now self.now.arcs.now → Heights b best.now
+            → Numbers (number_of (kept_region b)) numbers.new (region_count self.now.regions.now)
+            × (result ≡ new_region b (region_count self.now.regions.now)) }
     {
         let n = self.regions.len() / 4 + 1;
         crate::number(numbers, n, |r| self.stays(best, Region(r as u16)))

@@ -8,7 +8,7 @@ use lib.ListN.{length, drop, length-append}
 use Rattle.indices.specs.Columns.{column}
 use Rattle.indices.proofs.Columns.{length_column, column_ext, column_append}
 use Rattle.sheet.specs.Words.{words, word}
-use Rattle.sheet.specs.Sections.{span_count}
+use Rattle.sheet.specs.Sections.{span_count, region_words}
 use Rattle.sheet.proofs.Bytes.{length_bytes}
 use Rattle.sheet.proofs.Bounds.{regions_inside}
 use Rattle.sheet_writer.specs.Words.{words_from, words_put}
@@ -19,7 +19,7 @@ use Rattle.conversion.specs.Converted.{converted_arcs, converted_regions, conver
 use Rattle.conversion.proofs.Heights.{height_lower}
 use Rattle.conversion.proofs.Sections.{arcs_long, new_bytes}
 use Rattle.conversion_numbers.specs.declared.Kept.{Kept}
-use Rattle.conversion_words.specs.Writing.{SheetWritable}
+use Rattle.conversion_words.specs.Writing.{RegionsWritable, SheetWritable}
 
 module _ {b arcs regions : List ℕ} {kept : Kept} {out : List ℕ} (W : SheetWritable b arcs regions kept out) where
   abbrev ok : Convertible b
@@ -43,6 +43,11 @@ module _ {b arcs regions : List ℕ} {kept : Kept} {out : List ℕ} (W : SheetWr
     words_are = sym W.counted.words_kept;
     room = omega (arith, W.room, new_bytes b ok, W.counted.spans_kept, W.counted.holds_kept, W.counted.arcs_kept, W.counted.words_kept);
   }
+
+  -- the region words can be written behind the arcs, into a buffer as long as that
+  pub regions_writable : {now : List ℕ} {place : ℕ} → length now ≡ length out → place ≡ 2 + kept.spans + kept.holds + 2 * kept.arcs
+      → RegionsWritable b (region_words b) arcs regions now place
+  regions_writable same is = let f = bounds in record { numbered = W.numbered; room = omega arith }
 
   -- THE PARTS
   abbrev front : List ℕ

@@ -1,33 +1,43 @@
 // The arcs of a converted sheet, written into a lent buffer.
 ghost use Rattle.std.specs.Prelude.{◌≡◌, [], ◌+◌, ◌*◌, ◌≤◌, ◌<◌, length, if◌then◌else◌};
+ghost use Rattle.sheet.specs.Limits.{most_arcs};
 ghost use Rattle.sheet.specs.Sections.{arc_count};
 ghost use Rattle.sheet_writer.specs.Words.{words_put};
 ghost use Rattle.conversion.specs.Converted.{kept_arc, new_arc, arc_pair, converted_arcs};
+ghost use Rattle.conversion.specs.Inner.{Numbers};
+ghost use Rattle.conversion_numbers.specs.Numbers.{number_of};
 
-use crate::renumbered::Renumbered;
 use conversion_numbers::DROPPED;
+use sheet::ARC_NUMBERS;
+use sheet::located::Sheet;
 
 // The two words of arc a, if it is kept, at the place of its new number.
-fn write_arc(n: &Renumbered, a: usize, out: &mut [u8], place: usize)
-    requires { (a < arc_count n.now.sheet.now) × (4 * (place + length (converted_arcs n.now.sheet.now)) ≤ length out.old) }
-    ensures { let b = n.now.sheet.now in out.new ≡ words_put out.old (place + 2 * new_arc b a)
-        (if kept_arc b a then arc_pair b a else []) }
+fn write_arc(s: &Sheet, arcs: &[u16; ARC_NUMBERS], a: usize, out: &mut [u8], place: usize)
+    requires few { arc_count s.now ≤ most_arcs }
+    requires numbers { Numbers (number_of (kept_arc s.now)) arcs.now (arc_count s.now) }
+    requires there { a < arc_count s.now }
+    requires room { 4 * (place + length (converted_arcs s.now)) ≤ length out.old }
+    ensures { out.new ≡ words_put out.old (place + 2 * new_arc s.now a)
+        (if kept_arc s.now a then arc_pair s.now a else []) }
 {
-    let number = n.arcs[a];
+    let number = arcs[a];
     if number == DROPPED {
         return;
     }
-    let first = 2 + n.sheet.spans() + n.sheet.holds();
+    let bytes = s.bytes();
+    let first = 2 + s.spans() + s.holds();
     let at = place + 2 * usize::from(number);
-    sheet_writer::write_words(n.sheet.bytes(), first + 2 * a, 2, out, at);
+    sheet_writer::write_words(bytes, first + 2 * a, 2, out, at);
 }
 
 // The arcs that are kept, from word `place` on.
-pub fn write_arcs(n: &Renumbered, out: &mut [u8], place: usize)
-    requires { 4 * (place + length (converted_arcs n.now.sheet.now)) ≤ length out.old }
-    ensures { out.new ≡ words_put out.old place (converted_arcs n.now.sheet.now) }
+pub fn write_arcs(s: &Sheet, arcs: &[u16; ARC_NUMBERS], out: &mut [u8], place: usize)
+    requires few { arc_count s.now ≤ most_arcs }
+    requires numbers { Numbers (number_of (kept_arc s.now)) arcs.now (arc_count s.now) }
+    requires room { 4 * (place + length (converted_arcs s.now)) ≤ length out.old }
+    ensures { out.new ≡ words_put out.old place (converted_arcs s.now) }
 {
-    for a in 0..n.sheet.arcs() {
-        write_arc(n, a, out, place);
+    for a in 0..s.arcs() {
+        write_arc(s, arcs, a, out, place);
     }
 }

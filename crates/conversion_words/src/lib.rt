@@ -31,6 +31,6 @@ pub fn write_sheet(
     let regions_at = arcs_at + 2 * kept.arcs;
     sheet_writer::write_words(s.bytes(), 0, holds_at, out, 0);
     sheet_writer::write_words(s.bytes(), 2 + s.spans(), kept.holds, out, holds_at);
-    crate::arcs::write_arcs(&n, out, arcs_at);
+    crate::arcs::write_arcs(s, arcs, out, arcs_at);
     crate::regions::write_regions(&n, out, regions_at);
 }

@@ -1,17 +1,21 @@
 // The region words of a converted sheet, written into a lent buffer.
-ghost use Rattle.std.specs.Prelude.{◌≡◌, true, [], ◌∷◌, suc, ◌+◌, ◌*◌, ◌≤◌, ◌<◌, length, if◌then◌else◌};
+ghost use Rattle.std.specs.Prelude.{◌≡◌, true, List, [], ◌∷◌, ℕ, suc, ◌+◌, ◌<◌, if◌then◌else◌};
 ghost use Rattle.indices.specs.Tests.{count};
 ghost use Rattle.sheet.specs.Words.{words};
 ghost use Rattle.sheet_writer.specs.Words.{words_put};
 ghost use Rattle.conversion.specs.Converted.{kept_region, new_word, converted_regions};
+ghost use Rattle.conversion_numbers.specs.Numbers.{Numbered};
+ghost use Rattle.conversion_words.specs.Writing.{RegionsWritable};
 
 use crate::renumbered::Renumbered;
 use conversion_numbers::DROPPED;
 
 // The word of the region of word k, which is kept, under new numbers.
 fn new_word(n: &Renumbered, k: usize) -> u32
-    requires { (k < words n.now.words.now) × (kept_region n.now.sheet.now (suc k) ≡ true) }
-    ensures { result ≡ new_word n.now.sheet.now k }
+    requires { ((b : List ℕ) × Numbered b n.now.words.now n.now.arcs.now n.now.regions.now × (kept_region b (suc k) ≡ true))
+        × (k < words n.now.words.now) }
+    ensures { (b : List ℕ) → Numbered b n.now.words.now n.now.arcs.now n.now.regions.now → kept_region b (suc k) ≡ true
+        → result ≡ new_word b k }
 {
     let parent = sheet::fields::parent_word(n.words, k) as u16;
     let above = n.regions[usize::from(parent)];
@@ -25,8 +29,10 @@ fn new_word(n: &Renumbered, k: usize) -> u32
 
 // The word of the region of word k, if it is kept, at the place of its new number.
 fn write_region(n: &Renumbered, k: usize, out: &mut [u8], place: usize)
-    requires { (k < words n.now.words.now) × (4 * (place + length (converted_regions n.now.sheet.now)) ≤ length out.old) }
-    ensures { let b = n.now.sheet.now in out.new ≡ words_put out.old (place + count (λ j. kept_region b (suc j)) k)
+    requires { ((b : List ℕ) × RegionsWritable b n.now.words.now n.now.arcs.now n.now.regions.now out.old place)
+        × (k < words n.now.words.now) }
+    ensures { (b : List ℕ) → RegionsWritable b n.now.words.now n.now.arcs.now n.now.regions.now out.old place
+        → out.new ≡ words_put out.old (place + count (λ j. kept_region b (suc j)) k)
         (if kept_region b (suc k) then new_word b k ∷ [] else []) }
 {
     let number = n.regions[k + 1];
@@ -39,8 +45,9 @@ fn write_region(n: &Renumbered, k: usize, out: &mut [u8], place: usize)
 
 // The region words that are kept, from word `place` on.
 pub fn write_regions(n: &Renumbered, out: &mut [u8], place: usize)
-    requires { 4 * (place + length (converted_regions n.now.sheet.now)) ≤ length out.old }
-    ensures { out.new ≡ words_put out.old place (converted_regions n.now.sheet.now) }
+    requires { (b : List ℕ) × RegionsWritable b n.now.words.now n.now.arcs.now n.now.regions.now out.old place }
+    ensures { (b : List ℕ) → RegionsWritable b n.now.words.now n.now.arcs.now n.now.regions.now out.old place
+        → out.new ≡ words_put out.old place (converted_regions b) }
 {
     for k in 0..n.words.len() / 4 {
         write_region(n, k, out, place);

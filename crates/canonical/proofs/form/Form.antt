@@ -8,7 +8,7 @@ use lib.ListN.{length, take, drop}
 use lib.Seq.{length-take-le, take_at}
 use Rattle.indices.proofs.Columns.{length_column, at_column}
 use Rattle.sheet.specs.Words.{word}
-use Rattle.sheet.specs.Sections.{regions_at}
+use Rattle.sheet.specs.Sections.{regions_at, region_words}
 use Rattle.sheet.proofs.Bounds.{regions_inside}
 use Rattle.sheet_writer.specs.Words.{words_from, words_put, WordAt}
 use Rattle.sheet_writer.proofs.Words.{put_length, put_inside, put_rest}
@@ -55,14 +55,16 @@ module _ {b : List ℕ} {z : Sizes} (O : Outlined b z) where
 
     -- the new numbers are the front of their slice
     pub writable : {new : List ℕ} → Numbers (division_of b) new → (rest : List ℕ) → {out : List ℕ} → out ≡ words_put before 0 front
-        → Writable b (take z.regions (new ++ rest)) out
-    writable {new} N rest put =
+        → {d : List ℕ} → d ≡ region_words b → Writable b d (take z.regions (new ++ rest)) e out
+    writable {new} N rest put is =
         let each_new : length new ≡ z.regions = N.all ∙ division_regions b ∙ sym O.in_use.regions_all in
         rw (take_at new rest z.regions each_new, put) (record {
           accepted = O.accepted;
+          words_of = is;
+          place = place;
           numbered = N;
           room = omega (arith, room, put_length before 0 front);
-          front = λ i l. front_stands i (omega arith);
+          front = front_stands;
         })
 
     -- what is behind the form is as it was before the front

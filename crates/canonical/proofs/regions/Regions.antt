@@ -16,7 +16,6 @@ use Rattle.sheet.proofs.Bytes.{length_bytes}
 use Rattle.sheet.proofs.Bounds.{region_words_lem, regions_inside}
 use Rattle.sheet_writer.specs.Words.{words_put, WordAt}
 use Rattle.sheet_writer.proofs.Words.{put_length, put_here, put_other, put_behind, words_written}
-use Rattle.judgement.specs.Judgement.{Accepted}
 use Rattle.judgement.proofs.Accepted.{front_there, few_region_words}
 use Rattle.judgement.proofs.Clear.{few_words}
 use Rattle.procedure.specs.Division.{Division, regions, parent}
@@ -27,27 +26,7 @@ use Rattle.canonical_form.specs.Canonical.{new_word, front_words, new_words, can
 use Rattle.canonical_form.proofs.Numbering.{new_in, new_apart, new_old, parent_first}
 use Rattle.canonical_form.proofs.Proper.{proper}
 use Rattle.canonical_form.proofs.Form.{length_front, length_new, canonical_length, size_right, front_entry, back_entry, region_in, region_later, number_in}
-use Rattle.canonical_numbers.specs.Numbers.{Numbers}
 use Rattle.canonical.specs.Writing.{new_region_word, Writable}
-
--- an accepted sheet b whose region words are d, after e words, with the new numbers of its regions, and a buffer that has room and holds the first e words
-pub record Parted (b d numbers : List ℕ) (e : ℕ) (out : List ℕ) : Type 0 where
-  pub accepted : Accepted b
-  pub words_of : d ≡ region_words b
-  pub place : e ≡ regions_at b
-  pub numbered : Numbers (division_of b) numbers
-  pub room : length b ≤ length out
-  pub front : (i : ℕ) → i < e → WordAt out i (word b i)
-
-pub parted : {b d numbers : List ℕ} {e : ℕ} {out : List ℕ} → Writable b numbers out → d ≡ region_words b → e ≡ regions_at b → Parted b d numbers e out
-parted W is place = record {
-  accepted = W.accepted;
-  words_of = is;
-  place = place;
-  numbered = W.numbered;
-  room = W.room;
-  front = λ i l. W.front i (omega arith);
-}
 
 -- the arc of an inner region is in no word
 same_word : (leaf : Bool) (p a : ℕ) → region_word leaf p (cond leaf a top) ≡ region_word leaf p a
@@ -73,10 +52,10 @@ pub record PlacingBounds (d numbers : List ℕ) (e : ℕ) (out : List ℕ) (k : 
   pub number_some : 0 < at numbers (k + 1)
   pub number_few : at numbers (k + 1) ≤ words d
 
-pub placing_none : {b d numbers : List ℕ} {e : ℕ} {out : List ℕ} → Parted b d numbers e out → Placing b numbers e out out 0
+pub placing_none : {b d numbers : List ℕ} {e : ℕ} {out : List ℕ} → Writable b d numbers e out → Placing b numbers e out out 0
 placing_none W = record { long = refl; front = W.front; placed = λ j l. absurd (omega arith); kept = λ i l. refl }
 
-module _ {b d numbers : List ℕ} {e : ℕ} {before : List ℕ} (W : Parted b d numbers e before) where
+module _ {b d numbers : List ℕ} {e : ℕ} {before : List ℕ} (W : Writable b d numbers e before) where
   abbrev D : Division
   D = division_of b
 

@@ -29,14 +29,15 @@ number_arcs-arcs_kept-requires c = few_arcs _ c.requires
 pub overflow_sub-result : goal.overflow_sub-result
 overflow_sub-result c =
     let known = numbered c.requires c.number_arcs-arcs_kept.ensures.0 in
-    let regions = rw (c.new-numbered.ensures.0, c.new-numbered.ensures.1) at c.number_regions-regions_kept.ensures in
+    let heights = (rw (c.new-numbered.ensures.0, c.new-numbered.ensures.1) at c.hand_heights-height.ensures) _ known in
+    let regions = (rw (c.new-numbered.ensures.0, c.new-numbered.ensures.1) at c.number_regions-regions_kept.ensures) _ known heights.0 in
     omega (arith, words_found known (c.from-3.ensures ∙ regions.1))
 
 pub returns : goal.returns
 returns c =
     let known = numbered c.requires c.number_arcs-arcs_kept.ensures.0 in
-    let heights = rw c.new-numbered.ensures.0 at c.hand_heights-height.ensures in
-    let regions = rw (c.new-numbered.ensures.0, c.new-numbered.ensures.1) at c.number_regions-regions_kept.ensures in (
+    let heights = (rw (c.new-numbered.ensures.0, c.new-numbered.ensures.1) at c.hand_heights-height.ensures) _ known in
+    let regions = (rw (c.new-numbered.ensures.0, c.new-numbered.ensures.1) at c.number_regions-regions_kept.ensures) _ known heights.0 in (
       record { arcs_numbered = known; region_numbers_lem = regions.0 },
       record {
         spans_kept = c.from.ensures ∙ heights.1;

@@ -1,10 +1,12 @@
 -- What the functions over the region words of a convertible sheet use of it: which leaves are kept, what each region hands up, and which regions are kept.
 use Rattle.std.specs.Prelude.{if◌then◌else◌}
+use Rattle.std.proofs.Math.Logic.{∥∥₁_elim}
 use Prim.Native.Nat.{ℕ, zero, suc, max, ◌-◌, ◌<◌, ◌≤◌}
-use mathlib.Core.Bool.{Bool, true, false, not, cond, true≢false}
+use mathlib.Core.Bool.{Bool, true, false, not, cond, true≢false, Bool-set}
 use mathlib.Core.List.{List}
 use mathlib.Core.Path.{◌≡◌, refl, sym, ap, ◌∙◌}
 use borrow.Author.Tests.{eq-eqb, ne_eqb}
+use native.Mathlib.Bridge.{le_prop}
 use native.Mathlib.Omega.{arith}
 use mir.Val.{bool_byte}
 use lib.ListN.{length, set, replicate, length-set, length-replicate}
@@ -16,6 +18,7 @@ use Rattle.sheet.specs.Sections.{arc_count, region_words}
 use Rattle.sheet.specs.Regions.{region_count, leaf_word, arc_word, is_leaf, parent}
 use Rattle.judgement.specs.Division.{wrong_parents}
 use Rattle.judgement.proofs.Accepted.{few_arcs, few_region_words, parents_right, leaf_arc_lem}
+use Rattle.judge_division.specs.Heights.{Passable}
 use Rattle.conversion.specs.Converted.{kept_arc, kept_leaf, kept_region, new_region, converted_regions}
 use Rattle.conversion.specs.Inner.{hands_up, Heights}
 use Rattle.conversion.proofs.Regions.{root_kept, leaf_region_kept, new_of_word, regions_long}
@@ -122,3 +125,20 @@ module _ {b d arcs : List ℕ} (A : ArcsNumbered b d arcs) where
 
     pub passing_end : r ≡ 0 → Heights b best
     passing_end none = all_passed b A.convertible best P.long (rw none at P.handed)
+
+-- WHATEVER THE SHEET IS whose words and numbers are lent, and which is not
+module _ {d arcs : List ℕ} (some : ∥ ((b : List ℕ) × ArcsNumbered b d arcs) ∥₁) where
+  pub passable : Passable d
+  passable = ∥∥₁_elim some (hlevel (le_prop, Bool-set)) (λ s. record { few = few s.1; parents = parents s.1 })
+
+  pub few_words : words d ≤ most_region_words
+  few_words = passable.few
+
+  -- in the pass, region r is there, and holds little
+  pub record PassBounds (best : List ℕ) (r : ℕ) : Type 0 where
+    pub inside : r ≤ words d
+    pub small : at best r ≤ suc (region_count d)
+
+  pub pass_bounds : {best : List ℕ} {r : ℕ} → ((b : List ℕ) (A : ArcsNumbered b d arcs) → Passing A best r) → PassBounds best r
+  pass_bounds P =
+      ∥∥₁_elim some (hlevel le_prop) (λ s. record { inside = (P s.0 s.1).inside; small = passing_small s.1 (P s.0 s.1) })

@@ -24,6 +24,7 @@ use Rattle.conversion.proofs.Regions.{leaf_kept, parent_kept, new_of_word, new_l
 use Rattle.conversion_numbers.specs.Numbers.{dropped, ArcsNumbered, Numbered}
 use Rattle.conversion_numbers.proofs.Numbering.{number_kept, number_tells}
 use Rattle.conversion_numbers.proofs.regions.Regions.{few, parents, arc_there}
+use Rattle.conversion_words.specs.Writing.{RegionsWritable}
 
 -- how many of the words before word k are kept
 abbrev pub before : List ℕ → ℕ → ℕ
@@ -122,3 +123,8 @@ module _ {b d arcs regions : List ℕ} (N : Numbered b d arcs regions) (k : ℕ)
     pub word_written : (out : List ℕ) {out' : List ℕ} (place i w : ℕ) → i ≡ place + before b k → w ≡ new_word b k → out' ≡ words_put out i (w ∷ [])
         → out' ≡ words_put out (place + before b k) (word_if_kept b k)
     word_written out place i w to is e' = e' ∙ rw (to, is, region_kept N k l e)
+
+-- a buffer as long as that
+pub regions_still : {b d arcs regions out now : List ℕ} {place : ℕ} → RegionsWritable b d arcs regions out place → length now ≡ length out
+    → RegionsWritable b d arcs regions now place
+regions_still W same = record { numbered = W.numbered; room = omega (arith, W.room) }

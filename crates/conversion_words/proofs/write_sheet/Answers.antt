@@ -1,7 +1,7 @@
 -- `write_sheet` meets its contract: its parts, one after the other.
 use native.Mathlib.Omega.{arith}
-use Rattle.judgement.proofs.Accepted.{few_spans}
-use Rattle.conversion_words.proofs.Sheet.{bounds, all_written}
+use Rattle.judgement.proofs.Accepted.{few_spans, few_arcs}
+use Rattle.conversion_words.proofs.Sheet.{bounds, regions_writable, all_written}
 use Rattle.conversion_words.proofs.write_sheet.Goals as goal
 
 pub overflow_add-holds_at : goal.overflow_add-holds_at
@@ -25,14 +25,19 @@ overflow_add-spans c = let f = bounds c.requires in omega (arith, c.spans.ensure
 pub write_words-requires-2 : goal.write_words-requires-2
 write_words-requires-2 c = let f = bounds c.requires in rw c.bytes-2.ensures.bytes (omega (arith, c.spans.ensures), omega arith)
 
-pub write_arcs-requires : goal.write_arcs-requires
-write_arcs-requires c = let f = bounds c.requires in rw c.new-n.ensures.0 (omega arith)
+pub write_arcs-requires-clause-few : goal.write_arcs-requires-clause-few
+write_arcs-requires-clause-few c = few_arcs _ c.requires.numbered.arcs_numbered.convertible
+
+pub write_arcs-requires-clause-room : goal.write_arcs-requires-clause-room
+write_arcs-requires-clause-room c = let f = bounds c.requires in omega arith
 
 pub write_regions-requires : goal.write_regions-requires
-write_regions-requires c = let f = bounds c.requires in rw c.new-n.ensures.0 (omega arith)
+write_regions-requires c =
+    rw (c.new-n.ensures.0, c.new-n.ensures.1, c.new-n.ensures.2) (_, regions_writable c.requires (omega arith) (omega arith))
 
 pub returns : goal.returns
 returns c =
     all_written c.requires _ _ _ (omega arith) (omega arith) (omega arith) (rw c.bytes.ensures.bytes at c.write_words.ensures)
-    (rw (c.bytes-2.ensures.bytes, c.spans.ensures) at c.write_words-2.ensures) (rw c.new-n.ensures.0 at c.write_arcs.ensures)
-    (rw c.new-n.ensures.0 at c.write_regions.ensures)
+    (rw (c.bytes-2.ensures.bytes, c.spans.ensures) at c.write_words-2.ensures) c.write_arcs.ensures
+    ((rw (c.new-n.ensures.0, c.new-n.ensures.1, c.new-n.ensures.2) at c.write_regions.ensures) _
+    (regions_writable c.requires (omega arith) (omega arith)))

@@ -16,9 +16,10 @@ write_words-requires c =
 pub write_regions-requires : goal.write_regions-requires
 write_regions-requires c =
     let put = rw c.bytes.ensures.bytes at c.write_words.ensures in
-    writable c.args.o.now.outlined _ c.requires.out_room c.after-e.ensures c.number_regions.ensures _ put
+    (_, writable c.args.o.now.outlined _ c.requires.out_room c.after-e.ensures c.number_regions.ensures _ put c.region_words.ensures)
 
 pub returns : goal.returns
 returns c =
     let put = rw c.bytes.ensures.bytes at c.write_words.ensures in
-    form_written c.args.o.now.outlined _ c.requires.out_room c.after-e.ensures put c.write_regions.ensures
+    let asked = writable c.args.o.now.outlined _ c.requires.out_room c.after-e.ensures c.number_regions.ensures _ put c.region_words.ensures in
+    form_written c.args.o.now.outlined _ c.requires.out_room c.after-e.ensures put (c.write_regions.ensures _ asked)

@@ -4,4 +4,4 @@ use Rattle.conversion_words.proofs.Selected.{Writing}
 use Rattle.conversion_words.proofs.arcs.write_arcs.Given as goal
 
 abbrev pub invariant-loop-a : goal.invariant-loop-a
-invariant-loop-a l = let b = l.n.sheet.now in Writing (kept_arc b) (arc_pair b) (arc_count b) l.initial.out l.place l.out l.a
+invariant-loop-a l = let b = l.s in Writing (kept_arc b) (arc_pair b) (arc_count b) l.initial.out l.place l.out l.a

@@ -7,5 +7,6 @@ use Rattle.conversion_numbers.proofs.regions.ArcNumbers.kept_leaf.Goals as goal
 
 pub returns : goal.returns
 returns c =
-    leaf_tells c.args.self.now.numbered _ _ c.requires.0 c.requires.1
+    λ b A.
+    leaf_tells A _ _ c.requires.0 c.requires.1
     (c.from-2.ensures ∙ c.arc_word-a.ensures.0 ∙ ap (λ (n : ℕ). arc_word c.args.self.now.regions.now (n - 1)) c.from.ensures)
