@@ -34,7 +34,7 @@ extern "C" {
 #endif
 
 /* A stack of so many bytes has room for each call. No theorem speaks of a stack: tests/c/stack.c measures it, on a sheet of height 15, as 184,759 bytes for
- * a run, 184,935 for a resume, 61,655 for a canonical form, 14,695 for a route and 12,439 for a judgement, and on one of 36,924 bytes as 33,063 for a
+ * a run, 184,935 for a resume, 61,671 for a canonical form, 14,711 for a route and 12,439 for a judgement, and on one of 36,924 bytes as 33,031 for a
  * conversion. */
 #define PIGROZK_STACK_BYTES 196608
 
